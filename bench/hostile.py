@@ -2,7 +2,7 @@
 
 A run that ends as the pages say it may is no finding. `faults_of` lists what else there is: a signal, a status or a line that no page has, a place
 behind the text, output that shouldn't stand, or one that ends inside a piece. A new command is a row of COMMANDS and one of SMALL, a new option a word in
-its command's row; `untabled` names what README has and COMMANDS hasn't.
+its command's row; `untabled` names what docs/commands/README.md has and COMMANDS hasn't.
 """
 import os
 import pathlib
@@ -129,9 +129,9 @@ COMMANDS = [
 
 
 def untabled():
-    """The commands and options of README's table that COMMANDS hasn't."""
+    """The commands and options of the table of docs/commands/README.md that COMMANDS hasn't."""
     known = {(command.name, option.word) for command in COMMANDS for option in command.options()} | {(command.name, "") for command in COMMANDS}
-    for line in (TOP / "README.md").read_text().splitlines():
+    for line in (TOP / "docs" / "commands" / "README.md").read_text().splitlines():
         found = re.match(r"\| `(_[a-z]+)((?: K| FILE)?)`((?: `[^`]+`)*) \|", line)
         if found:
             for word in ["", *found.group(2).split(), *re.findall(r"`(-{1,2}[a-z0-9]+)", found.group(3))]:

@@ -1,26 +1,26 @@
 -- What each crossing keeps holds at each place of a session, and at each place that its lines look at.
 -- To cite: turns-over, near-over. The rest are steps.
-use Rattle.std.proofs.Common.{◌≡◌, ◌<◌, ℕ, zero, suc, List, [], ◌∷◌, length, Contains, slice_index_or, arith, sym, subst, inl, inr}
+use Rattle.std.proofs.Common.{ℕ, List, [], ◌∷◌, sym, subst, inl, inr}
 use Rattle.gf_session.specs.declared.choice.Choice.{Choice}
 use Rattle.gf_session.specs.declared.choice.Choice.TheVariants as choices
-use Rattle.gf_session.specs.Sessions.{Rules, Trail, IsLineTurn, AreTurns, IsUndone, IsNear}
+use Rattle.gf_session.specs.Sessions.{Rules, Trail, IsLineTurn, AreTurns, IsUndone, IsNear, IsNearUndo}
 use Rattle.gf_session.specs.Transcripts.{HoldsOfPlaces, HoldsOverTrail}
 
 -- ---- one place
 
-over-each : {P : Type 0} (Q : P → Type 0) (ps : List P) (p : P) → HoldsOfPlaces Q ps → Contains ps p → Q p
-over-each {P} Q ps p h c = at ps c.0 h c.1 c.2
-  where
-    at : (qs : List P) (k : ℕ) → HoldsOfPlaces Q qs → k < length qs → slice_index_or qs k p ≡ p → Q p
-    at [] k h l e = absurd (omega arith)
-    at (q ∷ qs) zero h l e = subst Q e h.0
-    at (q ∷ qs) (suc k) h l e = at qs k h.1 (omega arith) e
+undo-near : {P : Type 0} (Q : P → Type 0) (here : P) (before : List P) (p : P) → Q here → HoldsOfPlaces Q before → IsNearUndo here before p → Q p
+undo-near Q here [] p h b near = absurd near
+undo-near Q here (q ∷ qs) p h b (inl e) = subst Q (sym e) h
+undo-near Q here (q ∷ qs) p h b (inr e) = subst Q (sym e) b.0
 
--- a place where a line of the trail may look
-pub near-over : {P : Type 0} (r : Rules P) (Q : P → Type 0) → ((p q : P) (n : ℕ) → Q p → r.IsAcross p n q → Q q) → (s : Trail P) (p : P) → HoldsOverTrail Q s → IsNear r s p → Q p
-near-over r Q stays s p over (IsNear.at_hand e) = subst Q (sym e) over.here
-near-over r Q stays s p over (IsNear.behind c) = over-each Q s.before p over.before c
-near-over r Q stays s p over (IsNear.beyond n across) = stays s.here p n over.here across
+-- a place at which a line looks
+pub near-over : {P : Type 0} (r : Rules P) (Q : P → Type 0) → ((p q : P) (n : ℕ) → Q p → r.IsAcross p n q → Q q) → (s : Trail P) (c : Choice) (p : P) → HoldsOverTrail Q s → IsNear r s c p → Q p
+near-over r Q stays s choices.Blank p over near = absurd near
+near-over r Q stays s (choices.Across n) p over (inl e) = subst Q (sym e) over.here
+near-over r Q stays s (choices.Across n) p over (inr across) = stays s.here p n over.here across
+near-over r Q stays s choices.Undo p over near = undo-near Q s.here s.before p over.here over.before near
+near-over r Q stays s choices.Quit p over near = absurd near
+near-over r Q stays s choices.Unknown p over near = absurd near
 
 -- ---- lines
 

@@ -180,7 +180,7 @@ left-unwritten r joins s here steps left middle leaves given between gives held 
 -- at a place
 pub left-stuck : {P S E : Type 0} (r : Rules P) (joins : P → S → P → Type 0) (refuses : P → E → Type 0) (s : Trail P) (here : P) (steps : List S) (left middle leaves : Option (List ℕ)) (given between gives : ℕ) (held holds gained : Option (List ℕ)) (taken : ℕ) (heard : Heard) (e : E)
     (so : IsTalking r joins s here steps left middle given between held holds taken) (h : IsLineHeard middle leaves between gives taken heard) →
-    IsTurnRefused r refuses so.t holds gained e → IsStuck r refuses s left leaves given gives held gained e
+    IsTurnRefused r refuses so.t (choice_of h.line) holds gained e → IsStuck r refuses s left leaves given gives held gained e
 left-stuck r joins refuses s here steps left middle leaves given between gives held holds gained taken heard e so h turn = record {
   lines = so.lines;
   last = h.line;

@@ -1,7 +1,7 @@
 -- Steps and trails, and what a turn does with them. The proofs of the functions of session cite these.
 use Rattle.std.proofs.Common.{◌≡◌, ℕ, suc, ◌-◌, ◌^◌, ◌≤◌, min, List, [], ◌∷◌, length, reverse, refl, ap, sym, ◌∙◌, arith, inl, inr, Result, Ok, Err, OnOk, IfErr}
 use Rattle.std.proofs.lemmas.List.{reverse-append, length-reverse}
-use Rattle.std.proofs.KnownBytes.{Appends-nil}
+use Rattle.std.proofs.KnownBytes.{Appends-nil, Keeps-refl}
 use Rattle.std.specs.declared.option.Option.{Option}
 use Rattle.std.specs.Io.KnownBytes.{Appends}
 use Rattle.gf_outside.specs.Moved.{AppendsPrefix}
@@ -9,8 +9,8 @@ use Rattle.gf_session.specs.declared.choice.Choice.{Choice}
 use Rattle.gf_session.specs.declared.choice.Choice.TheVariants as choices
 use Rattle.gf_session.specs.declared.session.SessionError.{SessionError}
 use Rattle.gf_session.specs.declared.session.SessionError.TheVariants as errors
-use Rattle.gf_session.specs.Sessions.{Rules, Trail, IsLineTurn, IsNear, IsUndone, Joins, AreSteps, no_such_facet, nothing_to_undo, not_understood}
-use Rattle.gf_session.specs.Moves.{IsGone, IsBack, IsSessionAt, IsOfferCause, IsPromptCause, IsTurnTaken, IsTurnUnwritten, IsTurnCause}
+use Rattle.gf_session.specs.Sessions.{Rules, Trail, IsLineTurn, IsNear, IsNearUndo, IsUndone, Joins, AreSteps, no_such_facet, nothing_to_undo, not_understood}
+use Rattle.gf_session.specs.Moves.{IsGone, IsBack, IsMoveRefusal, IsBackRefusal, IsSessionAt, IsOfferCause, IsPromptCause, IsTurnTaken, IsTurnUnwritten, IsTurnCause}
 
 -- ---- steps
 
@@ -180,7 +180,7 @@ cause-offer r joins refuses here there steps more choice held holds written writ
 -- why a prompt isn't written
 pub cause-prompt : {P S E : Type 0} (r : Rules P) (joins : P → S → P → Type 0) (refuses : P → E → Type 0) (here there : P) (steps more : List S) (choice : Choice) (held holds : Option (List ℕ)) (written writes : ℕ)
     (e : SessionError E) → ((text : List ℕ) → r.IsTold there (length more) text → AreLed r joins here steps choice there more text) →
-    ((s : Trail P) (asked : Choice) → IsSessionAt joins here steps choice s asked → IsNear r s there) →
+    ((s : Trail P) (asked : Choice) → IsSessionAt joins here steps choice s asked → IsNear r s asked there) →
     IsPromptCause r refuses there (length more) held holds written writes e →
     IsTurnCause r joins refuses here steps choice held holds written writes e
 cause-prompt r joins refuses here there steps more choice held holds written writes errors.WriteFault led near cause =
@@ -191,11 +191,97 @@ cause-prompt r joins refuses here there steps more choice held holds written wri
 cause-prompt r joins refuses here there steps more choice held holds written writes errors.InputTooLong led near cause = absurd cause
 cause-prompt r joins refuses here there steps more choice held holds written writes errors.Memory led near cause = absurd cause
 
-pub near-across : {P S : Type 0} (r : Rules P) (joins : P → S → P → Type 0) (is_place : P → Type 0) (here there : P) (steps more : List S) (k : ℕ) (s : Trail P) → IsGone r joins is_place here steps k there more →
-    s.here ≡ here → IsNear r s there
-near-across r joins is_place here there steps more k s gone is = IsNear.beyond k (rw is gone.across)
+-- the place across by the number that a line asks for
+pub near-across : {P S : Type 0} (r : Rules P) (joins : P → S → P → Type 0) (is_place : P → Type 0) (here there : P) (steps more : List S) (k : ℕ) (s : Trail P) (asked : Choice) →
+    IsGone r joins is_place here steps k there more → IsSessionAt joins here steps (choices.Across k) s asked → IsNear r s asked there
+near-across r joins is_place here there steps more k s (choices.Across n) gone on =
+    let same : k ≡ n = omega (arith, ap number on.is_choice, gone.fits) in inr (rw (on.is_here, ← same) gone.across)
+  where
+    number : Choice → ℕ
+    number (choices.Across n) = n
+    number _ = 0
+near-across r joins is_place here there steps more k s choices.Blank gone on = absurd (cc on.is_choice)
+near-across r joins is_place here there steps more k s choices.Undo gone on = absurd (cc on.is_choice)
+near-across r joins is_place here there steps more k s choices.Quit gone on = absurd (cc on.is_choice)
+near-across r joins is_place here there steps more k s choices.Unknown gone on = absurd (cc on.is_choice)
 
-pub near-before : {P S : Type 0} (r : Rules P) (joins : P → S → P → Type 0) (is_place : P → Type 0) (here there : P) (steps less : List S) (s : Trail P) → IsBack joins is_place here steps there less →
-    s.here ≡ here → AreSteps joins steps s → IsNear r s there
-near-before r joins is_place here there steps less s back is are =
-    let b = back.before s is are in IsNear.behind (rw b.was (0, omega arith, refl))
+-- where the walk is, for a line with a number
+pub near-number : {P S : Type 0} (r : Rules P) (joins : P → S → P → Type 0) (here : P) (steps : List S) (k : ℕ) (s : Trail P) (asked : Choice) →
+    IsSessionAt joins here steps (choices.Across k) s asked → IsNear r s asked here
+near-number r joins here steps k s (choices.Across n) on = inl (sym on.is_here)
+near-number r joins here steps k s choices.Blank on = absurd (cc on.is_choice)
+near-number r joins here steps k s choices.Undo on = absurd (cc on.is_choice)
+near-number r joins here steps k s choices.Quit on = absurd (cc on.is_choice)
+near-number r joins here steps k s choices.Unknown on = absurd (cc on.is_choice)
+
+near-undo-here : {P : Type 0} (here : P) (before : List P) → (before ≡ [] → ⊥) → IsNearUndo here before here
+near-undo-here here [] some = some refl
+near-undo-here here (q ∷ qs) some = inl refl
+
+near-undo-before : {P : Type 0} (here : P) (before : List P) (p : P) (ps : List P) → before ≡ p ∷ ps → IsNearUndo here before p
+near-undo-before here before p ps e = rw e (inr refl)
+
+-- the place before
+pub near-before : {P S : Type 0} (r : Rules P) (joins : P → S → P → Type 0) (is_place : P → Type 0) (here there : P) (steps less : List S) (s : Trail P) (asked : Choice) →
+    IsBack joins is_place here steps there less → IsSessionAt joins here steps choices.Undo s asked → IsNear r s asked there
+near-before r joins is_place here there steps less s choices.Undo back on =
+    let b = back.before s on.is_here on.are_steps in near-undo-before s.here s.before there b.rest b.was
+near-before r joins is_place here there steps less s choices.Blank back on = absurd (cc on.is_choice)
+near-before r joins is_place here there steps less s (choices.Across n) back on = absurd (cc on.is_choice)
+near-before r joins is_place here there steps less s choices.Quit back on = absurd (cc on.is_choice)
+near-before r joins is_place here there steps less s choices.Unknown back on = absurd (cc on.is_choice)
+
+-- where the walk is, for an undo while there is a step
+pub near-undo : {P S : Type 0} (r : Rules P) (joins : P → S → P → Type 0) (here : P) (steps : List S) (s : Trail P) (asked : Choice) → (steps ≡ [] → ⊥) →
+    IsSessionAt joins here steps choices.Undo s asked → IsNear r s asked here
+near-undo r joins here steps s choices.Undo some on =
+    let none : s.before ≡ [] → ⊥ = λ e. some (no-steps (sym (steps-length joins steps s on.are_steps) ∙ ap length e)) in
+    rw (sym on.is_here) (near-undo-here s.here s.before none)
+  where
+    no-steps : {T : Type 0} {xs : List T} → length xs ≡ 0 → xs ≡ []
+    no-steps {xs = []} e = refl
+    no-steps {xs = x ∷ xs} e = absurd (omega (arith, e))
+near-undo r joins here steps s choices.Blank some on = absurd (cc on.is_choice)
+near-undo r joins here steps s (choices.Across n) some on = absurd (cc on.is_choice)
+near-undo r joins here steps s choices.Quit some on = absurd (cc on.is_choice)
+near-undo r joins here steps s choices.Unknown some on = absurd (cc on.is_choice)
+
+-- why what is told of the place before isn't written
+pub cause-back : {P S E : Type 0} (r : Rules P) (joins : P → S → P → Type 0) (is_place : P → Type 0) (refuses : P → E → Type 0) (here there : P) (steps less : List S) (choice : Choice)
+    (held holds : Option (List ℕ)) (written writes : ℕ) (e : SessionError E) → choice ≡ choices.Undo → IsBack joins is_place here steps there less →
+    IsPromptCause r refuses there (length less) held holds written writes e → IsTurnCause r joins refuses here steps choice held holds written writes e
+cause-back r joins is_place refuses here there steps less choice held holds written writes e is back cause =
+    cause-prompt r joins refuses here there steps less choice held holds written writes e
+    (λ text told s asked on. led-back r joins is_place here there steps less s asked text back told (on-as joins here steps choice choices.Undo s asked is on))
+    (λ s asked on. near-before r joins is_place here there steps less s asked back (on-as joins here steps choice choices.Undo s asked is on))
+    cause
+
+-- why there is no way back although there is a step
+pub cause-no_way_back : {P S E : Type 0} (r : Rules P) (joins : P → S → P → Type 0) (refuses : P → E → Type 0) (here : P) (steps : List S) (choice : Choice) (held : Option (List ℕ))
+    (written writes : ℕ) (e : SessionError E) → choice ≡ choices.Undo → IsBackRefusal steps (refuses here) e → IsTurnCause r joins refuses here steps choice held held written writes e
+cause-no_way_back r joins refuses here steps choice held written writes errors.Memory is refusal = Keeps-refl held
+cause-no_way_back r joins refuses here steps choice held written writes (errors.Refused x) is refusal =
+    λ s asked on. record {
+      kept = Keeps-refl held;
+      place = here;
+      near = near-undo r joins here steps s asked refusal.some (on-as joins here steps choice choices.Undo s asked is on);
+      refused = refusal.refused;
+    }
+cause-no_way_back r joins refuses here steps choice held written writes errors.ReadFault is refusal = absurd refusal.refused
+cause-no_way_back r joins refuses here steps choice held written writes errors.InputTooLong is refusal = absurd refusal.refused
+cause-no_way_back r joins refuses here steps choice held written writes errors.WriteFault is refusal = absurd refusal.refused
+
+-- why there is no way on by a number
+pub cause-no_way_on : {P S E : Type 0} (r : Rules P) (joins : P → S → P → Type 0) (refuses : P → E → Type 0) (here : P) (steps : List S) (k : ℕ) (choice : Choice) (held : Option (List ℕ))
+    (written writes : ℕ) (e : SessionError E) → choice ≡ choices.Across k → IsMoveRefusal (refuses here) e → IsTurnCause r joins refuses here steps choice held held written writes e
+cause-no_way_on r joins refuses here steps k choice held written writes errors.Memory is refusal = Keeps-refl held
+cause-no_way_on r joins refuses here steps k choice held written writes (errors.Refused x) is refusal =
+    λ s asked on. record {
+      kept = Keeps-refl held;
+      place = here;
+      near = near-number r joins here steps k s asked (on-as joins here steps choice (choices.Across k) s asked is on);
+      refused = refusal;
+    }
+cause-no_way_on r joins refuses here steps k choice held written writes errors.ReadFault is refusal = absurd refusal
+cause-no_way_on r joins refuses here steps k choice held written writes errors.InputTooLong is refusal = absurd refusal
+cause-no_way_on r joins refuses here steps k choice held written writes errors.WriteFault is refusal = absurd refusal

@@ -53,6 +53,11 @@ IsMoveRefusal refuses errors.Memory = Unit {0}
 IsMoveRefusal refuses (errors.Refused e) = refuses e
 IsMoveRefusal refuses _ = ⊥
 
+-- the way back by the latest of these steps is refused, or there is no memory; there is a step
+pub record IsBackRefusal {S E : Type 0} (steps : List S) (refuses : E → Type 0) (e : SessionError E) : Type 0 where
+  pub some : steps ≡ [] → ⊥
+  pub refused : IsMoveRefusal refuses e
+
 -- some trail ends here and has these steps
 pub record IsSomeTrail {P S : Type 0} (joins : P → S → P → Type 0) (here : P) (steps : List S) : Type 0 where
   pub s : Trail P
@@ -108,10 +113,10 @@ pub record IsTurnUnwritten {P : Type 0} (r : Rules P) (s : Trail P) (asked : Cho
   pub gained : AppendsPrefix held holds piece
 
 -- nothing was written: the line is refused at a place that it looks at
-pub record IsTurnRefused {P E : Type 0} (r : Rules P) (refuses : P → E → Type 0) (s : Trail P) (held holds : Option (List ℕ)) (e : E) : Type 0 where
+pub record IsTurnRefused {P E : Type 0} (r : Rules P) (refuses : P → E → Type 0) (s : Trail P) (asked : Choice) (held holds : Option (List ℕ)) (e : E) : Type 0 where
   pub kept : Keeps held holds
   pub place : P
-  pub near : IsNear r s place
+  pub near : IsNear r s asked place
   pub refused : refuses place e
 
 -- why a line isn't answered; the faults of the output before and after stand last
@@ -122,4 +127,4 @@ IsTurnCause {P} r joins refuses here steps choice held holds written writes erro
     Rose written writes × ((s : Trail P) (asked : Choice) → IsSessionAt joins here steps choice s asked → IsTurnUnwritten r s asked held holds)
 IsTurnCause r joins refuses here steps choice held holds written writes errors.Memory = Keeps held holds
 IsTurnCause {P} r joins refuses here steps choice held holds written writes (errors.Refused e) =
-    (s : Trail P) (asked : Choice) → IsSessionAt joins here steps choice s asked → IsTurnRefused r refuses s held holds e
+    (s : Trail P) (asked : Choice) → IsSessionAt joins here steps choice s asked → IsTurnRefused r refuses s asked held holds e

@@ -2,7 +2,7 @@
 -- A trail is where the walk is, and the places before it, the latest first; it is never empty. A choice goes on to another place, u goes
 -- back to the place before. The transcript is the text of the answers in turn.
 -- Laws: proofs/SessionLaws.antt.
-use Rattle.std.specs.Prelude.{◌≡◌, ◌⊎◌, ℕ, Bool, true, List, [], ◌∷◌, ◌++◌, length, map, flat_map, reverse, All, Contains, Option, codes}
+use Rattle.std.specs.Prelude.{◌≡◌, ◌⊎◌, ℕ, Bool, true, List, [], ◌∷◌, ◌++◌, length, map, flat_map, reverse, All, Option, codes}
 use Rattle.std.specs.Io.KnownBytes.{Appends, IsAtEnd}
 use Rattle.gf_outside.specs.Moved.{Took, AppendsPrefix}
 use Rattle.gf_session.specs.declared.choice.Choice.{Choice}
@@ -129,11 +129,17 @@ pub record IsReplyUnwritten {P : Type 0} (r : Rules P) (s : Trail P) (left leave
   pub turns : AreTurns r s (map choice_of (lines ++ last ∷ [])) t text
   pub gained : AppendsPrefix held holds text
 
--- a place where a line of this trail may look: where it is, where it was, or across
-pub data IsNear {P : Type 0} (r : Rules P) (s : Trail P) (p : P) : Type 0 where
-  at_hand : p ≡ s.here → IsNear r s p
-  behind : Contains s.before p → IsNear r s p
-  beyond : (n : ℕ) → r.IsAcross s.here n p → IsNear r s p
+-- an undo looks at where the walk is and at the place before, if there is one
+abbrev pub IsNearUndo : {P : Type 0} → P → List P → P → Type 0
+IsNearUndo here [] p = ⊥
+IsNearUndo here (q ∷ qs) p = (p ≡ here) ⊎ (p ≡ q)
+
+-- a place at which a line looks that asks for this: a number, at where the walk is and at the place across by that number alone; any line but a number or an
+-- undo looks at none
+abbrev pub IsNear : {P : Type 0} → Rules P → Trail P → Choice → P → Type 0
+IsNear r s (choices.Across n) p = (p ≡ s.here) ⊎ r.IsAcross s.here n p
+IsNear r s choices.Undo p = IsNearUndo s.here s.before p
+IsNear r s _ p = ⊥
 
 -- a session that is refused at a place that the last line looks at; each line before it was answered
 pub record IsStuck {P E : Type 0} (r : Rules P) (refuses : P → E → Type 0) (s : Trail P) (left leaves : Option (List ℕ)) (given gives : ℕ) (held holds : Option (List ℕ)) (e : E) : Type 0 where
@@ -145,7 +151,7 @@ pub record IsStuck {P E : Type 0} (r : Rules P) (refuses : P → E → Type 0) (
   pub ends : is_last ≡ true → IsAtEnd leaves
   pub talk : IsTalk r s t left leaves given gives held holds lines (as_taken is_last last)
   pub place : P
-  pub near : IsNear r t place
+  pub near : IsNear r t (choice_of last) place
   pub refused : refuses place e
 
 -- ---- what is kept of a trail

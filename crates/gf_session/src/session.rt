@@ -4,7 +4,7 @@ ghost use Rattle.std.specs.Io.KnownBytes.{Appends};
 ghost use Rattle.gf_outside.specs.Moved.{TookAtMost};
 ghost use Rattle.gf_session.specs.Sessions.{Trail, IsEnded};
 ghost use Rattle.gf_session.specs.Endings.{IsCause, IsReadCalm, IsWithinInput};
-ghost use Rattle.gf_session.specs.Moves.{IsGoing, IsGoingBack, IsSessionAt, IsSomeTrail, IsMoveRefusal, IsOfferCause, IsPrompted, IsPromptCause, IsTurnTaken, IsTurnCause, IsWriteCalm};
+ghost use Rattle.gf_session.specs.Moves.{IsGoing, IsGoingBack, IsSessionAt, IsSomeTrail, IsMoveRefusal, IsBackRefusal, IsOfferCause, IsPrompted, IsPromptCause, IsTurnTaken, IsTurnCause, IsWriteCalm};
 
 use crate::choice::Choice;
 use crate::line::{HearingError, next_line};
@@ -75,7 +75,7 @@ fn go_back<M: Moves>(
     requires trail { IsSomeTrail (M.joins moves.now) here.old crossed.old.items }
     ensures ok { IfOk result (IsGoingBack (M.joins moves.now) (M.is_place moves.now) here.old crossed.old.items here.new
         crossed.new.items) }
-    ensures err { IfErr result (IsMoveRefusal (M.refuses moves.now here.old)) }
+    ensures err { IfErr result (IsBackRefusal crossed.old.items (M.refuses moves.now here.old)) }
 {
     let Some(step) = crossed.pop() else {
         return Ok(false);

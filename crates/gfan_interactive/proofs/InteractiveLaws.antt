@@ -27,6 +27,7 @@ use Rattle.gf_outside.specs.Faults.{Rose}
 use Rattle.gf_outside.specs.Moved.{Took}
 use Rattle.gf_session.specs.declared.session.SessionError.{SessionError}
 use Rattle.gf_session.specs.declared.session.SessionError.TheVariants as errors
+use Rattle.gf_session.specs.Choices.{choice_of}
 use Rattle.gf_session.specs.Sessions.{IsStuck}
 use Rattle.gf_session.proofs.PlaceLaws.{turns-over, near-over}
 use Rattle.gf_basis_places.specs.BasisRules.{IsBasisPlace, IsNumbered, basis_rules}
@@ -180,7 +181,7 @@ module _ (pairs n : ℕ) (ring : List (List ℕ)) (s start : MarkedPolynomials) 
       let here : IsNodeIn search start = subst (λ m. IsNodeIn (ideal_by m (polys s.items)) start) w.same (start_node s start begins) in
       let stays : (p q : MarkedPolynomials) (m : ℕ) → IsNodeIn search p → IsNumbered p m q → IsNodeIn search q = λ p q m h a. number_stays n search p q m refl refl h a in
       let over = turns-over (basis_rules ring) (IsNodeIn search) stays (walk_from start) _ k.t k.talk.text (record { here = here; before = tt }) k.talk.turns in
-      let there : IsNodeIn search k.place = near-over (basis_rules ring) (IsNodeIn search) stays k.t k.place over k.near in
+      let there : IsNodeIn search k.place = near-over (basis_rules ring) (IsNodeIn search) stays k.t (choice_of k.last) k.place over k.near in
       within_memory search pairs e w.tree (call_in_search n search pairs k.place e refl refl there k.refused)
 
 unopened_within : (pairs n : ℕ) (s : MarkedPolynomials) (r : Refusal) → IsWalkedWithin pairs n s → IsUnopened pairs s r → r ≡ refusals.Memory

@@ -1,4 +1,5 @@
-use Rattle.gf_session.proofs.TurnLaws.{turn-blank, taken, led-on, led-nowhere, led-back, led-nowhere_back, led-unknown, on-ok, if-err, on-as, cause-offer, cause-prompt, near-across, near-before}
+use Rattle.gf_session.proofs.TurnLaws.{turn-blank, taken, led-on, led-nowhere, led-back, led-nowhere_back, led-unknown, on-ok, if-err, on-as, cause-offer, cause-prompt, cause-back, cause-no_way_back, near-across}
+use Rattle.std.proofs.lemmas.Result.{err_from_is_err_and}
 use Rattle.gf_session.proofs.session.turn.Goals as goal
 
 pub returns-in-Blank-clause-taken : goal.returns-in-Blank-clause-taken
@@ -15,7 +16,7 @@ returns-then-branch-clause-cause g c =
     let gone = rw c.if-branch.true at c.in_ok-go_on-in-Across.ensures.ok in
     if-err _ _ c.prompt.result c.prompt.ensures.err (λ e cause. cause-prompt _ _ _ _ _ _ _ _ _ _ _ _ e
     (λ text told s asked on. led-on _ _ _ _ _ _ _ c.in-Across.number s asked text gone told (on-as _ _ _ _ _ s asked c.in-Across.is on))
-    (λ s asked on. near-across _ _ _ _ _ _ _ c.in-Across.number s gone on.is_here) (rw (c.len.ensures, c.go_on.new.crossed.ok.0) at cause))
+    (λ s asked on. near-across _ _ _ _ _ _ _ c.in-Across.number s asked gone (on-as _ _ _ _ _ s asked c.in-Across.is on)) (rw (c.len.ensures, c.go_on.new.crossed.ok.0) at cause))
 
 pub returns-else-branch-clause-taken : goal.returns-else-branch-clause-taken
 returns-else-branch-clause-taken g c =
@@ -38,9 +39,13 @@ returns-then-branch-2-clause-taken g c =
 pub returns-then-branch-2-clause-cause : goal.returns-then-branch-2-clause-cause
 returns-then-branch-2-clause-cause g c =
     let back = rw c.if-branch-2.true at c.in_ok-go_back-in-Undo.ensures.ok in
-    if-err _ _ c.prompt-then-branch-2.result c.prompt-then-branch-2.ensures.err (λ e cause. cause-prompt _ _ _ _ _ _ _ _ _ _ _ _ e
-    (λ text told s asked on. led-back _ _ _ _ _ _ _ s asked text back told (on-as _ _ _ _ _ s asked c.in-Undo.is on))
-    (λ s asked on. near-before _ _ _ _ _ _ _ s back on.is_here on.are_steps) (rw (c.len-then-branch-2.ensures, c.go_back.new.crossed.ok.0) at cause))
+    if-err _ _ c.prompt-then-branch-2.result c.prompt-then-branch-2.ensures.err (λ e cause. cause-back _ _ _ _ _ _ _ _ _ _ _ _ _ e c.in-Undo.is back
+    (rw (c.len-then-branch-2.ensures, c.go_back.new.crossed.ok.0) at cause))
+
+pub returns-in_err-go_back-in-Undo-clause-cause : goal.returns-in_err-go_back-in-Undo-clause-cause
+returns-in_err-go_back-in-Undo-clause-cause g c =
+    let p = err_from_is_err_and c.from_residual-in_err-go_back-in-Undo.result c.from_residual-in_err-go_back-in-Undo.ensures.1 in
+    rw (p.1, p.2) (cause-no_way_back _ _ _ _ _ _ _ _ _ c.in_err-go_back-in-Undo.field-0.0 c.in-Undo.is c.in_err-go_back-in-Undo.ensures.err)
 
 pub returns-else-branch-2-clause-taken : goal.returns-else-branch-2-clause-taken
 returns-else-branch-2-clause-taken g c =
