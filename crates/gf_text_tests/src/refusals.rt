@@ -309,19 +309,12 @@ fn answer(alloc: Global, ring: Option<&Ring>, refusal: Refusal) -> Result<Vec<u8
 
 /// The answer of a refusal that is written as its name, a word for some, and its numbers; of a run that is done its status alone.
 pub fn pieces(alloc: Global, text: &str) -> Result<Vec<u8>, AllocError> {
-    let mut name = "";
-    let mut word = "";
+    let (name, rest) = text.split_once(' ').unwrap_or((text, ""));
+    let word = rest.split(' ').next().unwrap_or("");
     let mut numbers = Vec::new(alloc);
-    for field in text.split(' ') {
-        match field.parse::<i128>() {
-            Ok(number) => numbers.push(number)?,
-            Err(_) => {
-                if name.is_empty() {
-                    name = field;
-                } else {
-                    word = field;
-                }
-            }
+    for field in rest.split(' ') {
+        if let Ok(number) = field.parse::<i128>() {
+            numbers.push(number)?;
         }
     }
     if name == "Done" {
