@@ -1,1 +1,0 @@
-pub mod PushLaws  -- lists, one element further
