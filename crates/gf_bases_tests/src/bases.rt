@@ -94,23 +94,11 @@ pub(crate) fn outcome(alloc: Global, found: Result<MarkedSet, BasisError>) -> Op
     }
 }
 
-/// The polynomials of a set in a ring.
-#[derive(Drop)]
-pub(crate) struct Ideal {
-    pub(crate) n: u32,
-    pub(crate) generators: Vec<Poly>,
-}
-
-/// The ring and the set.
-pub(crate) fn ideal(alloc: Global, ring: &str, set: &str) -> Option<Ideal>
-    ensures { IfSome result (λ i. HaveRingVariables i.n i.generators.items) }
+/// The polynomials of a set in `n` variables.
+pub(crate) fn generators(alloc: Global, n: u32, set: &str) -> Option<Vec<Poly>>
+    ensures { IfSome result (λ fs. HaveRingVariables n fs.items) }
 {
-    let ring = fields::ring(alloc, ring)?;
-    let generators = fields::polynomials(alloc, &ring, set)?;
-    Some(Ideal {
-        n: ring.len(),
-        generators,
-    })
+    fields::polynomials(alloc, n, set)
 }
 
 /// The basis of an ideal by one of the ways and of the orders.
@@ -137,22 +125,16 @@ fn first_word(alloc: Global, text: &str) -> Option<String> {
     texts::text(alloc, text.split(' ').next()?)
 }
 
-/// What comes of a way, an order and a budget of pairs on a ring and a set; of `by_word` a refusal's first word.
+/// What comes of a way, an order and a budget of pairs on a number of variables and a set; of `word` a refusal's first word.
 pub(crate) fn told(alloc: Global, call: &str, fields: &[&str]) -> Option<String> {
-    let [way, order, pairs, ring, set] = fields else {
+    let [way, order, pairs, n, set] = fields else {
         return None;
     };
-    let ideal = ideal(alloc, ring, set)?;
+    let n = n.parse::<u32>().ok()?;
+    let set = generators(alloc, n, set)?;
     let text = outcome(
         alloc,
-        found(
-            alloc,
-            way,
-            order,
-            ideal.n,
-            &ideal.generators,
-            pairs.parse().ok()?,
-        )?,
+        found(alloc, way, order, n, &set, pairs.parse().ok()?)?,
     )?;
     match call {
         "by" => Some(text),
@@ -197,18 +179,19 @@ fn saturation(alloc: Global, n: u32, set: &[Poly], pairs: u64) -> Option<String>
     outcome(alloc, saturate(alloc, n, set, pairs))
 }
 
-/// What a call on a ring and a set gives; before saturations stands the budget of pairs.
+/// What a call on a number of variables and a set gives; before saturations stands the budget of pairs.
 pub(crate) fn ideal_told(alloc: Global, call: &str, fields: &[&str]) -> Option<String> {
     match (call, fields) {
-        ("degrees", [ring, set]) => degrees(alloc, &ideal(alloc, ring, set)?.generators),
-        ("saturation", [pairs, ring, set]) => {
-            let ideal = ideal(alloc, ring, set)?;
-            saturation(alloc, ideal.n, &ideal.generators, pairs.parse().ok()?)
-        }
-        ("saturation_word", [pairs, ring, set]) => {
-            let ideal = ideal(alloc, ring, set)?;
-            let text = saturation(alloc, ideal.n, &ideal.generators, pairs.parse().ok()?)?;
-            first_word(alloc, &text)
+        ("degrees", [n, set]) => degrees(alloc, &generators(alloc, n.parse().ok()?, set)?),
+        (call, [pairs, n, set]) => {
+            let n = n.parse::<u32>().ok()?;
+            let set = generators(alloc, n, set)?;
+            let text = saturation(alloc, n, &set, pairs.parse().ok()?)?;
+            match call {
+                "saturation" => Some(text),
+                "saturation_word" => first_word(alloc, &text),
+                _ => None,
+            }
         }
         _ => None,
     }

@@ -101,10 +101,10 @@ fn near(alloc: Global, cone: &Cone, witness: &IntVec, normal: &IntVec) -> Option
 
 /// What a call on the cone of a marked set gives.
 pub(crate) fn told(alloc: Global, call: &str, fields: &[&str]) -> Option<String> {
-    let [ring, set, others @ ..] = fields else {
+    let [n, set, others @ ..] = fields else {
         return None;
     };
-    let set = fields::marked(alloc, &fields::ring(alloc, ring)?, set)?;
+    let set = fields::marked(alloc, n.parse().ok()?, set)?;
     let cone = cone_of(alloc, &set)?;
     match (call, others) {
         ("normals", []) => texts::vectors(alloc, cone.normals()),

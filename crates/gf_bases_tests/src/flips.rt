@@ -4,7 +4,7 @@ ghost use Rattle.std.specs.Prelude.{◌<◌, All, length, IfSome, OnSome};
 ghost use Rattle.gf_buchberger.specs.Jobs.{HaveRingVariables};
 ghost use Rattle.gf_flip.specs.Reached.{IsReachedByFlips};
 
-use crate::bases::ideal;
+use crate::bases::generators;
 use gf_buchberger::basis;
 use gf_cone::{Cone, KnownCone};
 use gf_flip::flip;
@@ -149,17 +149,16 @@ fn crossed(alloc: Global, n: u32, list: &[Poly], place: usize) -> Option<String>
     texts::set(alloc, &across(alloc, list, &first, place)??)
 }
 
-/// What a call on a ring and a set gives.
+/// What a call on a number of variables and a set gives.
 pub(crate) fn told(alloc: Global, call: &str, fields: &[&str]) -> Option<String> {
-    match (call, fields) {
-        ("across", [ring, set, place]) => {
-            let ideal = ideal(alloc, ring, set)?;
-            crossed(alloc, ideal.n, &ideal.generators, place.parse().ok()?)
-        }
-        ("count", [ring, set]) => {
-            let ideal = ideal(alloc, ring, set)?;
-            texts::text(alloc, count(alloc, ideal.n, &ideal.generators)?)
-        }
+    let [n, set, others @ ..] = fields else {
+        return None;
+    };
+    let n = n.parse::<u32>().ok()?;
+    let set = generators(alloc, n, set)?;
+    match (call, others) {
+        ("across", [place]) => crossed(alloc, n, &set, place.parse().ok()?),
+        ("count", []) => texts::text(alloc, count(alloc, n, &set)?),
         _ => None,
     }
 }

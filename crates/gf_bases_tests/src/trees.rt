@@ -4,7 +4,7 @@ ghost use Rattle.gf_buchberger.specs.Jobs.{HaveRingVariables};
 ghost use Rattle.gf_facets.specs.Regions.{all_positive};
 ghost use Rattle.gf_reverse.specs.Upward.{IsNode};
 
-use crate::bases::ideal;
+use crate::bases::generators;
 use gf_buchberger::basis;
 use gf_cone::Region;
 use gf_order::Order;
@@ -177,12 +177,12 @@ fn of_root(alloc: Global, call: &str, root: MarkedSet, region: &Region) -> Optio
 
 /// What a call on the tree of the ideal of a set gives.
 pub(crate) fn told(alloc: Global, call: &str, fields: &[&str]) -> Option<String> {
-    let [ring, set, others @ ..] = fields else {
+    let [n, set, others @ ..] = fields else {
         return None;
     };
-    let ideal = ideal(alloc, ring, set)?;
-    let root = start(alloc, ideal.n, &ideal.generators)?;
-    let region = Region::positive(alloc, ideal.n).ok()?;
+    let n = n.parse::<u32>().ok()?;
+    let root = start(alloc, n, &generators(alloc, n, set)?)?;
+    let region = Region::positive(alloc, n).ok()?;
     match (call, others) {
         ("parent", [place, pairs]) => {
             above(
@@ -226,15 +226,15 @@ pub(crate) fn waves_told<R: Threads + Sync>(
     call: &str,
     fields: &[&str],
 ) -> Option<String> {
-    let ("refused", [ring, set, workers]) = (call, fields) else {
+    let ("refused", [n, set, workers]) = (call, fields) else {
         return None;
     };
     let workers = workers.parse::<u32>().ok()?;
     if workers < 1 || workers > 64 {
         return None;
     }
-    let ideal = ideal(alloc, ring, set)?;
-    let root = start(alloc, ideal.n, &ideal.generators)?;
-    let region = Region::positive(alloc, ideal.n).ok()?;
+    let n = n.parse::<u32>().ok()?;
+    let root = start(alloc, n, &generators(alloc, n, set)?)?;
+    let region = Region::positive(alloc, n).ok()?;
     refused_waves(rt, alloc, root, &region, workers)
 }

@@ -16,10 +16,10 @@ fn certificates(alloc: Global, told: &Certificates) -> Option<String> {
 
 /// What a call on a marked set gives.
 pub(crate) fn told(alloc: Global, call: &str, fields: &[&str]) -> Option<String> {
-    let [ring, set] = fields else {
+    let [n, set] = fields else {
         return None;
     };
-    let set = fields::marked(alloc, &fields::ring(alloc, ring)?, set)?;
+    let set = fields::marked(alloc, n.parse().ok()?, set)?;
     match call {
         "of" => texts::vector(alloc, &weight(alloc, &set).ok()?),
         "certificates" => certificates(alloc, &certify(alloc, &set).ok()?),

@@ -1,1 +1,1 @@
-pub mod ReadLaws  -- polynomials that are read, a list one further
+pub mod PushLaws  -- lists, one element further

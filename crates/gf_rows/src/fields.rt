@@ -1,15 +1,13 @@
-//! What the fields of a row say: vectors `(1,-2)`, rings, and sets of polynomials in their variables.
-ghost use Rattle.std.specs.Prelude.{◌≡◌, length, IfSome, IsTrue};
+//! What the fields of a row say: vectors `(1,-2)`, polynomials `3*a^2 -b +1`, and sets of them.
+ghost use Rattle.std.specs.Prelude.{◌≡◌, ◌<◌, length, IfSome, IsTrue, OnSome};
 ghost use Rattle.gf_gordan.specs.Alternative.{AreRows};
 ghost use Rattle.gf_order.specs.Weights.{AreBounded};
 ghost use Rattle.gf_poly.specs.Monomial.{IsMonomial};
 ghost use Rattle.gf_poly.specs.Marking.{Each};
 ghost use Rattle.gf_poly.specs.Polynomial.{HasVariables};
-ghost use Rattle.gf_text.specs.Sets.{IsIn};
 
 use gf_frac::Frac;
-use gf_poly::{MarkedSet, Mono, Poly, ROOM};
-use gf_text::{Reader, Ring, Written};
+use gf_poly::{Marked, MarkedSet, Mono, Poly, ROOM, Term};
 use gf_vec::IntVec;
 use std::alloc::Global;
 
@@ -104,50 +102,117 @@ pub fn fraction(text: &str) -> Option<Frac> {
     Some(Frac::new(p, q))
 }
 
-/// The ring.
-pub fn ring(alloc: Global, text: &str) -> Option<Ring> {
-    Reader::new(text.as_bytes()).read_ring(alloc).ok()
+/// The names of the variables.
+pub const NAMES: [&str; 6] = ["a", "b", "c", "d", "e", "f"];
+
+/// Raises a monomial by the power `b^2`, or `b`.
+fn raise(mono: &mut Mono, power: &str) -> Option<()>
+    ensures { OnSome result (length mono.new ≡ length mono.old) }
+{
+    let (name, exponent) = power.split_once('^').unwrap_or((power, "1"));
+    let variable = NAMES.iter().position(|other| *other == name)?;
+    let by = exponent.parse::<u32>().ok()?;
+    if variable >= mono.exponents().len() || by >= 1 << 31 {
+        return None;
+    }
+    mono.raise(variable, by).ok()
 }
 
-/// The polynomial; zero where nothing of it remains.
-fn remaining(alloc: Global, ring: &Ring, read: &Written) -> Option<Poly>
-    requires { IsIn (length ring.now) read.now }
-    ensures { IfSome result (HasVariables (length ring.now)) }
+/// The term `-3/2*a^2*b`, or `+a`, in `n` variables.
+pub fn term(alloc: Global, n: u32, text: &str) -> Option<Term>
+    ensures { IfSome result (λ t. length t.mono ≡ n) }
 {
-    match read {
-        Written::Zero => Some(Poly::zero(alloc)),
-        Written::Nonzero(marked) => marked.poly().copy().ok(),
+    if n > 6 {
+        return None;
     }
+    let text = text.strip_prefix('+').unwrap_or(text);
+    let without_sign = text.strip_prefix('-');
+    let mut coef = Frac::ONE;
+    let mut mono = Mono::one(alloc, n as usize);
+    for factor in without_sign.unwrap_or(text).split('*') {
+        match fraction(factor) {
+            Some(number) => coef = number,
+            None => raise(&mut mono, factor)?,
+        }
+    }
+    if without_sign.is_some() {
+        coef = coef.neg();
+    }
+    Some(Term { coef, mono })
+}
+
+/// Terms, apart.
+#[tactic(auto, using(crate::proofs::PushLaws::terms_push))]
+pub fn terms(alloc: Global, n: u32, text: &str) -> Option<Vec<Term>>
+    ensures { IfSome result (λ ts. HasVariables n ts.items) }
+{
+    let mut terms = Vec::new(alloc);
+    for word in text.split_whitespace() {
+        let term = term(alloc, n, word)?;
+        terms.push(term).ok()?;
+    }
+    Some(terms)
+}
+
+/// The sum of terms, apart.
+pub fn polynomial(alloc: Global, n: u32, text: &str) -> Option<Poly>
+    ensures { IfSome result (HasVariables n) }
+{
+    Poly::from_terms(terms(alloc, n, text)?).ok()
+}
+
+/// What stands between braces.
+fn inner(text: &str) -> Option<&str> {
+    text.strip_prefix('{')?.strip_suffix('}')
 }
 
 /// The polynomials of a set.
-#[tactic(auto, using(crate::proofs::ReadLaws::polys_push))]
-pub fn polynomials(alloc: Global, ring: &Ring, text: &str) -> Option<Vec<Poly>>
-    ensures { IfSome result (λ fs. Each (HasVariables (length ring.now)) fs.items) }
+#[tactic(auto, using(crate::proofs::PushLaws::polys_push))]
+pub fn polynomials(alloc: Global, n: u32, text: &str) -> Option<Vec<Poly>>
+    ensures { IfSome result (λ fs. Each (HasVariables n) fs.items) }
 {
-    let set = Reader::new(text.as_bytes()).read_set(alloc, ring).ok()?;
     let mut found = Vec::new(alloc);
-    'polynomials: for i in 0..set.len() {
-        let f = remaining(alloc, ring, &set[i])?;
+    for part in inner(text)?.split(',') {
+        if part.is_empty() {
+            continue;
+        }
+        let f = polynomial(alloc, n, part)?;
         found.push(f).ok()?;
     }
     Some(found)
 }
 
-/// The polynomial of a set of one.
-pub fn polynomial(alloc: Global, ring: &Ring, text: &str) -> Option<Poly>
-    ensures { IfSome result (HasVariables (length ring.now)) }
+/// The place of a monomial among terms.
+fn place_of(terms: &[Term], mono: &Mono) -> Option<usize>
+    ensures { IfSome result (λ i. i < length terms.now) }
 {
-    let set = Reader::new(text.as_bytes()).read_set(alloc, ring).ok()?;
-    match set.as_slice() {
-        [read] => remaining(alloc, ring, read),
-        _ => None,
-    }
+    terms
+        .iter()
+        .position(|t| t.mono.exponents() == mono.exponents())
+}
+
+/// The sum of terms, marked at the first of them.
+fn member(alloc: Global, n: u32, text: &str) -> Option<Marked>
+    ensures { IfSome result (λ b. HasVariables n b.poly) }
+{
+    let first = term(alloc, n, text.split_whitespace().next()?)?;
+    let f = polynomial(alloc, n, text)?;
+    let place = place_of(f.terms(), &first.mono)?;
+    Some(Marked::mark(f, place))
 }
 
 /// The marked set.
-pub fn marked(alloc: Global, ring: &Ring, text: &str) -> Option<MarkedSet>
-    ensures { IfSome result (λ s. s.variables ≡ length ring.now) }
+#[tactic(auto, using(crate::proofs::PushLaws::members_push))]
+pub fn marked(alloc: Global, n: u32, text: &str) -> Option<MarkedSet>
+    ensures { IfSome result (λ s. s.variables ≡ n) }
 {
-    Reader::new(text.as_bytes()).read_marked(alloc, ring).ok()
+    let mut items = Vec::new(alloc);
+    for part in inner(text)?.split(',') {
+        if part.is_empty() {
+            continue;
+        }
+        let member = member(alloc, n, part)?;
+        items.push(member).ok()?;
+    }
+    Some(MarkedSet::new(n, items))
 }

@@ -1,13 +1,11 @@
 //! How values are told.
+use crate::fields::NAMES;
 use gf_frac::{Frac, Op, Overflow};
 use gf_poly::{ExponentOverflow, Marked, MarkedSet, Poly, PolyError, Term};
 use gf_vec::{IntVec, VecOp, WideVector};
 use std::alloc::Global;
 use std::cmp::Ordering;
 use std::fmt::Display;
-
-/// The names of the variables.
-const NAMES: [&str; 6] = ["a", "b", "c", "d", "e", "f"];
 
 /// Whatever prints.
 pub fn text<T: Display + Drop>(alloc: Global, value: T) -> Option<String> {
@@ -122,25 +120,31 @@ pub fn refusal(alloc: Global, refusal: PolyError) -> Option<String> {
     }
 }
 
-/// Adds a term: its sign, but for a plus in front, its coefficient, but for 1 before a monomial, and its powers.
+/// Adds a term, apart from what there is: its sign, but for a plus in front, its coefficient, but for 1 before a monomial, and its powers.
 fn add(text: &mut String, term: &Term) -> Option<()> {
     let (p, q) = (term.coef.numer(), term.coef.denom());
-    if p < 0 {
-        text.push('-').ok()?;
-    } else if !text.is_empty() {
-        text.push('+').ok()?;
-    }
-    if p.unsigned_abs() != 1 || q != 1 || term.mono.degree() == 0 {
+    let sign = match (p < 0, text.is_empty()) {
+        (true, true) => "-",
+        (true, false) => " -",
+        (false, true) => "",
+        (false, false) => " +",
+    };
+    text.push_str(sign).ok()?;
+    let is_plain = p.unsigned_abs() == 1 && q == 1 && term.mono.degree() != 0;
+    if !is_plain {
         write!(text, "{}", p.unsigned_abs()).ok()?;
     }
     if q != 1 {
         write!(text, "/{q}").ok()?;
     }
+    let mut mark = if is_plain { "" } else { "*" };
     for (name, exponent) in NAMES.iter().zip(term.mono.exponents()) {
-        match *exponent {
-            0 => {}
-            1 => text.push_str(name).ok()?,
-            k => write!(text, "{name}^{k}").ok()?,
+        if *exponent != 0 {
+            write!(text, "{mark}{name}").ok()?;
+            mark = "*";
+        }
+        if *exponent > 1 {
+            write!(text, "^{exponent}").ok()?;
         }
     }
     Some(())

@@ -1,5 +1,5 @@
 //! S-polynomials, steps, normal forms, divisions and autoreductions, of polynomials in three variables.
-ghost use Rattle.std.specs.Prelude.{◌≡◌, ◌⊎◌, ◌≤◌, ◌^◌, ◌*◌, true, length, IfErr, IfSome, IsTrue};
+ghost use Rattle.std.specs.Prelude.{◌≡◌, ◌⊎◌, ◌≤◌, ◌^◌, ◌*◌, true, length, IfErr, IsTrue};
 ghost use Rattle.gf_exponents.specs.Exponents.{same, weight as weight_by};
 ghost use Rattle.gf_exponents.specs.Orders.{lighter};
 ghost use Rattle.gf_frac.specs.Fraction.{one_ℚ};
@@ -214,28 +214,6 @@ fn autoreduced(alloc: Global, set: &MarkedSet) -> Option<String>
     }
 }
 
-/// The polynomial of a set of one, in three variables.
-fn polynomial(alloc: Global, text: &str) -> Option<Poly>
-    ensures { IfSome result (HasVariables 3) }
-{
-    let ring = fields::ring(alloc, "Q[a,b,c]")?;
-    if ring.len() != 3 {
-        return None;
-    }
-    fields::polynomial(alloc, &ring, text)
-}
-
-/// The marked set in three variables.
-fn marked(alloc: Global, text: &str) -> Option<MarkedSet>
-    ensures { IfSome result (λ s. s.variables ≡ 3) }
-{
-    let ring = fields::ring(alloc, "Q[a,b,c]")?;
-    if ring.len() != 3 {
-        return None;
-    }
-    fields::marked(alloc, &ring, text)
-}
-
 /// The step at a monomial by the only member of a set.
 fn step_by(alloc: Global, f: &Poly, at: &str, set: &MarkedSet) -> Option<String>
     requires variables { HasVariables 3 f.now }
@@ -262,10 +240,20 @@ fn s_polynomial_of(alloc: Global, set: &MarkedSet) -> Option<String>
 /// What a call on polynomials and a marked set in three variables gives.
 pub(crate) fn told(alloc: Global, call: &str, fields: &[&str]) -> Option<String> {
     match (call, fields) {
-        ("s_polynomial", [set]) => s_polynomial_of(alloc, &marked(alloc, set)?),
-        ("autoreduction", [set]) => autoreduced(alloc, &marked(alloc, set)?),
-        ("step", [f, at, set]) => step_by(alloc, &polynomial(alloc, f)?, at, &marked(alloc, set)?),
-        (call, [f, set]) => by_set(alloc, call, &polynomial(alloc, f)?, &marked(alloc, set)?),
+        ("s_polynomial", [set]) => s_polynomial_of(alloc, &fields::marked(alloc, 3, set)?),
+        ("autoreduction", [set]) => autoreduced(alloc, &fields::marked(alloc, 3, set)?),
+        ("step", [f, at, set]) => step_by(
+            alloc,
+            &fields::polynomial(alloc, 3, f)?,
+            at,
+            &fields::marked(alloc, 3, set)?,
+        ),
+        (call, [f, set]) => by_set(
+            alloc,
+            call,
+            &fields::polynomial(alloc, 3, f)?,
+            &fields::marked(alloc, 3, set)?,
+        ),
         _ => None,
     }
 }

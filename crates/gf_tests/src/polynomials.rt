@@ -1,32 +1,21 @@
 //! Polynomials, marked polynomials and sets.
 ghost use Rattle.std.specs.Prelude.{length};
+ghost use Rattle.gf_order.specs.Weights.{AreBounded};
 ghost use Rattle.gf_poly.specs.Polynomial.{HasVariables};
 
 use gf_frac::Frac;
 use gf_poly::{Marked, MarkedSet, Pairs, Poly, Polys, Term, descend};
 use gf_rows::fields::fraction;
 use gf_rows::{fields, texts};
-use gf_text::Ring;
+use gf_vec::IntVec;
 use std::alloc::Global;
 
-/// The term `2:(1,0,2)`.
-fn term(alloc: Global, text: &str) -> Option<Term> {
-    let (coef, mono) = text.split_once(':')?;
-    Some(Term {
-        coef: fraction(coef)?,
-        mono: fields::monomial(alloc, mono)?,
-    })
-}
-
-/// What a call on terms, apart, gives.
+/// What a call on terms in three variables, apart, gives.
 pub(crate) fn terms_told(alloc: Global, call: &str, fields: &[&str]) -> Option<String> {
     let [text] = fields else {
         return None;
     };
-    let mut terms = Vec::new(alloc);
-    for word in text.split_whitespace() {
-        terms.push(term(alloc, word)?).ok()?;
-    }
+    let terms = fields::terms(alloc, 3, text)?;
     match call {
         "sum" => texts::outcome(alloc, Poly::from_terms(terms)),
         "descend" => texts::text(alloc, descend(&terms)),
@@ -34,26 +23,15 @@ pub(crate) fn terms_told(alloc: Global, call: &str, fields: &[&str]) -> Option<S
     }
 }
 
-/// The coefficient at a monomial.
-fn coefficient(alloc: Global, ring: &Ring, f: &Poly, at: &str) -> Option<String>
-    requires { HasVariables (length ring.now) f.now }
+/// What a call on a polynomial and a term in the same variables gives.
+fn with_term(alloc: Global, call: &str, f: &Poly, term: &Term) -> Option<String>
+    requires { HasVariables (length term.now.mono) f.now }
 {
-    let at = fields::monomial(alloc, at)?;
-    if at.exponents().len() != ring.len() as usize {
-        return None;
+    match call {
+        "coefficient" => texts::fraction(alloc, &f.coefficient(&term.mono)),
+        "product" => texts::outcome(alloc, f.mul_term(term.coef, &term.mono)),
+        _ => None,
     }
-    texts::fraction(alloc, &f.coefficient(&at))
-}
-
-/// The product with a term.
-fn product(alloc: Global, ring: &Ring, f: &Poly, by: &str) -> Option<String>
-    requires { HasVariables (length ring.now) f.now }
-{
-    let by = term(alloc, by)?;
-    if by.mono.exponents().len() != ring.len() as usize {
-        return None;
-    }
-    texts::outcome(alloc, f.mul_term(by.coef, &by.mono))
 }
 
 /// The quotient by a number.
@@ -65,24 +43,22 @@ fn quotient(alloc: Global, f: &Poly, by: &Frac) -> Option<String> {
 }
 
 /// The initial form by a weight.
-fn initial_form(alloc: Global, ring: &Ring, f: &Poly, weight: &str) -> Option<String>
-    requires { HasVariables (length ring.now) f.now }
+fn initial_form(alloc: Global, f: &Poly, weight: &IntVec) -> Option<String>
+    requires variables { HasVariables (length weight.now) f.now }
+    requires bounded { AreBounded weight.now }
 {
-    let weight = fields::weight(alloc, ring.len(), weight)?;
-    texts::polynomial(alloc, &f.initial_form(&weight).ok()?)
+    texts::polynomial(alloc, &f.initial_form(weight).ok()?)
 }
 
-/// What a call on a polynomial and something else gives.
-fn with(alloc: Global, call: &str, ring: &Ring, f: &Poly, other: &str) -> Option<String>
-    requires { HasVariables (length ring.now) f.now }
+/// What a call on a polynomial in `n` variables and something else gives.
+fn with(alloc: Global, call: &str, n: u32, f: &Poly, other: &str) -> Option<String>
+    requires { HasVariables n f.now }
 {
     match call {
-        "coefficient" => coefficient(alloc, ring, f, other),
-        "product" => product(alloc, ring, f, other),
         "multiple" => texts::outcome(alloc, f.scale(fraction(other)?)),
         "quotient" => quotient(alloc, f, &fraction(other)?),
-        "initial_form" => initial_form(alloc, ring, f, other),
-        _ => None,
+        "initial_form" => initial_form(alloc, f, &fields::weight(alloc, n, other)?),
+        _ => with_term(alloc, call, f, &fields::term(alloc, n, other)?),
     }
 }
 
@@ -98,21 +74,18 @@ fn among(alloc: Global, call: &str, set: Vec<Poly>) -> Option<String> {
     }
 }
 
-/// What a call on polynomials gives.
+/// What a call on polynomials in so many variables gives.
 pub(crate) fn told(alloc: Global, call: &str, fields: &[&str]) -> Option<String> {
-    let [ring, set, others @ ..] = fields else {
-        return None;
-    };
-    let ring = fields::ring(alloc, ring)?;
-    match others {
-        [] => among(alloc, call, fields::polynomials(alloc, &ring, set)?),
-        [other] => with(
+    match fields {
+        [n, set] => among(
             alloc,
             call,
-            &ring,
-            &fields::polynomial(alloc, &ring, set)?,
-            other,
+            fields::polynomials(alloc, n.parse().ok()?, set)?,
         ),
+        [n, f, other] => {
+            let n = n.parse::<u32>().ok()?;
+            with(alloc, call, n, &fields::polynomial(alloc, n, f)?, other)
+        }
         _ => None,
     }
 }
@@ -137,13 +110,12 @@ fn of_set(alloc: Global, call: &str, set: MarkedSet) -> Option<String> {
     }
 }
 
-/// What a call on a marked set, or on pairs, gives.
+/// What a call on a marked set in so many variables gives.
 pub(crate) fn set_told(alloc: Global, call: &str, fields: &[&str]) -> Option<String> {
-    let [ring, set] = fields else {
+    let [n, set] = fields else {
         return None;
     };
-    let ring = fields::ring(alloc, ring)?;
-    of_set(alloc, call, fields::marked(alloc, &ring, set)?)
+    of_set(alloc, call, fields::marked(alloc, n.parse().ok()?, set)?)
 }
 
 /// How many pairs, each a vector of two, a list holds.
