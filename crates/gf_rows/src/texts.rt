@@ -137,11 +137,14 @@ fn add(text: &mut String, term: &Term) -> Option<()> {
     if q != 1 {
         write!(text, "/{q}").ok()?;
     }
-    let mut mark = if is_plain { "" } else { "*" };
+    let mut is_bare = is_plain;
     for (name, exponent) in NAMES.iter().zip(term.mono.exponents()) {
         if *exponent != 0 {
-            write!(text, "{mark}{name}").ok()?;
-            mark = "*";
+            if !is_bare {
+                text.push('*').ok()?;
+            }
+            text.push_str(name).ok()?;
+            is_bare = false;
         }
         if *exponent > 1 {
             write!(text, "^{exponent}").ok()?;
