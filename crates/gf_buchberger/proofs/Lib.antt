@@ -1,5 +1,6 @@
 pub mod PairsLaws  -- the marks of pairs: places, counts
 pub mod UnsettledLaws  -- the list of the unsettled pairs
+pub mod QueueLaws  -- the pair that comes first
 pub mod LeadingLaws  -- the greatest term
 pub mod JobLaws  -- positive weights, and which order is good on what
 pub mod SingleLaws  -- members with one monomial
