@@ -288,7 +288,7 @@ fn second_system(alloc: Global, pairs: u64) -> Result<Result<MarkedSet, BasisErr
 }
 
 /// By the first choice of pairs numbers leave 128 bits; by the second choice they don't. As Singular 4.3 has it, the least member
-/// is bc^12 - bc^11 - 3/2 bc^10 + .. - 1/27 b. With 100 pairs the first run is refused for numbers, and the second one is spent.
+/// is bc^12 - bc^11 - 3/2 bc^10 + .. - 1/27 b. With 40 pairs the first run is refused for numbers, and the second one is spent.
 #[test]
 fn found_by_the_second_run(rt: HostRuntime) -> Result<(), Fail> {
     let alloc = rt.alloc();
@@ -301,7 +301,7 @@ fn found_by_the_second_run(rt: HostRuntime) -> Result<(), Fail> {
     assert!(rt; least[10].coef.denom() == 27);
     assert!(rt;
         matches!(
-            second_system(alloc, 100)?,
+            second_system(alloc, 40)?,
             Err(BasisError::PairBudget { .. })
         )
     );

@@ -6,6 +6,7 @@ pub mod JobLaws  -- positive weights, and which order is good on what
 pub mod SingleLaws  -- members with one monomial
 pub mod RunLaws  -- the states of a run, one step further
 pub mod AppendLaws  -- a member that is appended
+pub mod CoveredLaws  -- covered pairs, and why they are settled at the end
 pub mod ReducedPairLaws  -- one pair reduced
 pub mod RunSteps  -- from one state of a run to the next
 pub mod SettleLaws  -- all pairs of a run
