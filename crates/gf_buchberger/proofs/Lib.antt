@@ -1,10 +1,12 @@
 pub mod PairsLaws  -- the marks of pairs: places, counts
 pub mod UnsettledLaws  -- the list of the unsettled pairs
+pub mod QueueLaws  -- the pair that comes first
 pub mod LeadingLaws  -- the greatest term
 pub mod JobLaws  -- positive weights, and which order is good on what
 pub mod SingleLaws  -- members with one monomial
 pub mod RunLaws  -- the states of a run, one step further
 pub mod AppendLaws  -- a member that is appended
+pub mod CoveredLaws  -- covered pairs, and why they are settled at the end
 pub mod ReducedPairLaws  -- one pair reduced
 pub mod RunSteps  -- from one state of a run to the next
 pub mod SettleLaws  -- all pairs of a run

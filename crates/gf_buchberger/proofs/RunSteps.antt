@@ -27,9 +27,11 @@ use Rattle.gf_ideal.proofs.DividingLaws.{member_contained}
 use Rattle.gf_division.proofs.ReducerLaws.{members_equal}
 use Rattle.gf_buchberger.specs.declared.queue.Waiting.{Waiting}
 use Rattle.gf_buchberger.specs.Pairs.{PairMarks, is_settled, with_settled, with_member}
-use Rattle.gf_buchberger.specs.Runs.{MembersHaveVariables, State, with_pair, IsWaiting, IsState, IsRun, PairsPushed, IsAppended, CountsAsSettled, IsExcused, IsReducedPair}
+use Rattle.gf_buchberger.specs.Runs.{MembersHaveVariables, AreComparable, IsJoinable, State, with_pair, IsWaiting, IsState, IsRun, PairsPushed, IsAppended, CountsAsSettled, IsExcused, IsReducedPair}
 use Rattle.gf_buchberger.proofs.PairsLaws.{settled-here, settled-before, settled-stays, settled-member_old, settled-member_new, IsPairTable-member, IsPairTable-settled}
 use Rattle.gf_buchberger.proofs.AppendLaws.{member_at}
+use Rattle.gf_buchberger.specs.Covered.{IsCovered}
+use Rattle.gf_buchberger.proofs.CoveredLaws.{covered_longer}
 
 -- ---- states
 
@@ -92,16 +94,21 @@ excused_pair order n fs s i j b c r (inr (inr (k, h))) x y = at (member_at s.mem
 
 -- ---- a new member
 
-appended-waiting : (order : MonomialOrder) (n : ℕ) (fs : List Terms) (old : State) (b : MarkedPolynomial) (queue : List Waiting) (i j : ℕ) → IsRun order n fs old → PairsPushed old.queue queue (length old.members) (length old.members) → i < j → j < suc (length old.members) → (is_settled (with_member old.table) i j ≡ true) ⊎ IsWaiting queue i j
+appended-waiting : (order : MonomialOrder) (n : ℕ) (fs : List Terms) (old : State) (b : MarkedPolynomial) (queue : List Waiting) (i j : ℕ) → IsRun order n fs old → PairsPushed (old.members ++ b ∷ []) old.queue queue (length old.members) (length old.members) → i < j → j < suc (length old.members) → (is_settled (with_member old.table) i j ≡ true) ⊎ IsWaiting queue i j ⊎ IsCovered (old.members ++ b ∷ []) i j
 appended-waiting order n fs old b queue i j r p l m = at (cases_lt j (length old.members))
   where
-    before : j < length old.members → (is_settled old.table i j ≡ true) ⊎ IsWaiting old.queue i j → (is_settled (with_member old.table) i j ≡ true) ⊎ IsWaiting queue i j
+    before : j < length old.members → (is_settled old.table i j ≡ true) ⊎ IsWaiting old.queue i j ⊎ IsCovered old.members i j → (is_settled (with_member old.table) i j ≡ true) ⊎ IsWaiting queue i j ⊎ IsCovered (old.members ++ b ∷ []) i j
     before k (inl e) = inl (settled-member_old old.table i j r.state.table l (omega (arith, r.state.size)) ∙ e)
-    before k (inr w) = inr (record { pair = w.pair; contained = p.kept w.pair w.contained; first = w.first; second = w.second })
+    before k (inr (inl w)) = inr (inl (record { pair = w.pair; contained = p.kept w.pair w.contained; first = w.first; second = w.second }))
+    before k (inr (inr c)) = inr (inr (covered_longer old.members b i j c))
 
-    at : (j < length old.members) ⊎ (length old.members ≤ j) → (is_settled (with_member old.table) i j ≡ true) ⊎ IsWaiting queue i j
+    new_pair : j ≡ length old.members → IsWaiting queue i (length old.members) ⊎ IsCovered (old.members ++ b ∷ []) i (length old.members) → (is_settled (with_member old.table) i j ≡ true) ⊎ IsWaiting queue i j ⊎ IsCovered (old.members ++ b ∷ []) i j
+    new_pair e (inl w) = inr (inl (record { pair = w.pair; contained = w.contained; first = w.first; second = w.second ∙ sym e }))
+    new_pair e (inr c) = inr (inr (subst (λ (z : ℕ). IsCovered (old.members ++ b ∷ []) i z) (sym e) c))
+
+    at : (j < length old.members) ⊎ (length old.members ≤ j) → (is_settled (with_member old.table) i j ≡ true) ⊎ IsWaiting queue i j ⊎ IsCovered (old.members ++ b ∷ []) i j
     at (inl k) = before k (r.waiting i j l k)
-    at (inr k) = let w = p.added i (omega arith) in inr (record { pair = w.pair; contained = w.contained; first = w.first; second = w.second ∙ omega arith })
+    at (inr k) = let e : j ≡ length old.members = omega arith in new_pair e (p.added i (omega arith))
 
 appended-settled : (order : MonomialOrder) (n : ℕ) (fs : List Terms) (old : State) (d : MarkedPolynomial) (i j : ℕ) (b c : MarkedPolynomial) → IsRun order n fs old → i < j → IsAt (old.members ++ d ∷ []) i b → IsAt (old.members ++ d ∷ []) j c → is_settled (with_member old.table) i j ≡ true → IsSettledPair n (old.members ++ d ∷ []) (below_of order) b c
 appended-settled order n fs old d i j b c r l x y e = at (cases_lt j (length old.members))
@@ -124,7 +131,12 @@ appended-variables n bs d v h p = record { heads = λ b c. head b (Contains-last
     poly b (inl c) = v.polys b c
     poly b (inr e) = subst (λ (z : MarkedPolynomial). HasVariables n z.poly) (sym e) p
 
-appended-valid : (old : State) (d : MarkedPolynomial) (queue : List Waiting) (w : Waiting) → IsState old → PairsPushed old.queue queue (length old.members) (length old.members) → Contains queue w → (w.first < w.second) × (w.second < length (old.members ++ d ∷ []))
+-- what the pairs of a new member ask for
+pub joined_comparable : (order : MonomialOrder) (b : MarkedPolynomial) (bs cs : List MarkedPolynomial) → cs ≡ bs ++ b ∷ [] → IsJoinable order b bs →
+    AreComparable order cs
+joined_comparable order b bs cs e j = subst (AreComparable order) (sym e) (record { n = j.n; each = appended-variables j.n bs b j.members j.head j.poly; entries = j.entries })
+
+appended-valid : (old : State) (d : MarkedPolynomial) (queue : List Waiting) (w : Waiting) → IsState old → PairsPushed (old.members ++ d ∷ []) old.queue queue (length old.members) (length old.members) → Contains queue w → (w.first < w.second) × (w.second < length (old.members ++ d ∷ []))
 appended-valid old d queue w s p c = at (p.only w c)
   where
     at : Contains old.queue w ⊎ ((w.first < length old.members) × (w.second ≡ length old.members)) → (w.first < w.second) × (w.second < length (old.members ++ d ∷ []))
@@ -136,10 +148,13 @@ pub run-appended : (order : MonomialOrder) (n : ℕ) (fs : List Terms) (old new 
 run-appended order n fs old new f r run origin steps irreducible v a = subst (IsRun order n fs) (sym (state_eq new (record { members = old.members ++ a.member ∷ []; table = with_member old.table; queue = new.queue }) a.members a.table refl)) (record {
   work = IsWorkList.more old.members f r a.member run.work origin steps a.monic a.marked (λ d. irreducible a.member.head a.monic.there d);
   variables = appended-variables n old.members a.member run.variables (a.head n v) (a.poly n v);
-  state = record { table = IsPairTable-member old.table run.state.table; size = ap suc run.state.size ∙ sym (length-last old.members a.member); valid = λ w c. appended-valid old a.member new.queue w run.state a.pairs c };
+  state = record { table = IsPairTable-member old.table run.state.table; size = ap suc run.state.size ∙ sym (length-last old.members a.member); valid = λ w c. appended-valid old a.member new.queue w run.state pairs c };
   settled = λ i j b c l x y e. appended-settled order n fs old a.member i j b c run l x y e;
-  waiting = λ i j l m. appended-waiting order n fs old a.member new.queue i j run a.pairs l (omega (arith, m, length-last old.members a.member));
+  waiting = λ i j l m. appended-waiting order n fs old a.member new.queue i j run pairs l (omega (arith, m, length-last old.members a.member));
 })
+  where
+    pairs : PairsPushed (old.members ++ a.member ∷ []) old.queue new.queue (length old.members) (length old.members)
+    pairs = subst (λ (bs : List MarkedPolynomial). PairsPushed bs old.queue new.queue (length old.members) (length old.members)) a.members a.pairs
 
 -- ---- the pairs that wait
 
@@ -153,7 +168,7 @@ run-permuted order n fs s t em et p r = subst (IsRun order n fs) (sym (state_eq 
   variables = r.variables;
   state = record { table = r.state.table; size = r.state.size; valid = λ w c. r.state.valid w (Contains-permutation t.queue s.queue w (IsPermutation-sym s.queue t.queue p) c) };
   settled = r.settled;
-  waiting = λ i j l m. elim (r.waiting i j l m) [ inl e ↦ inl e | inr w ↦ inr (waiting-permuted s.queue t.queue i j p w) ];
+  waiting = λ i j l m. elim (r.waiting i j l m) [ inl e ↦ inl e | inr v ↦ elim v [ inl w ↦ inr (inl (waiting-permuted s.queue t.queue i j p w)) | inr c ↦ inr (inr c) ] ];
 })
 
 -- the pair w, taken out, stays out where a member is appended
@@ -171,7 +186,10 @@ appended-beside order r w old new a = record {
       | inl e ↦ subst (λ (z : Waiting). Contains (w ∷ new.queue) z) e (Contains-here w new.queue)
       | inr k ↦ Contains-there w v new.queue (a.pairs.kept v k)
     ];
-    added = λ i l. let h = a.pairs.added i l in record { pair = h.pair; contained = Contains-there w h.pair new.queue h.contained; first = h.first; second = h.second };
+    added = λ i l. elim (a.pairs.added i l) [
+      | inl h ↦ inl (record { pair = h.pair; contained = Contains-there w h.pair new.queue h.contained; first = h.first; second = h.second })
+      | inr c ↦ inr c
+    ];
     only = λ v c. elim (Contains-cases w v new.queue c) [
       | inl e ↦ inl (subst (λ (z : Waiting). Contains (w ∷ old.queue) z) e (Contains-here w old.queue))
       | inr k ↦ elim (a.pairs.only v k) [ inl o ↦ inl (Contains-there w v old.queue o) | inr o ↦ inr o ]
@@ -202,16 +220,17 @@ run-settled order n fs w s r h = record {
     kept : (i j : ℕ) → is_settled s.table i j ≡ true → is_settled (with_settled s.table w.first w.second) i j ≡ true
     kept i j e = settled-stays s.table w.first w.second i j r.state.table valid.0 (omega (arith, valid.1, r.state.size)) e
 
-    back : (i j : ℕ) (v : Waiting) → v.first ≡ i → v.second ≡ j → (w ≡ v) ⊎ Contains s.queue v → (is_settled (with_settled s.table w.first w.second) i j ≡ true) ⊎ IsWaiting s.queue i j
+    back : (i j : ℕ) (v : Waiting) → v.first ≡ i → v.second ≡ j → (w ≡ v) ⊎ Contains s.queue v → (is_settled (with_settled s.table w.first w.second) i j ≡ true) ⊎ IsWaiting s.queue i j ⊎ IsCovered s.members i j
     back i j v f g (inl e) =
         let fi : w.first ≡ i = ap (λ (z : Waiting). z.first) e ∙ f in
         let sj : w.second ≡ j = ap (λ (z : Waiting). z.second) e ∙ g in
         inl (subst (λ (z : ℕ). is_settled (with_settled s.table w.first w.second) z j ≡ true) fi (subst (λ (z : ℕ). is_settled (with_settled s.table w.first w.second) w.first z ≡ true) sj (settled-here s.table w.first w.second r.state.table valid.0 (omega (arith, valid.1, r.state.size)))))
-    back i j v f g (inr c) = inr (record { pair = v; contained = c; first = f; second = g })
+    back i j v f g (inr c) = inr (inl (record { pair = v; contained = c; first = f; second = g }))
 
-    place : (i j : ℕ) → i < j → j < length s.members → (is_settled s.table i j ≡ true) ⊎ IsWaiting (w ∷ s.queue) i j → (is_settled (with_settled s.table w.first w.second) i j ≡ true) ⊎ IsWaiting s.queue i j
+    place : (i j : ℕ) → i < j → j < length s.members → (is_settled s.table i j ≡ true) ⊎ IsWaiting (w ∷ s.queue) i j ⊎ IsCovered s.members i j → (is_settled (with_settled s.table w.first w.second) i j ≡ true) ⊎ IsWaiting s.queue i j ⊎ IsCovered s.members i j
     place i j l m (inl e) = inl (kept i j e)
-    place i j l m (inr v) = back i j v.pair v.first v.second (Contains-cases w v.pair s.queue v.contained)
+    place i j l m (inr (inl v)) = back i j v.pair v.first v.second (Contains-cases w v.pair s.queue v.contained)
+    place i j l m (inr (inr c)) = inr (inr c)
 
 -- a reduced pair is settled: what is left of it is zero, or a member's multiple
 pub reduced_pair : (order : MonomialOrder) (n : ℕ) (fs : List Terms) (w : Waiting) (old new : State) → IsRun order n fs (with_pair w old) → IsReducedPair order old new w.first w.second → IsRun order n fs (with_pair w new) × ((b c : MarkedPolynomial) → IsAt new.members w.first b → IsAt new.members w.second c → IsSettledPair n new.members (below_of order) b c)

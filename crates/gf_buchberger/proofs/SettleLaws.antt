@@ -11,6 +11,7 @@ use Rattle.gf_poly.specs.Polynomial.{Terms}
 use Rattle.gf_poly.specs.Marking.{MarkedPolynomial}
 use Rattle.gf_ideal.specs.Settled.{IsAt, IsSettledPair}
 use Rattle.gf_ideal.proofs.ListLaws.{Contains-there, Contains-cases}
+use Rattle.gf_buchberger.specs.Covered.{IsCovered}
 use Rattle.gf_buchberger.specs.declared.queue.Waiting.{Waiting}
 use Rattle.gf_buchberger.specs.declared.runs.Stop.TheVariants as stops
 use Rattle.gf_buchberger.specs.Pairs.{PairMarks, IsPairTable, is_settled, settled_count, with_settled}
@@ -53,13 +54,22 @@ is_next order old s w done some h = record {
     valid : (w.first < w.second) × (w.second < length s.members)
     valid = run.state.valid w (Contains-here w s.queue)
 
--- a pair that is settled already
-pub settling-skipped : (order : MonomialOrder) (old s : State) (w : Waiting) (done : ℕ) → is_settled s.table w.first w.second ≡ true → IsSettling order old (with_pair w s) done → IsSettling order old s done
+-- a pair that is settled already, or covered
+pub settling-skipped : (order : MonomialOrder) (old s : State) (w : Waiting) (done : ℕ) → (is_settled s.table w.first w.second ≡ true) ⊎ IsCovered s.members w.first w.second → IsSettling order old (with_pair w s) done → IsSettling order old s done
 settling-skipped order old s w done e h = record { run = λ n fs r. here n fs (h.run n fs r); kept = h.kept; members = h.members; count = h.count }
   where
-    place : (i j : ℕ) (v : Waiting) → v.first ≡ i → v.second ≡ j → (w ≡ v) ⊎ Contains s.queue v → (is_settled s.table i j ≡ true) ⊎ IsWaiting s.queue i j
-    place i j v f g (inl q) = inl (subst (λ (z : ℕ). is_settled s.table z j ≡ true) (ap (λ (z : Waiting). z.first) q ∙ f) (subst (λ (z : ℕ). is_settled s.table w.first z ≡ true) (ap (λ (z : Waiting). z.second) q ∙ g) e))
-    place i j v f g (inr c) = inr (record { pair = v; contained = c; first = f; second = g })
+    moved : (v : Waiting) → w ≡ v → (is_settled s.table w.first w.second ≡ true) ⊎ IsCovered s.members w.first w.second → (is_settled s.table v.first v.second ≡ true) ⊎ IsWaiting s.queue v.first v.second ⊎ IsCovered s.members v.first v.second
+    moved v q (inl k) = inl (subst (λ (z : Waiting). is_settled s.table z.first z.second ≡ true) q k)
+    moved v q (inr k) = inr (inr (subst (λ (z : Waiting). IsCovered s.members z.first z.second) q k))
+
+    place : (i j : ℕ) (v : Waiting) → v.first ≡ i → v.second ≡ j → (w ≡ v) ⊎ Contains s.queue v → (is_settled s.table i j ≡ true) ⊎ IsWaiting s.queue i j ⊎ IsCovered s.members i j
+    place i j v f g (inl q) = subst (λ (z : ℕ). (is_settled s.table z j ≡ true) ⊎ IsWaiting s.queue z j ⊎ IsCovered s.members z j) f (subst (λ (z : ℕ). (is_settled s.table v.first z ≡ true) ⊎ IsWaiting s.queue v.first z ⊎ IsCovered s.members v.first z) g (moved v q e))
+    place i j v f g (inr c) = inr (inl (record { pair = v; contained = c; first = f; second = g }))
+
+    stays : (i j : ℕ) → (is_settled s.table i j ≡ true) ⊎ IsWaiting (w ∷ s.queue) i j ⊎ IsCovered s.members i j → (is_settled s.table i j ≡ true) ⊎ IsWaiting s.queue i j ⊎ IsCovered s.members i j
+    stays i j (inl q) = inl q
+    stays i j (inr (inl v)) = place i j v.pair v.first v.second (Contains-cases w v.pair s.queue v.contained)
+    stays i j (inr (inr c)) = inr (inr c)
 
     here : (n : ℕ) (fs : List Terms) → IsRun order n fs (with_pair w s) → IsRun order n fs s
     here n fs r = record {
@@ -67,7 +77,7 @@ settling-skipped order old s w done e h = record { run = λ n fs r. here n fs (h
       variables = r.variables;
       state = record { table = r.state.table; size = r.state.size; valid = λ v c. r.state.valid v (Contains-there w v s.queue c) };
       settled = r.settled;
-      waiting = λ i j l m. elim (r.waiting i j l m) [ inl q ↦ inl q | inr v ↦ place i j v.pair v.first v.second (Contains-cases w v.pair s.queue v.contained) ];
+      waiting = λ i j l m. stays i j (r.waiting i j l m);
     }
 
 -- ---- one pair more

@@ -1,7 +1,12 @@
--- What a pair waits by: how a key is made of the least common multiple of its marks.
--- Laws: gf_division's proofs/KeyLaws.antt.
-use Rattle.std.specs.Prelude.{ℕ, ◌+◌, ◌-◌, ◌^◌, min, List, [], ◌∷◌, ◌++◌}
+-- What a pair waits by: how a key is made of the least common multiple of its marks, and which pair comes first.
+-- Laws: proofs/QueueLaws.antt, and gf_division's proofs/KeyLaws.antt.
+use Rattle.std.specs.Prelude.{◌≡◌, ℕ, false, Contains, ◌+◌, ◌-◌, ◌^◌, min, List, [], ◌∷◌, ◌++◌}
 use Rattle.gf_exponents.specs.Exponents.{Exponents, degree}
+use Rattle.std.specs.declared.cmp.Ordering.{Ordering}
+use Rattle.std.specs.Cmp.Lexicographic.{slice_cmp}
+use Rattle.std.specs.Ordering.{nat_cmp, int_cmp, ordering_then, is_lt}
+use Rattle.gf_buchberger.specs.declared.queue.Key.{Key}
+use Rattle.gf_buchberger.specs.declared.queue.Waiting.{Waiting}
 use Rattle.gf_buchberger.specs.declared.queue.Strategy.{Strategy}
 use Rattle.gf_buchberger.specs.declared.queue.Strategy.TheVariants as strategies
 
@@ -23,3 +28,17 @@ abbrev pub kept_excesses : Strategy → List ℕ → ℕ → List ℕ
 kept_excesses strategies.Degree excesses excess = excesses
 kept_excesses strategies.Order excesses excess = excesses
 kept_excesses strategies.Sugar excesses excess = excesses ++ excess ∷ []
+
+-- ---- which pair comes first
+
+-- how keys compare: by the degree, then by the level, then by the first exponents that differ
+abbrev pub key_order : Key → Key → Ordering
+key_order k l = ordering_then (nat_cmp k.degree l.degree) (ordering_then (int_cmp k.level l.level) (slice_cmp nat_cmp k.exponents l.exponents))
+
+-- how pairs compare: by their keys, then by the later member, then by the earlier one
+abbrev pub waiting_order : Waiting → Waiting → Ordering
+waiting_order v w = ordering_then (key_order v.key w.key) (ordering_then (nat_cmp v.second w.second) (nat_cmp v.first w.first))
+
+-- no pair that waits comes before this one
+abbrev pub IsFirst : List Waiting → Waiting → Type 0
+IsFirst queue v = (w : Waiting) → Contains queue w → is_lt (waiting_order w v) ≡ false

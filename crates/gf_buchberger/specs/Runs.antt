@@ -26,6 +26,7 @@ use Rattle.gf_buchberger.specs.declared.runs.Stop.{Stop}
 use Rattle.gf_buchberger.specs.declared.runs.Stop.TheVariants as stops
 use Rattle.gf_buchberger.specs.declared.queue.Waiting.{Waiting}
 use Rattle.gf_buchberger.specs.Jobs.{IsBasisJob}
+use Rattle.gf_buchberger.specs.Covered.{IsCovered}
 use Rattle.gf_buchberger.specs.Pairs.{PairMarks, IsPairTable, is_settled, settled_count, with_settled, with_member}
 
 -- ---- members
@@ -40,7 +41,13 @@ pub record MembersHaveSomeVariables (bs : List MarkedPolynomial) : Type 0 where
   pub n : ℕ
   pub each : MembersHaveVariables n bs
 
--- so has the weight of the order, where it has one; and some weight sets each mark above the rest, so that they reduce
+-- so has the weight of the order, where it has one
+pub record AreComparable (order : MonomialOrder) (bs : List MarkedPolynomial) : Type 0 where
+  pub n : ℕ
+  pub each : MembersHaveVariables n bs
+  pub entries : HasEntries n order
+
+-- the same; and some weight sets each mark above the rest, so that they reduce
 pub record AreReducers (order : MonomialOrder) (bs : List MarkedPolynomial) : Type 0 where
   pub n : ℕ
   pub each : MembersHaveVariables n bs
@@ -72,13 +79,13 @@ pub record IsState (s : State) : Type 0 where
   pub size : s.table.members ≡ length s.members
   pub valid : (w : Waiting) → Contains s.queue w → (w.first < w.second) × (w.second < length s.members)
 
--- a state of a run on fs in n variables by the order: a work list, whose pairs are settled where the marks say so, and else wait
+-- a state of a run on fs in n variables by the order: a work list, whose pairs are settled where the marks say so, and else wait or are covered
 pub record IsRun (order : MonomialOrder) (n : ℕ) (fs : List Terms) (s : State) : Type 0 where
   pub work : IsWorkList fs (below_of order) s.members
   pub variables : MembersHaveVariables n s.members
   pub state : IsState s
   pub settled : (i j : ℕ) (b c : MarkedPolynomial) → i < j → IsAt s.members i b → IsAt s.members j c → is_settled s.table i j ≡ true → IsSettledPair n s.members (below_of order) b c
-  pub waiting : (i j : ℕ) → i < j → j < length s.members → (is_settled s.table i j ≡ true) ⊎ IsWaiting s.queue i j
+  pub waiting : (i j : ℕ) → i < j → j < length s.members → (is_settled s.table i j ≡ true) ⊎ IsWaiting s.queue i j ⊎ IsCovered s.members i j
 
 -- the state with one pair more that waits
 abbrev pub with_pair : Waiting → State → State
@@ -86,14 +93,14 @@ with_pair w s = record { members = s.members; table = s.table; queue = w ∷ s.q
 
 -- ---- a new member
 
--- the queue has gained the pairs of the first k members with `second`, and nothing else
-pub record PairsPushed (old new : List Waiting) (k second : ℕ) : Type 0 where
+-- of the pairs of the first k members of bs with that at `second` the queue has gained those that aren't covered, and nothing else
+pub record PairsPushed (bs : List MarkedPolynomial) (old new : List Waiting) (k second : ℕ) : Type 0 where
   pub kept : (w : Waiting) → Contains old w → Contains new w
-  pub added : (i : ℕ) → i < k → IsWaiting new i second
+  pub added : (i : ℕ) → i < k → IsWaiting new i second ⊎ IsCovered bs i second
   pub only : (w : Waiting) → Contains new w → Contains old w ⊎ ((w.first < k) × (w.second ≡ second))
-  pub count : length new ≡ length old + k
+  pub count : length new ≤ length old + k
 
--- the monic form of r, marked at its greatest monomial, is the last member now, and its pairs wait
+-- the monic form of r, marked at its greatest monomial, is the last member now, and its pairs wait or are covered
 pub record IsAppended (order : MonomialOrder) (r : Terms) (old new : State) : Type 0 where
   pub member : MarkedPolynomial
   pub monic : IsMonicForm r member
@@ -102,20 +109,21 @@ pub record IsAppended (order : MonomialOrder) (r : Terms) (old new : State) : Ty
   pub head : (n : ℕ) → HasVariables n r → length member.head ≡ n
   pub members : new.members ≡ old.members ++ member ∷ []
   pub table : new.table ≡ with_member old.table
-  pub pairs : PairsPushed old.queue new.queue (length old.members) (length old.members)
+  pub pairs : PairsPushed new.members old.queue new.queue (length old.members) (length old.members)
 
 -- the new member has the variables of the members, and the weight of the order, where it has one, as many entries
 pub record IsJoinable (order : MonomialOrder) (b : MarkedPolynomial) (bs : List MarkedPolynomial) : Type 0 where
   pub n : ℕ
   pub head : length b.head ≡ n
+  pub poly : HasVariables n b.poly
   pub members : MembersHaveVariables n bs
   pub entries : HasEntries n order
 
--- b is the last member now, and its pairs wait
+-- b is the last member now, and its pairs wait or are covered
 pub record IsJoined (b : MarkedPolynomial) (old new : State) : Type 0 where
   pub members : new.members ≡ old.members ++ b ∷ []
   pub table : new.table ≡ with_member old.table
-  pub pairs : PairsPushed old.queue new.queue (length old.members) (length old.members)
+  pub pairs : PairsPushed new.members old.queue new.queue (length old.members) (length old.members)
 
 -- what is left is the last member now; where nothing is, the state is as before
 abbrev pub IsTakenUp : Option MarkedPolynomial → State → State → Type 0
@@ -161,8 +169,12 @@ pub record IsChain (s : State) (i j k : ℕ) : Type 0 where
   pub right : CountsAsSettled s k j
 
 -- m is the least common multiple of the marks at i and j
+abbrev pub IsMultipleOf : List MarkedPolynomial → ℕ → ℕ → Exponents → Type 0
+IsMultipleOf bs i j m = (b c : MarkedPolynomial) → IsAt bs i b → IsAt bs j c → m ≡ join b.head c.head
+
+-- those of a state
 abbrev pub IsMultipleAt : State → ℕ → ℕ → Exponents → Type 0
-IsMultipleAt s i j m = (b c : MarkedPolynomial) → IsAt s.members i b → IsAt s.members j c → m ≡ join b.head c.head
+IsMultipleAt s i j m = IsMultipleOf s.members i j m
 
 -- the members at i and j have one monomial each
 abbrev pub AreSingleAt : State → ℕ → ℕ → Type 0

@@ -146,7 +146,8 @@ pub fn run_by(
 ///
 /// Zero polynomials are passed over. The others enter one after another, each as a remainder by those before, made
 /// monic; then at most `pairs` pairs are settled, first those whose least common multiple has the least degree, of these
-/// those where it is least by the order; one that a criterion sets aside counts as settled.
+/// those where it is least by the order; one that a criterion sets aside counts as settled. A covered pair, which is settled once pairs below
+/// it are, isn't among them.
 ///
 /// The weight of the order, where it has one, has `n` entries, and the order is good on the polynomials: a term
 /// order is good on all; revlex on homogeneous ones; the order along a facet with normal `a` where the exponents of each

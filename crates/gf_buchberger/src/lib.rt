@@ -6,6 +6,7 @@
 #![tactic(auto)]
 
 mod bases;
+mod covered;
 mod generators;
 mod guides;
 mod homogeneity;

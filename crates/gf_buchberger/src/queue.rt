@@ -1,13 +1,10 @@
 //! The pairs that wait to be settled, the pair of least key first.
-//!
-//! How keys are made is proved; that `pop` takes the pair of least key isn't, and what is proved of a run holds of any
-//! choice.
 
 ghost use Rattle.std.specs.Prelude.{◌≡◌, ◌∷◌, length, OnOk, OnErr, IfSome, IfNone, []};
 ghost use Rattle.std.specs.List.Sorted.{IsPermutation};
 ghost use Rattle.gf_order.specs.Comparisons.{HasEntries, ends_by_revlex, level_of};
 ghost use Rattle.gf_division.specs.Keys.{AreKeyExponents};
-ghost use Rattle.gf_buchberger.specs.Keys.{degree_for};
+ghost use Rattle.gf_buchberger.specs.Keys.{degree_for, IsFirst};
 
 use gf_division::arranged;
 use gf_order::Order;
@@ -74,12 +71,15 @@ pub struct Queue {
 
 impl Model for Queue {
     ghost use Rattle.std.specs.Prelude.{List, map};
-    ghost use Rattle.std.specs.BinaryHeap.{heap_items};
+    ghost use Rattle.std.specs.BinaryHeap.{heap_items, IsHeap};
     ghost use Rattle.gf_buchberger.specs.declared.queue.Waiting.{Waiting};
+    ghost use Rattle.gf_buchberger.specs.Keys.{waiting_order};
 
     ghost Value = { List Waiting };
 
     ghost view = { λ q. map (λ r. r.0) (heap_items q.heap) };
+
+    ghost invariant = { λ q. IsHeap (λ x y. waiting_order y.0 x.0) (heap_items q.heap) };
 }
 
 impl Queue {
@@ -101,9 +101,10 @@ impl Queue {
         Ok(())
     }
 
-    /// Takes the pair of least key out.
+    /// Takes the pair of least key out, of those with one key the one whose later member is the least, then the one whose earlier member is.
     pub fn pop(&mut self) -> Option<Waiting>
         ensures some { IfSome result (λ pair. IsPermutation self.old (pair ∷ self.new)) }
+        ensures first { IfSome result (IsFirst self.old) }
         ensures none { IfNone result (self.old ≡ []) }
         ensures empty { IfNone result (self.new ≡ []) }
     {

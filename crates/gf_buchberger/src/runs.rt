@@ -2,11 +2,12 @@
 
 ghost use Rattle.std.specs.Prelude.{◌≡◌, ◌≢◌, ◌<◌, ◌^◌, [], length, IfOk, IfErr, IfSome, OnOk, IsTrue};
 ghost use Rattle.gf_exponents.specs.Exponents.{AreCoprime};
-ghost use Rattle.gf_order.specs.Comparisons.{HasEntries};
 ghost use Rattle.gf_poly.specs.declared.error.PolyError.TheVariants.{Memory};
 ghost use Rattle.gf_ideal.specs.Reduction.{HasOneMonomial};
-ghost use Rattle.gf_buchberger.specs.Runs.{MembersHaveVariables, AreReducers, IsMultipleAt, IsReducedPair, IsPairWorkedOff, IsSettlingRefusal, MembersHaveSomeVariables, state_of, IsState, PairsPushed, IsJoinable, IsJoined, IsTakenUp, IsLeftOfPair, CountsAsSettled, IsChain, IsExcused, IsSettledBy, IsSomeRun, IsWorkedThrough, IsStop};
+ghost use Rattle.gf_buchberger.specs.Covered.{IsCovered};
+ghost use Rattle.gf_buchberger.specs.Runs.{AreReducers, IsMultipleAt, IsReducedPair, IsPairWorkedOff, IsSettlingRefusal, AreComparable, MembersHaveSomeVariables, state_of, IsState, PairsPushed, IsJoinable, IsJoined, IsTakenUp, IsLeftOfPair, CountsAsSettled, IsChain, IsExcused, IsSettledBy, IsSomeRun, IsWorkedThrough, IsStop};
 
+use crate::covered::Redundant;
 use crate::left::{left_of, left_of_wide};
 use crate::pairs::PairTable;
 use crate::queue::{Queue, Strategy, Waiting};
@@ -25,6 +26,7 @@ pub struct Run {
     pub queue: Queue,
     pub strategy: Strategy,
     pub sugars: Sugars,
+    pub redundant: Redundant,
     pub numbers: Numbers,
     pub guide: Guide,
 }
@@ -77,27 +79,32 @@ fn are_single(b: &Marked, c: &Marked) -> bool
     is_single(b) && is_single(c)
 }
 
-/// Adds the pairs of these members with a new one, whose mark is `head`, and whose sugar is by so much more than the degree of that.
+/// Adds the pairs of the member at `second` with those before it, unless they are covered; its sugar is by so much more than the degree of
+/// its mark.
 fn push_pairs(
     queue: &mut Queue,
     strategy: Strategy,
     order: &Order,
     members: &[Marked],
     sugars: &Sugars,
-    head: &Mono,
+    redundant: &Redundant,
+    second: usize,
     excess: u64,
 ) -> Result<(), AllocError>
-    requires room { length members.now < 2 ^ 32 }
-    requires variables { MembersHaveVariables (length head.now) members.now }
-    requires entries { HasEntries (length head.now) order.now }
-    ensures { OnOk result (PairsPushed queue.old queue.new (length members.now) (length members.now)) }
+    requires room { second < 2 ^ 32 }
+    requires inside { second < length members.now }
+    requires comparable { AreComparable order.now members.now }
+    ensures { OnOk result (PairsPushed members.now queue.old queue.new second second) }
 {
-    let second = members.len() as u32;
-    'members: for i in 0..members.len() {
+    let head = members[second].head();
+    'members: for i in 0..second {
         let multiple = members[i].head().lcm(head);
+        if redundant.covers(members, &multiple, i, second) {
+            continue;
+        }
         queue.push(Waiting {
             key: strategy.key(order, &multiple, sugars.of_pair(i, excess)),
-            second,
+            second: second as u32,
             first: i as u32,
         })?;
     }
@@ -117,12 +124,13 @@ impl Run {
             queue: Queue::new(alloc),
             strategy,
             sugars: Sugars::new(alloc),
+            redundant: Redundant::new(alloc),
             numbers,
             guide,
         }
     }
 
-    /// Adds a member; its pairs wait.
+    /// Adds a member; its pairs wait, unless they are covered.
     ///
     /// # Errors
     ///
@@ -133,21 +141,24 @@ impl Run {
         ensures ok { OnOk result (IsJoined member (state_of self.old) (state_of self.new)) }
         ensures cause { IfErr result (λ e. e ≡ Memory) }
     {
-        if self.table.members() == u32::MAX {
+        let second = self.table.members();
+        if second == u32::MAX {
             return Err(PolyError::Memory);
         }
         let excess = self.sugars.add(self.strategy, member.head())?;
+        self.redundant.add(&self.members, member.head())?;
+        self.table.add_member()?;
+        self.members.push(member)?;
         push_pairs(
             &mut self.queue,
             self.strategy,
             order,
             &self.members,
             &self.sugars,
-            member.head(),
+            &self.redundant,
+            second as usize,
             excess,
         )?;
-        self.table.add_member()?;
-        self.members.push(member)?;
         Ok(())
     }
 
@@ -199,6 +210,21 @@ impl Run {
             return false;
         }
         self.counts(i, k) && self.counts(k, j)
+    }
+
+    /// Whether the pair of the members at i and j is found covered.
+    fn is_covered(&self, i: u32, j: u32) -> bool
+        requires first { i < length self.now.members.items }
+        requires second { j < length self.now.members.items }
+        requires variables { MembersHaveSomeVariables self.now.members.items }
+        ensures { IsTrue result → IsCovered self.now.members.items i j }
+    {
+        let (b, c) = (
+            self.members[i as usize].head(),
+            self.members[j as usize].head(),
+        );
+        self.redundant
+            .covers(&self.members, &b.lcm(c), i as usize, j as usize)
     }
 
     /// Whether the pair of i and j needs no reduction.
@@ -382,6 +408,10 @@ pub fn settle_all(alloc: Global, start: Run, order: &Order, budget: u64) -> Resu
         let (i, j) = (pair.first, pair.second);
         // Never so, since no pair waits twice; the proof isn't shown this, and counts a pair once that is settled here.
         if run.table.is_settled(i, j) {
+            continue;
+        }
+        // Members that came after the pair may cover it; it isn't marked, so that what is answered where the budget is spent lists it.
+        if run.is_covered(i, j) {
             continue;
         }
         if done == budget {

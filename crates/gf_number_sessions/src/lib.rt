@@ -6,6 +6,3 @@
 mod numbers;
 
 pub use numbers::{NumberError, Numbers};
-
-#[cfg(test)]
-mod tests;

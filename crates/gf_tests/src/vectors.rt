@@ -1,105 +1,99 @@
-use gf_vec::*;
-use std::cmp::Ordering;
+//! Vectors, and the arithmetic of their entries.
+ghost use Rattle.std.specs.Prelude.{◌≤◌, ◌^◌, All, IsTrue, unsigned_abs};
+
+use gf_rows::{fields, texts};
+use gf_vec::{IntVec, VecError, WideVector, difference, product, quotient};
+use std::alloc::Global;
 use std::hash::{DefaultHasher, Hash, Hasher};
-use std::test::Fail;
 
-const LARGEST: i128 = i128::MAX;
-
-/// by hand
-#[test]
-fn small_vectors(rt: HostRuntime) -> Result<(), Fail> {
-    let first = IntVec::from_slice(rt.alloc(), &[1, 2])?;
-    let second = IntVec::from_slice(rt.alloc(), &[3, -1])?;
-    assert!(rt; first.dot(&second) == Ok(1));
-    assert!(rt; first.add(&second)?.as_slice() == [4, 1].as_slice());
-    let unit = IntVec::from_slice(rt.alloc(), &[1, 0])?;
-    assert!(rt; unit.add(&first)?.as_slice() == [2, 2].as_slice());
-    assert!(rt; (first.copy()? == first) == true);
-    assert!(rt; first.lex_cmp(&second) == Ordering::Less);
-    let mut turned = IntVec::from_slice(rt.alloc(), &[0, -2, LARGEST])?;
-    turned.negate();
-    assert!(rt; turned.as_slice() == [0, 2, -LARGEST].as_slice());
-    Ok(())
-}
-
-/// by hand; zero vectors stay
-#[test]
-fn primitive_vectors(rt: HostRuntime) -> Result<(), Fail> {
-    let mut vector = IntVec::from_slice(rt.alloc(), &[4, -6])?;
-    vector.primitive();
-    assert!(rt; vector.as_slice() == [2, -3].as_slice());
-    let mut zero = IntVec::from_slice(rt.alloc(), &[0, 0])?;
-    zero.primitive();
-    assert!(rt; zero.as_slice() == [0, 0].as_slice());
-    let mut wide = IntVec::from_slice(rt.alloc(), &[LARGEST, -LARGEST])?;
-    wide.primitive();
-    assert!(rt; wide.as_slice() == [1, -1].as_slice());
-    Ok(())
-}
-
-/// by hand: the first operation from the left is the one that is named
-#[test]
-fn wide_operations(rt: HostRuntime) -> Result<(), Fail> {
-    let first = IntVec::from_slice(rt.alloc(), &[1, LARGEST, 2])?;
-    let second = IntVec::from_slice(rt.alloc(), &[1, 1, LARGEST])?;
-    let wide = WideVector {
-        op: VecOp::Add,
-        left: 1,
-        right: LARGEST,
-    };
-    assert!(rt; first.dot(&second) == Err(wide));
-    let square = WideVector {
-        op: VecOp::Mul,
-        left: 1 << 64,
-        right: 1 << 63,
-    };
-    assert!(rt; product(1 << 64, 1 << 63) == Err(square));
-    assert!(rt; product(i64::MIN as i128, i64::MIN as i128) == Ok(1 << 126));
-    let least = WideVector {
-        op: VecOp::Sub,
-        left: -LARGEST,
-        right: 1,
-    };
-    assert!(rt; difference(-LARGEST, 1) == Err(least));
-    assert!(rt; quotient(-LARGEST, 2) == -LARGEST / 2);
-    assert!(rt; quotient(-7, 2) == -3);
-    let third = IntVec::from_slice(rt.alloc(), &[0, 1, LARGEST])?;
-    match first.add(&third) {
-        Ok(_) => assert!(rt; false),
-        Err(error) => {
-            let sum = WideVector {
-                op: VecOp::Add,
-                left: LARGEST,
-                right: 1,
-            };
-            assert!(rt; error == VecError::Wide(sum));
-        }
+/// A number, or the operation that is refused.
+fn outcome(alloc: Global, found: Result<i128, WideVector>) -> Option<String> {
+    match found {
+        Ok(x) => texts::text(alloc, x),
+        Err(wide) => texts::wide(alloc, &wide),
     }
-    Ok(())
 }
 
-/// by hand
-#[test]
-fn root_signs(rt: HostRuntime) -> Result<(), Fail> {
-    assert!(rt; IntVec::from_slice(rt.alloc(), &[-1, 0, 1])?.root_sign() == Ordering::Less);
-    assert!(rt; IntVec::from_slice(rt.alloc(), &[-1, 3])?.root_sign() == Ordering::Greater);
-    assert!(rt; IntVec::from_slice(rt.alloc(), &[0, 0])?.root_sign() == Ordering::Equal);
-    let wide = IntVec::from_slice(rt.alloc(), &[1 << 64, -(1 << 64)])?;
-    assert!(rt; wide.root_sign() == Ordering::Greater);
-    Ok(())
+/// A sum of vectors, or the operation that is refused.
+fn sum(alloc: Global, x: &IntVec, y: &IntVec) -> Option<String> {
+    if x.as_slice().len() != y.as_slice().len() {
+        return None;
+    }
+    match x.add(y) {
+        Ok(v) => texts::vector(alloc, &v),
+        Err(VecError::Wide(wide)) => texts::wide(alloc, &wide),
+        Err(VecError::Memory) => None,
+    }
 }
 
+/// A product of vectors, or the operation that is refused.
+fn dot(alloc: Global, x: &IntVec, y: &IntVec) -> Option<String> {
+    if x.as_slice().len() != y.as_slice().len() {
+        return None;
+    }
+    outcome(alloc, x.dot(y))
+}
+
+/// Whether no entry passes 2^64.
+fn is_narrow(entries: &[i128]) -> bool
+    ensures { IsTrue result → All (λ x. unsigned_abs x ≤ 2 ^ 64) entries.now }
+{
+    entries.iter().all(|x| x.unsigned_abs() <= 1 << 64)
+}
+
+/// The sign of a vector by which roots are chosen.
+fn root_sign(alloc: Global, v: &IntVec) -> Option<String> {
+    if !is_narrow(v.as_slice()) {
+        return None;
+    }
+    texts::comparison(alloc, v.root_sign())
+}
+
+/// The hash of a value.
 fn hash_of<T: Hash>(value: &T) -> u64 {
     let mut state = DefaultHasher::new();
     value.hash(&mut state);
     state.finish()
 }
 
-/// equal vectors hash alike
-#[test]
-fn hashes(rt: HostRuntime) -> Result<(), Fail> {
-    let first = IntVec::from_slice(rt.alloc(), &[5, -7])?;
-    let second = first.copy()?;
-    assert!(rt; hash_of(&first) == hash_of(&second));
-    Ok(())
+/// What a call on vectors gives.
+pub(crate) fn told(alloc: Global, call: &str, fields: &[&str]) -> Option<String> {
+    let [first, others @ ..] = fields else {
+        return None;
+    };
+    let mut first = fields::vector(alloc, first)?;
+    match (call, others) {
+        ("dot", [v]) => dot(alloc, &first, &fields::vector(alloc, v)?),
+        ("sum", [v]) => sum(alloc, &first, &fields::vector(alloc, v)?),
+        ("order", [v]) => texts::comparison(alloc, first.lex_cmp(&fields::vector(alloc, v)?)),
+        ("copy_is_equal", []) => texts::text(alloc, first.copy().ok()? == first),
+        ("copy_hashes_alike", []) => texts::text(
+            alloc,
+            hash_of(&first.copy().ok()?) == hash_of(&first),
+        ),
+        ("root_sign", []) => root_sign(alloc, &first),
+        ("opposite", []) => {
+            first.negate();
+            texts::vector(alloc, &first)
+        }
+        ("primitive", []) => {
+            first.primitive();
+            texts::vector(alloc, &first)
+        }
+        _ => None,
+    }
+}
+
+/// What an operation on two entries gives.
+pub(crate) fn entry_told(alloc: Global, call: &str, fields: &[&str]) -> Option<String> {
+    let [x, y] = fields else {
+        return None;
+    };
+    let (x, y) = (x.parse::<i128>().ok()?, y.parse::<i128>().ok()?);
+    match call {
+        "product" => outcome(alloc, product(x, y)),
+        "difference" => outcome(alloc, difference(x, y)),
+        "quotient" if y > 0 => texts::text(alloc, quotient(x, y)),
+        _ => None,
+    }
 }

@@ -1,1 +1,0 @@
-pub mod Rows  -- members in the variables of their rows

@@ -1,8 +1,0 @@
-use Rattle.std.proofs.Common.{take}
-use Rattle.gf_exponents.specs.Orders.{lighter}
-use Rattle.gf_poly.specs.Marking.{Each}
-use Rattle.gf_ideal.specs.Marks.{IsMarked}
-use Rattle.gf_tests.proofs.division.marks_all.Given as goal
-
-abbrev pub invariant-members : goal.invariant-members
-invariant-members l = Each (IsMarked (lighter l.weight)) (take l.i l.items)

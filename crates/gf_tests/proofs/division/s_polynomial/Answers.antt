@@ -1,4 +1,0 @@
-use Rattle.gf_tests.proofs.division.s_polynomial.Goals as goal
-
-pub s_poly-requires : goal.s_poly-requires
-s_poly-requires c = record { variables = record { n = 3; are = record { left = c.requires.left; right = c.requires.right } } }

@@ -1,6 +1,0 @@
-use Rattle.std.proofs.Common.{All}
-use Rattle.gf_int.specs.Range.{InRange}
-use Rattle.gf_tests.proofs.strict.vector_in.Given as goal
-
-abbrev pub invariant-loop-word : goal.invariant-loop-word
-invariant-loop-word l = All InRange l.entries.items
