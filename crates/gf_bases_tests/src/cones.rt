@@ -1,21 +1,145 @@
-//! Cones of marked sets, alone and as ones that remember.
-ghost use Rattle.std.specs.Prelude.{◌≡◌, ◌<◌, length, IfOk, IfSome};
+//! Worked cones.
+ghost use Rattle.std.specs.Prelude.{◌≡◌, ◌<◌, ◌∷◌, [], length, IfOk};
 ghost use Rattle.gf_cone.specs.Answers.{AnswersFacet, IsFacetAnswered};
 ghost use Rattle.gf_cone.specs.Cones.{HasInterior};
 ghost use Rattle.gf_facets.specs.Systems.{units};
+ghost use Rattle.gf_poly.specs.Polynomial.{HasVariables};
 
 use gf_cone::*;
+use gf_frac::Frac;
 use gf_gordan::GordanError;
-use gf_poly::MarkedSet;
-use gf_rows::{fields, texts};
+use gf_poly::{Marked, MarkedSet, Mono, Poly, PolyError, Term};
 use gf_vec::IntVec;
 use std::alloc::Global;
+use std::test::Fail;
 
-/// The cone of a set.
-fn cone_of(alloc: Global, set: &MarkedSet) -> Option<Cone>
-    ensures { IfSome result (λ c. c.beside ≡ units c.variables c.variables) }
+/// c * a^x * b^y * c^z
+fn term(alloc: Global, coef: i64, x: u8, y: u8, z: u8) -> Term
+    ensures { result.mono ≡ x ∷ y ∷ z ∷ [] }
 {
-    Cone::of(alloc, set).ok()
+    let exponents = [u32::from(x), u32::from(y), u32::from(z)];
+    Term {
+        coef: Frac::new(i128::from(coef), 1),
+        mono: Mono::new(alloc, &exponents),
+    }
+}
+
+/// The sum of two terms.
+fn two(_n: u32, first: Term, second: Term, alloc: Global) -> Result<Poly, PolyError>
+    requires { HasVariables _n (first ∷ second ∷ []) }
+    ensures { IfOk result (HasVariables _n) }
+{
+    let terms = vec![in alloc; first, second]?;
+    Poly::from_terms(terms)
+}
+
+/// The polynomial with its first term marked.
+fn marked(_n: u32, p: Poly) -> Result<Marked, PolyError>
+    requires { HasVariables _n p }
+    ensures { IfOk result (λ b. HasVariables _n b.poly) }
+{
+    if p.terms().len() == 0 {
+        return Err(PolyError::Memory);
+    }
+    Ok(Marked::mark(p, 0))
+}
+
+/// a - c
+fn first_of(alloc: Global) -> Result<Marked, PolyError>
+    ensures { IfOk result (λ b. HasVariables 3 b.poly) }
+{
+    marked(
+        3,
+        two(3, term(alloc, 1, 1, 0, 0), term(alloc, -1, 0, 0, 1), alloc)?,
+    )
+}
+
+/// b - c
+fn second_of(alloc: Global) -> Result<Marked, PolyError>
+    ensures { IfOk result (λ b. HasVariables 3 b.poly) }
+{
+    marked(
+        3,
+        two(3, term(alloc, 1, 0, 1, 0), term(alloc, -1, 0, 0, 1), alloc)?,
+    )
+}
+
+/// a*b - c^2
+fn third_of(alloc: Global) -> Result<Marked, PolyError>
+    ensures { IfOk result (λ b. HasVariables 3 b.poly) }
+{
+    marked(
+        3,
+        two(3, term(alloc, 1, 1, 1, 0), term(alloc, -1, 0, 0, 2), alloc)?,
+    )
+}
+
+/// The cone of the first two.
+fn cone_of_two(alloc: Global) -> Result<Cone, Fail>
+    ensures { IfOk result (λ c. c.beside ≡ units c.variables c.variables) }
+{
+    let items = vec![in alloc; first_of(alloc)?, second_of(alloc)?]?;
+    let set = MarkedSet::new(3, items);
+    Ok(Cone::of(alloc, &set)?)
+}
+
+/// The cone of all three.
+fn cone_of_three(alloc: Global) -> Result<Cone, Fail>
+    ensures { IfOk result (λ c. c.beside ≡ units c.variables c.variables) }
+{
+    let items = vec![in alloc; first_of(alloc)?, second_of(alloc)?, third_of(alloc)?]?;
+    let set = MarkedSet::new(3, items);
+    Ok(Cone::of(alloc, &set)?)
+}
+
+/// c * a^x in one variable
+fn short_term(alloc: Global, coef: i64, x: u8) -> Term
+    ensures { result.mono ≡ x ∷ [] }
+{
+    Term {
+        coef: Frac::new(i128::from(coef), 1),
+        mono: Mono::new(alloc, &[u32::from(x)]),
+    }
+}
+
+/// The cone of a - 1 in one variable.
+fn cone_of_one(alloc: Global) -> Result<Cone, Fail>
+    ensures { IfOk result (λ c. c.beside ≡ units c.variables c.variables) }
+{
+    let poly = two(1, short_term(alloc, 1, 1), short_term(alloc, -1, 0), alloc)?;
+    let items = vec![in alloc; marked(1, poly)?]?;
+    let set = MarkedSet::new(1, items);
+    Ok(Cone::of(alloc, &set)?)
+}
+
+/// Whether the vector at a place has these entries.
+fn is_at(vectors: &[IntVec], place: usize, entries: &[i128]) -> bool {
+    match vectors.get(place) {
+        Some(vector) => vector.as_slice() == entries,
+        None => false,
+    }
+}
+
+/// the root of a - b, b - c: both normals are flippable
+#[test]
+fn two_flippable(rt: HostRuntime) -> Result<(), Fail> {
+    let cone = cone_of_two(rt.alloc())?;
+    assert!(rt; is_inside(&cone, &IntVec::from_slice(rt.alloc(), &[2, 2, 1])?));
+    assert!(rt; is_at(cone.normals(), 0, &[0, 1, -1]) && is_at(cone.normals(), 1, &[1, 0, -1]));
+    assert!(rt; cone.normals().len() == 2);
+    assert!(rt;
+        matches!(
+            flip_of(rt.alloc(), &cone, 0)?,
+            FlipAnswer::Yes { witness: _ }
+        )
+    );
+    assert!(rt;
+        matches!(
+            flip_of(rt.alloc(), &cone, 1)?,
+            FlipAnswer::Yes { witness: _ }
+        )
+    );
+    Ok(())
 }
 
 /// `Cone::facet`. No proof above it cites what its answers show, so that a weaker clause would be seen nowhere but here.
@@ -28,101 +152,85 @@ fn facet_of(cone: &Cone, place: usize) -> Result<FacetAnswer, GordanError>
     cone.facet(place)
 }
 
-/// How often a normal, taken so many times, is made of the others.
-fn sum(alloc: Global, times: i128, multipliers: &IntVec) -> Option<String> {
-    let multipliers = texts::vector(alloc, multipliers)?;
-    format!(in alloc; "{times} by {multipliers}").ok()
-}
-
-/// Whether the normal at a place is one of a facet.
-fn facet(alloc: Global, cone: &Cone, place: usize) -> Option<String>
-    requires place { place < length cone.now.normals }
-    requires interior { HasInterior cone.now }
-{
-    match facet_of(cone, place).ok()? {
-        FacetAnswer::Facet { witness: _ } => texts::text(alloc, "facet"),
-        FacetAnswer::Redundant { times, multipliers } => sum(alloc, times, &multipliers),
-    }
-}
-
-/// Whether a flip may cross it among all positive vectors.
-fn flip(alloc: Global, cone: &Cone, place: usize) -> Option<String>
+/// `Cone::flippable` among all positive vectors.
+fn flip_of(alloc: Global, cone: &Cone, place: usize) -> Result<FlipAnswer, GordanError>
     requires place { place < length cone.now.normals }
     requires beside { cone.now.beside ≡ units cone.now.variables cone.now.variables }
     requires interior { HasInterior cone.now }
 {
-    let region = Region::positive(alloc, cone.variables()).ok()?;
-    match cone.flippable(place, &region).ok()? {
-        FlipAnswer::Yes { witness: _ } => texts::text(alloc, "yes"),
-        FlipAnswer::No { times, multipliers } => sum(alloc, times, &multipliers),
-    }
+    let region = Region::positive(alloc, cone.variables())?;
+    cone.flippable(place, &region)
 }
 
-/// What is told of the normal at a place, of a cone with a vector inside.
-fn of_normal(alloc: Global, call: &str, cone: &Cone, inner: &IntVec, place: usize) -> Option<String>
-    requires { cone.now.beside ≡ units cone.now.variables cone.now.variables }
-{
-    if place >= cone.normals().len() || !is_inside(cone, inner) {
-        return None;
-    }
-    match call {
-        "facet" => facet(alloc, cone, place),
-        "flip" => flip(alloc, cone, place),
-        _ => None,
-    }
+/// `KnownCone::way` among all positive vectors.
+fn way_of(alloc: Global, known: &KnownCone) -> Result<Option<Way>, GordanError> {
+    let region = Region::positive(alloc, known.cone().variables())?;
+    known.way(&region)
 }
 
-/// Of a cone that remembers, with a vector inside: for each normal whether there is a crossing, whether a flip may cross it, and whether a witness is then
-/// known; and whether there is a way, and one up, among all positive vectors.
-fn remembered(alloc: Global, cone: Cone, inner: IntVec) -> Option<String> {
-    let mut known = KnownCone::new(alloc, cone, Some(inner)).ok()?;
-    let mut text = String::new(alloc);
-    for place in 0..100 {
-        if place >= known.normals().len() {
-            break;
+/// `KnownCone::way_up` among all positive vectors.
+fn way_up_of(alloc: Global, known: &mut KnownCone) -> Result<Option<usize>, GordanError> {
+    let region = Region::positive(alloc, known.cone().variables())?;
+    known.way_up(&region)
+}
+
+/// 1 times (1, 1, -2) is 1 times (0, 1, -1) and 1 times (1, 0, -1)
+#[test]
+fn redundant_sum(rt: HostRuntime) -> Result<(), Fail> {
+    let cone = cone_of_three(rt.alloc())?;
+    assert!(rt; is_inside(&cone, &IntVec::from_slice(rt.alloc(), &[2, 2, 1])?));
+    assert!(rt; cone.normals().len() == 3);
+    match facet_of(&cone, 2)? {
+        FacetAnswer::Redundant { times, multipliers } => {
+            assert!(rt; times == 1 && multipliers.as_slice() == [1, 1].as_slice());
         }
-        let crossing = known.crossing(place).ok()?.is_some();
-        let flippable = known.is_flippable(place).ok()?;
-        let shown = known.witness(place).is_some();
-        write!(text, "{crossing} {flippable} {shown}; ").ok()?;
+        FacetAnswer::Facet { witness: _ } => assert!(rt; false),
     }
-    let region = Region::positive(alloc, known.cone().variables()).ok()?;
-    let way = known.way(&region).ok()?.is_some();
-    let up = known.way_up(&region).ok()?.is_some();
-    write!(text, "{way} {up}").ok()?;
-    Some(text)
+    Ok(())
 }
 
-/// Whether there is a point inside, seen from a witness past the facet of a normal.
-fn near(alloc: Global, cone: &Cone, witness: &IntVec, normal: &IntVec) -> Option<String> {
-    let point = interior_near(alloc, cone, witness, normal)?;
-    texts::text(alloc, is_inside(cone, &point))
+/// the same, and the two others, by a cone that remembers; it is the root
+#[test]
+fn remembered(rt: HostRuntime) -> Result<(), Fail> {
+    let cone = cone_of_three(rt.alloc())?;
+    let inner = IntVec::from_slice(rt.alloc(), &[2, 2, 1])?;
+    let mut known = KnownCone::new(rt.alloc(), cone, Some(inner))?;
+    assert!(rt; known.normals().len() == 3);
+    assert!(rt; matches!(known.crossing(2)?, None));
+    assert!(rt; matches!(known.crossing(1)?, Some(_)));
+    assert!(rt; matches!(way_of(rt.alloc(), &known)?, None));
+    assert!(rt; !known.is_flippable(2)?);
+    assert!(rt; known.is_flippable(1)?);
+    assert!(rt; matches!(known.witness(1), Some(_)));
+    assert!(rt; matches!(way_up_of(rt.alloc(), &mut known)?, None));
+    Ok(())
 }
 
-/// What a call on the cone of a marked set gives.
-pub(crate) fn told(alloc: Global, call: &str, fields: &[&str]) -> Option<String> {
-    let [n, set, others @ ..] = fields else {
-        return None;
-    };
-    let set = fields::marked(alloc, n.parse().ok()?, set)?;
-    let cone = cone_of(alloc, &set)?;
-    match (call, others) {
-        ("normals", []) => texts::vectors(alloc, cone.normals()),
-        ("is_inside", [v]) => texts::text(alloc, is_inside(&cone, &fields::vector(alloc, v)?)),
-        ("remembered", [v]) => remembered(alloc, cone, fields::vector(alloc, v)?),
-        ("near", [v, a]) => near(
-            alloc,
-            &cone,
-            &fields::vector(alloc, v)?,
-            &fields::vector(alloc, a)?,
-        ),
-        (call, [v, place]) => of_normal(
-            alloc,
-            call,
-            &cone,
-            &fields::vector(alloc, v)?,
-            place.parse().ok()?,
-        ),
-        _ => None,
+/// a - 1: its normal is one of a facet, and 1 times the unit vector
+#[test]
+fn unit_vector_of_one(rt: HostRuntime) -> Result<(), Fail> {
+    let cone = cone_of_one(rt.alloc())?;
+    assert!(rt; is_inside(&cone, &IntVec::from_slice(rt.alloc(), &[1])?));
+    assert!(rt; cone.normals().len() == 1);
+    assert!(rt; matches!(facet_of(&cone, 0)?, FacetAnswer::Facet { witness: _ }));
+    match flip_of(rt.alloc(), &cone, 0)? {
+        FlipAnswer::No { times, multipliers } => {
+            assert!(rt; times == 1 && multipliers.as_slice() == [1].as_slice());
+        }
+        FlipAnswer::Yes { witness: _ } => assert!(rt; false),
     }
+    Ok(())
+}
+
+/// past the facet of (-1, 0, 1), seen from the other side at (1, 2, 1), is the cone of a - c and b - c
+#[test]
+fn near_a_facet(rt: HostRuntime) -> Result<(), Fail> {
+    let cone = cone_of_two(rt.alloc())?;
+    let witness = IntVec::from_slice(rt.alloc(), &[1, 2, 1])?;
+    let normal = IntVec::from_slice(rt.alloc(), &[-1, 0, 1])?;
+    match interior_near(rt.alloc(), &cone, &witness, &normal) {
+        Some(point) => assert!(rt; is_inside(&cone, &point)),
+        None => assert!(rt; false),
+    }
+    Ok(())
 }

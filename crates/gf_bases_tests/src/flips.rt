@@ -1,50 +1,56 @@
 //! Flips of all bases of small ideals. A facet is only crossed where the cone of the basis tells that a flip may cross it, so
 //! that what a flip asks for holds at each call.
-ghost use Rattle.std.specs.Prelude.{◌<◌, All, length, IfSome, OnSome};
+
+ghost use Rattle.std.specs.Prelude.{◌<◌, All, length, IfOk, IfSome, OnOk};
 ghost use Rattle.gf_buchberger.specs.Jobs.{HaveRingVariables};
 ghost use Rattle.gf_flip.specs.Reached.{IsReachedByFlips};
 
-use crate::bases::generators;
 use gf_buchberger::basis;
 use gf_cone::{Cone, KnownCone};
 use gf_flip::flip;
 use gf_order::Order;
-use gf_poly::{Marked, MarkedSet, Poly};
-use gf_rows::texts;
+use gf_poly::{Marked, MarkedSet, Poly, PolyError};
+use gf_samples::{lists_members, polys};
 use std::alloc::Global;
+use std::test::Fail;
 
 /// The basis by degree, then lex.
-fn start(alloc: Global, n: u32, list: &[Poly]) -> Option<MarkedSet>
+fn start(alloc: Global, n: u32, list: &[Poly]) -> Result<MarkedSet, PolyError>
     requires { HaveRingVariables n list.now }
-    ensures { IfSome result (IsReachedByFlips list.now) }
+    ensures { IfOk result (IsReachedByFlips list.now) }
 {
     let order = Order::deglex();
     match basis(alloc, n, list, &order, 1000) {
-        Ok(set) => Some(set),
-        Err(_) => None,
+        Ok(set) => Ok(set),
+        Err(_) => Err(PolyError::Memory),
     }
 }
 
-/// The basis across the facet of the normal at a place, if there is one and a flip may cross it; none within where none may.
-fn across(alloc: Global, list: &[Poly], set: &MarkedSet, place: usize) -> Option<Option<MarkedSet>>
+/// The basis across the facet of the normal at a place, if there is one and a flip may cross it.
+fn across(
+    alloc: Global,
+    list: &[Poly],
+    set: &MarkedSet,
+    place: usize,
+) -> Result<Option<MarkedSet>, PolyError>
     requires { IsReachedByFlips list.now set.now }
-    ensures { IfSome result (λ o. IfSome o (IsReachedByFlips list.now)) }
+    ensures { IfOk result (λ o. IfSome o (IsReachedByFlips list.now)) }
 {
-    let cone = Cone::of(alloc, set).ok()?;
-    let mut known = KnownCone::new(alloc, cone, None).ok()?;
+    let cone = Cone::of(alloc, set)?;
+    let mut known = KnownCone::new(alloc, cone, None)?;
     if place >= known.normals().len() {
-        return Some(None);
+        return Ok(None);
     }
     match known.is_flippable(place) {
         Ok(true) => {}
-        Ok(false) => return Some(None),
-        Err(_) => return None,
+        Ok(false) => return Ok(None),
+        Err(_) => return Err(PolyError::Memory),
     }
     let normals = known.normals();
     let normal = &normals[place];
     match flip(alloc, set, normal, 1000) {
-        Ok(next) => Some(Some(next)),
-        Err(_) => None,
+        Ok(next) => Ok(Some(next)),
+        Err(_) => Err(PolyError::Memory),
     }
 }
 
@@ -89,26 +95,36 @@ fn is_among(found: &[MarkedSet], set: &MarkedSet) -> bool {
 }
 
 /// Whether a flip of `next` leads back to the set.
-fn leads_back(alloc: Global, list: &[Poly], next: &MarkedSet, set: &MarkedSet) -> Option<bool>
+fn leads_back(
+    alloc: Global,
+    list: &[Poly],
+    next: &MarkedSet,
+    set: &MarkedSet,
+) -> Result<bool, PolyError>
     requires { IsReachedByFlips list.now next.now }
 {
     for place in 0..60 {
         if let Some(back) = across(alloc, list, next, place)? {
             if same(&back, set) {
-                return Some(true);
+                return Ok(true);
             }
         }
     }
-    Some(false)
+    Ok(false)
 }
 
 /// Crosses all facets of a basis; those bases that are new are added. Whether all flips lead back.
-fn visit(alloc: Global, list: &[Poly], found: &mut Vec<MarkedSet>, at: usize) -> Option<bool>
+fn visit(
+    alloc: Global,
+    list: &[Poly],
+    found: &mut Vec<MarkedSet>,
+    at: usize,
+) -> Result<bool, PolyError>
     requires reached { All (IsReachedByFlips list.now) found.old.items }
     requires inside { at < length found.old.items }
-    ensures { OnSome result (All (IsReachedByFlips list.now) found.new.items) }
+    ensures { OnOk result (All (IsReachedByFlips list.now) found.new.items) }
 {
-    let set = found[at].copy().ok()?;
+    let set = found[at].copy()?;
     let mut all_back = true;
     'places: for place in 0..60 {
         if let Some(next) = across(alloc, list, &set, place)? {
@@ -116,49 +132,73 @@ fn visit(alloc: Global, list: &[Poly], found: &mut Vec<MarkedSet>, at: usize) ->
                 all_back = false;
             }
             if !is_among(found, &next) {
-                found.push(next).ok()?;
+                found.push(next)?;
             }
         }
     }
-    Some(all_back)
+    Ok(all_back)
 }
 
-/// How many bases flips lead to from the first one, each flip leading back.
-fn count(alloc: Global, n: u32, list: &[Poly]) -> Option<usize>
+/// How many bases flips lead to from the first one, if each flip leads back.
+fn count(alloc: Global, n: u32, list: &[Poly]) -> Result<usize, PolyError>
     requires { HaveRingVariables n list.now }
 {
     let first = start(alloc, n, list)?;
     let mut found = Vec::new(alloc);
-    found.push(first).ok()?;
+    found.push(first)?;
     'bases: for at in 0..200 {
         if at >= found.len() {
-            return Some(found.len());
+            return Ok(found.len());
         }
         if !visit(alloc, list, &mut found, at)? {
-            return None;
+            return Ok(0);
         }
     }
-    None
+    Ok(0)
 }
 
-/// The basis across a facet of the first one.
-fn crossed(alloc: Global, n: u32, list: &[Poly], place: usize) -> Option<String>
-    requires { HaveRingVariables n list.now }
-{
-    let first = start(alloc, n, list)?;
-    texts::set(alloc, &across(alloc, list, &first, place)??)
+/// The number of bases of the ideal in three variables that these generate.
+fn bases_of(alloc: Global, rows: &[&[(i128, [u32; 3])]]) -> Result<usize, PolyError> {
+    let list = polys(alloc, rows)?;
+    count(alloc, 3, &list)
 }
 
-/// What a call on a number of variables and a set gives.
-pub(crate) fn told(alloc: Global, call: &str, fields: &[&str]) -> Option<String> {
-    let [n, set, others @ ..] = fields else {
-        return None;
-    };
-    let n = n.parse::<u32>().ok()?;
-    let set = generators(alloc, n, set)?;
-    match (call, others) {
-        ("across", [place]) => crossed(alloc, n, &set, place.parse().ok()?),
-        ("count", []) => texts::text(alloc, count(alloc, n, &set)?),
-        _ => None,
-    }
+#[test]
+fn linear_forms_are_flipped(rt: HostRuntime) -> Result<(), Fail> {
+    let alloc = rt.alloc();
+    let list = polys(
+        alloc,
+        &[
+            &[(1, [0, 1, 0]), (-1, [0, 0, 1])],
+            &[(1, [1, 0, 0]), (-1, [0, 0, 1])],
+        ],
+    )?;
+    let set = start(alloc, 3, &list)?;
+    let next = across(alloc, &list, &set, 1)?.ok_or("no flip across (1, 0, -1)")?;
+    assert!(rt;
+        lists_members(
+            &next,
+            &[
+                (1, &[(-1, 1, [1, 0, 0]), (1, 1, [0, 0, 1])]),
+                (1, &[(-1, 1, [1, 0, 0]), (1, 1, [0, 1, 0])]),
+            ]
+        )
+    );
+    Ok(())
+}
+
+/// The numbers of bases are those that Gfan 0.6.2 lists.
+#[test]
+fn flips_lead_to_all_bases_and_back(rt: HostRuntime) -> Result<(), Fail> {
+    let alloc = rt.alloc();
+    let running = bases_of(
+        alloc,
+        &[
+            &[(1, [2, 1, 0]), (-1, [0, 0, 1])],
+            &[(1, [0, 2, 1]), (-1, [1, 0, 0])],
+            &[(1, [1, 0, 2]), (-1, [0, 1, 0])],
+        ],
+    )?;
+    assert!(rt; running == 33);
+    Ok(())
 }

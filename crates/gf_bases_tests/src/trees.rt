@@ -1,157 +1,240 @@
-//! The tree of the bases of an ideal: lists, walkers, parents, waves.
-ghost use Rattle.std.specs.Prelude.{◌≡◌, ◌≤◌, IfSome};
+//! Lists of bases of small ideals, worked by hand.
+
+ghost use Rattle.std.specs.Prelude.{◌≡◌, IfOk, IfSome};
 ghost use Rattle.gf_buchberger.specs.Jobs.{HaveRingVariables};
 ghost use Rattle.gf_facets.specs.Regions.{all_positive};
 ghost use Rattle.gf_reverse.specs.Upward.{IsNode};
 
-use crate::bases::generators;
 use gf_buchberger::basis;
 use gf_cone::Region;
 use gf_order::Order;
-use gf_poly::{MarkedSet, Poly};
-use gf_rows::texts;
+use gf_poly::{MarkedSet, Poly, PolyError};
+use gf_samples::{lists_members, polys};
 use gf_subtree::Waves;
 use gf_tree::{Bases, Mark, Node, Parent, Split, TreeError, Walker, list_bases, parent};
 use gf_waves::FreeGate;
 use std::alloc::Global;
-use std::thread::Threads;
+use std::test::Fail;
 
-/// The basis by degree, then lex: the root.
-fn start(alloc: Global, n: u32, list: &[Poly]) -> Option<MarkedSet>
+/// The basis by degree, then lex.
+fn start(alloc: Global, n: u32, list: &[Poly]) -> Result<MarkedSet, PolyError>
     requires { HaveRingVariables n list.now }
-    ensures { IfSome result (IsNode (all_positive n)) }
+    ensures { IfOk result (IsNode (all_positive n)) }
 {
     let order = Order::deglex();
     match basis(alloc, n, list, &order, 1000) {
-        Ok(set) => Some(set),
-        Err(_) => None,
+        Ok(set) => Ok(set),
+        Err(_) => Err(PolyError::Memory),
     }
 }
 
-/// `spent` where the budget of pairs of a flip is spent; none at other refusals.
-fn spent(alloc: Global, refusal: TreeError) -> Option<String> {
-    match refusal {
-        TreeError::PairBudget { .. } => texts::text(alloc, "spent"),
-        _ => None,
-    }
-}
-
-/// Adds a basis behind what there is.
-fn add(alloc: Global, text: &mut String, basis: &MarkedSet) -> Option<()> {
-    if !text.is_empty() {
-        text.push(' ').ok()?;
-    }
-    text.push_str(&texts::set(alloc, basis)?).ok()
-}
-
-/// The bases that a walker gives one by one.
-fn streamed(alloc: Global, root: MarkedSet, region: &Region) -> Option<String>
-    requires { IsNode region.now root }
+/// The basis of {a - b, b - c} by degree, then lex: its root.
+fn linear(alloc: Global) -> Result<MarkedSet, PolyError>
+    ensures { IfOk result (IsNode (all_positive 3)) }
 {
-    let mut walker = Walker::at(alloc, root, region, 100).ok()?;
-    let mut text = String::new(alloc);
-    for _ in 0..100 {
-        match walker.advance().ok()? {
-            Some(basis) => add(alloc, &mut text, &basis)?,
-            None => break,
-        }
-    }
-    Some(text)
+    let list = polys(
+        alloc,
+        &[
+            &[(1, [1, 0, 0]), (-1, [0, 1, 0])],
+            &[(1, [0, 1, 0]), (-1, [0, 0, 1])],
+        ],
+    )?;
+    start(alloc, 3, &list)
 }
 
-/// The bases that are listed at once.
-fn listed(alloc: Global, root: MarkedSet, region: &Region) -> Option<String>
-    requires { IsNode region.now root }
+/// Whether a basis is the one of the linear forms that is listed at a place.
+fn is_listed(set: &MarkedSet, place: usize) -> bool {
+    match place {
+        0 => lists_members(
+            set,
+            &[
+                (0, &[(1, 1, [0, 1, 0]), (-1, 1, [0, 0, 1])]),
+                (0, &[(1, 1, [1, 0, 0]), (-1, 1, [0, 0, 1])]),
+            ],
+        ),
+        1 => lists_members(
+            set,
+            &[
+                (1, &[(-1, 1, [0, 1, 0]), (1, 1, [0, 0, 1])]),
+                (0, &[(1, 1, [1, 0, 0]), (-1, 1, [0, 1, 0])]),
+            ],
+        ),
+        2 => lists_members(
+            set,
+            &[
+                (1, &[(-1, 1, [1, 0, 0]), (1, 1, [0, 0, 1])]),
+                (1, &[(-1, 1, [1, 0, 0]), (1, 1, [0, 1, 0])]),
+            ],
+        ),
+        _ => false,
+    }
+}
+
+/// Takes a walker's bases one by one; whether each is that of the linear forms at its place.
+fn stream(alloc: Global, root: MarkedSet, places: &mut Vec<bool>) -> Result<(), TreeError>
+    requires { IsNode (all_positive 3) root }
 {
-    let mut text = String::new(alloc);
-    for basis in &list_bases(alloc, root, region, 100).ok()? {
-        add(alloc, &mut text, basis)?;
+    let region = Region::positive(alloc, 3)?;
+    let mut walker = Walker::at(alloc, root, &region, 100)?;
+    while let Some(basis) = walker.advance()? {
+        let place = places.len();
+        places.push(is_listed(&basis, place))?;
     }
-    Some(text)
+    Ok(())
 }
 
-/// The bases that a walker has left.
-fn rest_of(alloc: Global, walker: Walker) -> Option<String> {
+/// The place after those of the bases that a walker has left, from `first` on; none where one isn't that of the linear forms.
+fn end_of(walker: Walker, first: usize) -> Option<usize> {
     let mut bases = Bases::new(walker);
-    let mut text = String::new(alloc);
-    for _ in 0..100 {
+    'places: for place in first..4 {
         match bases.next() {
-            Some(basis) => add(alloc, &mut text, &basis.ok()?)?,
-            None => break,
+            Some(Ok(basis)) => {
+                if !is_listed(&basis, place) {
+                    return None;
+                }
+            }
+            Some(Err(_)) => return None,
+            None => return Some(place),
         }
     }
-    Some(text)
+    None
 }
 
-/// After the first basis a walker is split: what each part has left.
-fn split(alloc: Global, root: MarkedSet, region: &Region) -> Option<String>
-    requires { IsNode region.now root }
+/// How many bases the ideal of these in two variables has.
+fn number(alloc: Global, rows: &[&[(i128, [u32; 2])]]) -> Result<usize, PolyError> {
+    let list = polys(alloc, rows)?;
+    let root = start(alloc, 2, &list)?;
+    let region = Region::positive(alloc, 2)?;
+    match list_bases(alloc, root, &region, 100) {
+        Ok(all) => Ok(all.len()),
+        Err(_) => Err(PolyError::Memory),
+    }
+}
+
+/// The last basis of the linear forms.
+fn last(alloc: Global) -> Result<Option<MarkedSet>, PolyError>
+    ensures { IfOk result (λ o. IfSome o (IsNode (all_positive 3))) }
 {
-    let mut walker = Walker::at(alloc, root, region, 100).ok()?;
-    walker.advance().ok()?;
+    let root = linear(alloc)?;
+    let region = Region::positive(alloc, 3)?;
+    let mut walker = Walker::at(alloc, root, &region, 100)?;
+    'steps: for _ in 0..2 {
+        if walker.advance().is_err() {
+            return Ok(None);
+        }
+    }
+    match walker.advance() {
+        Ok(basis) => Ok(basis),
+        Err(_) => Ok(None),
+    }
+}
+
+#[test]
+fn linear_forms_are_listed(rt: HostRuntime) -> Result<(), Fail> {
+    let alloc = rt.alloc();
+    let root = linear(alloc)?;
+    let mut places = Vec::new(alloc);
+    if stream(alloc, root, &mut places).is_err() {
+        return Err("refused".into());
+    }
+    assert!(rt; places.len() == 3);
+    for listed in &places {
+        assert!(rt; *listed);
+    }
+    Ok(())
+}
+
+#[test]
+fn parts_of_a_walker_list_what_it_had(rt: HostRuntime) -> Result<(), Fail> {
+    let alloc = rt.alloc();
+    let root = linear(alloc)?;
+    let region = Region::positive(alloc, 3)?;
+    let mut walker = Walker::at(alloc, root, &region, 100)?;
+    if walker.advance().is_err() {
+        return Err("refused".into());
+    }
     match walker.split() {
         Ok(Split::Parts { first, rest }) => {
-            let first = rest_of(alloc, first)?;
-            let rest = rest_of(alloc, rest)?;
-            format!(in alloc; "{first}; {rest}").ok()
+            assert!(rt; end_of(first, 1) == Some(2));
+            assert!(rt; end_of(rest, 2) == Some(3));
         }
-        _ => None,
+        _ => return Err("no parts".into()),
     }
+    Ok(())
 }
 
-/// Where a walker stands, if what stands there was given.
-fn place_of(alloc: Global, walker: &Walker) -> Option<String> {
+/// Whether a walker stands at the first basis of the linear forms, which it has given.
+fn is_after_the_first(walker: &Walker) -> bool {
     let place = walker.position();
-    match place.mark {
-        Mark::Listed => texts::set(alloc, place.here),
-        _ => None,
-    }
+    is_listed(place.here, 0) && matches!(place.mark, Mark::Listed)
 }
 
-/// What a walker tells whose flips may settle no pair: the first basis; twice a refusal, and where it stands; and the refusal to be split, and where it stands.
-fn refused(alloc: Global, root: MarkedSet, region: &Region) -> Option<String>
-    requires { IsNode region.now root }
-{
-    let mut walker = Walker::at(alloc, root, region, 0).ok()?;
-    let mut text = texts::set(alloc, &walker.advance().ok()??)?;
+/// No flip may settle a pair: the first basis is given, and then every call refused.
+#[test]
+fn a_refused_walker_stands(rt: HostRuntime) -> Result<(), Fail> {
+    let alloc = rt.alloc();
+    let root = linear(alloc)?;
+    let region = Region::positive(alloc, 3)?;
+    let mut walker = Walker::at(alloc, root, &region, 0)?;
+    match walker.advance() {
+        Ok(Some(basis)) => assert!(rt; is_listed(&basis, 0)),
+        _ => return Err("no first basis".into()),
+    }
     for _ in 0..2 {
-        let refusal = spent(alloc, walker.advance().err()?)?;
-        let place = place_of(alloc, &walker)?;
-        write!(text, " {refusal} {place}").ok()?;
+        assert!(rt; matches!(walker.advance(), Err(TreeError::PairBudget { .. })));
+        assert!(rt; is_after_the_first(&walker));
     }
     let Err((walker, refusal)) = walker.split() else {
-        return None;
+        return Err("parts".into());
     };
-    let refusal = spent(alloc, refusal)?;
-    let place = place_of(alloc, &walker)?;
-    write!(text, " {refusal} {place}").ok()?;
-    Some(text)
+    assert!(rt; matches!(refusal, TreeError::PairBudget { .. }));
+    assert!(rt; is_after_the_first(&walker));
+    Ok(())
 }
 
-/// The normal of the facet that leads up from the basis at a place of the list, and the basis there.
-fn above(
-    alloc: Global,
-    root: MarkedSet,
-    region: &Region,
-    place: usize,
-    pairs: u64,
-) -> Option<String>
-    requires { IsNode region.now root }
-{
-    let mut walker = Walker::at(alloc, root, region, 100).ok()?;
-    for _ in 0..place {
-        walker.advance().ok()?;
-    }
-    let basis = walker.advance().ok()??;
-    match parent(alloc, &basis, region, pairs) {
-        Ok(Parent::Up { normal, basis }) => {
-            let normal = texts::vector(alloc, &normal)?;
-            let basis = texts::set(alloc, &basis)?;
-            format!(in alloc; "{normal} {basis}").ok()
+/// So it is with several workers: what is left is the same, and nothing of it is ready.
+#[test]
+fn refused_waves_stand(rt: HostRuntime) -> Result<(), Fail> {
+    let alloc = rt.alloc();
+    for workers in [1, 4] {
+        if 1 <= workers && workers <= 64 {
+            let root = linear(alloc)?;
+            let region = Region::positive(alloc, 3)?;
+            let mut waves = Waves::new(alloc, root, &region, workers, 0, &FreeGate)?;
+            match waves.next_written(&rt) {
+                Ok(Some(basis)) => assert!(rt; is_listed(&basis, 0)),
+                _ => return Err("no first basis".into()),
+            }
+            for _ in 0..2 {
+                assert!(rt; matches!(waves.next_written(&rt), Err(TreeError::PairBudget { .. })));
+                assert!(rt; waves.ready() == 0);
+            }
         }
-        Ok(Parent::Root) => texts::text(alloc, "root"),
-        Err(refusal) => spent(alloc, refusal),
     }
+    Ok(())
+}
+
+#[test]
+fn the_last_basis_is_below_the_root(rt: HostRuntime) -> Result<(), Fail> {
+    let alloc = rt.alloc();
+    let set = last(alloc)?.ok_or("no third basis")?;
+    let region = Region::positive(alloc, 3)?;
+    match parent(alloc, &set, &region, 100) {
+        Ok(Parent::Up { normal, basis }) => {
+            assert!(rt; normal.as_slice() == [-1, 0, 1].as_slice());
+            assert!(rt; is_listed(&basis, 0));
+        }
+        _ => return Err("no parent".into()),
+    }
+    let root = linear(alloc)?;
+    assert!(rt; matches!(parent(alloc, &root, &region, 100), Ok(Parent::Root)));
+    assert!(rt;
+        matches!(
+            parent(alloc, &set, &region, 0),
+            Err(TreeError::PairBudget { .. })
+        )
+    );
+    Ok(())
 }
 
 /// A value that may go to another thread.
@@ -161,80 +244,22 @@ fn sent<T: Send>(value: T) -> T
     value
 }
 
-/// What a call on a root gives.
-fn of_root(alloc: Global, call: &str, root: MarkedSet, region: &Region) -> Option<String>
-    requires { IsNode region.now root }
-{
-    match call {
-        "streamed" => streamed(alloc, root, region),
-        "listed" => listed(alloc, root, region),
-        "split" => split(alloc, root, region),
-        "refused" => refused(alloc, root, region),
-        "sent" => texts::set(alloc, &sent(Node::of(alloc, root, region)).into_basis()),
-        _ => None,
-    }
+#[test]
+fn nodes_may_be_sent(rt: HostRuntime) -> Result<(), Fail> {
+    let alloc = rt.alloc();
+    let region = Region::positive(alloc, 3)?;
+    let node = sent(Node::of(alloc, linear(alloc)?, &region));
+    assert!(rt; is_listed(&node.into_basis(), 0));
+    Ok(())
 }
 
-/// What a call on the tree of the ideal of a set gives.
-pub(crate) fn told(alloc: Global, call: &str, fields: &[&str]) -> Option<String> {
-    let [n, set, others @ ..] = fields else {
-        return None;
-    };
-    let n = n.parse::<u32>().ok()?;
-    let root = start(alloc, n, &generators(alloc, n, set)?)?;
-    let region = Region::positive(alloc, n).ok()?;
-    match (call, others) {
-        ("parent", [place, pairs]) => {
-            above(
-                alloc,
-                root,
-                &region,
-                place.parse().ok()?,
-                pairs.parse().ok()?,
-            )
-        }
-        (call, []) => of_root(alloc, call, root, &region),
-        _ => None,
-    }
-}
-
-/// What waves tell whose flips may settle no pair: the first basis; and twice a refusal, and how many bases are ready.
-fn refused_waves<R: Threads + Sync>(
-    rt: &R,
-    alloc: Global,
-    root: MarkedSet,
-    region: &Region,
-    workers: u32,
-) -> Option<String>
-    requires basis { IsNode region.now root }
-    requires some { 1 ≤ workers }
-    requires most { workers ≤ 64 }
-{
-    let mut waves = Waves::new(alloc, root, region, workers, 0, &FreeGate).ok()?;
-    let mut text = texts::set(alloc, &waves.next_written(rt).ok()??)?;
-    for _ in 0..2 {
-        let refusal = spent(alloc, waves.next_written(rt).err()?)?;
-        write!(text, " {refusal} {}", waves.ready()).ok()?;
-    }
-    Some(text)
-}
-
-/// What a call on the waves over the tree of the ideal of a set gives, with so many workers.
-pub(crate) fn waves_told<R: Threads + Sync>(
-    rt: &R,
-    alloc: Global,
-    call: &str,
-    fields: &[&str],
-) -> Option<String> {
-    let ("refused", [n, set, workers]) = (call, fields) else {
-        return None;
-    };
-    let workers = workers.parse::<u32>().ok()?;
-    if workers < 1 || workers > 64 {
-        return None;
-    }
-    let n = n.parse::<u32>().ok()?;
-    let root = start(alloc, n, &generators(alloc, n, set)?)?;
-    let region = Region::positive(alloc, n).ok()?;
-    refused_waves(rt, alloc, root, &region, workers)
+#[test]
+fn small_ideals_are_counted(rt: HostRuntime) -> Result<(), Fail> {
+    let alloc = rt.alloc();
+    // a^2 - b; the unit ideal; the zero ideal; a monomial ideal
+    assert!(rt; number(alloc, &[&[(1, [2, 0]), (-1, [0, 1])]])? == 2);
+    assert!(rt; number(alloc, &[&[(3, [0, 0])]])? == 1);
+    assert!(rt; number(alloc, &[])? == 1);
+    assert!(rt; number(alloc, &[&[(1, [1, 1])], &[(1, [0, 2])]])? == 1);
+    Ok(())
 }

@@ -2,7 +2,7 @@ use Rattle.std.proofs.Common.{◌≡◌, List, [], ◌++◌, ℤ, sym, ap, ◌�
 use Rattle.gf_gordan.specs.Alternative.{IsSolvable}
 use Rattle.gf_facets.specs.Regions.{Region}
 use Rattle.gf_facets.specs.Systems.{units}
-use Rattle.gf_bases_tests.proofs.cones.flip.Goals as goal
+use Rattle.gf_bases_tests.proofs.cones.flip_of.Goals as goal
 
 pub flippable-requires-clause-interior : goal.flippable-requires-clause-interior
 flippable-requires-clause-interior c =

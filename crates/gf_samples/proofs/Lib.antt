@@ -1,0 +1,1 @@
+pub mod PushLaws  -- lists, one element further

@@ -1,0 +1,1 @@
+pub mod Rows  -- members in the variables of their rows
