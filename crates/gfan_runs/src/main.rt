@@ -1,15 +1,13 @@
 //! Whole runs of gfan over memory, a row of the standard input each: the words, the input, the exit status, what is written and what is told; behind that,
-//! where there is more, the devices, and names and texts of files. A row that comes out otherwise is printed, and last how many rows there were.
+//! where there is more, the devices of which each call fails in turn, and names and texts of files. A row that comes out otherwise is printed, and last how
+//! many rows there were.
 #![tactic(auto)]
 
-use gf_front::{BuchbergerOptions, Refusal};
-use gf_outside::{MAX_INPUT, MemFile, MemFiles, MemSink, MemSource, read_all};
-use gf_waves::{FreeGate, Gate};
+use gf_outside::{MemFile, MemFiles, MemSink, MemSource};
+use gf_waves::FreeGate;
 use gfan::run::run;
-use gfan_sets::buchberger::answer;
 use std::alloc::{AllocError, Global};
 use std::io;
-use std::sync::atomic::{AtomicU64, Ordering};
 use std::thread::Threads;
 
 /// What a row says, but for its devices.
@@ -21,15 +19,6 @@ struct Row {
     written: Vec<u8>,
     told: Vec<u8>,
     files: Vec<MemFile>,
-}
-
-/// How a run ended, and how many bytes of its input are left, where these can be read.
-#[derive(Drop, PartialEq)]
-struct Ending {
-    code: u8,
-    written: Vec<u8>,
-    told: Vec<u8>,
-    left: Option<usize>,
 }
 
 /// What fails in a run: of a device the call of this number, counted from 0. Each moves one byte a call, or none where it is stuck.
@@ -64,62 +53,6 @@ const OPEN_FAILED: &[u8] = b"gfan: E3 open failed\n";
 enum Place {
     Input,
     LastFile,
-}
-
-/// How a row says what is written and told.
-#[derive(Clone, Copy)]
-struct Manner {
-    /// What is written only begins as the row says.
-    is_output_begun: bool,
-    /// What is told only begins as the row says.
-    is_line_begun: bool,
-    /// What is told is one line of those that the row has.
-    is_line_one: bool,
-}
-
-/// Lets jobs meet: before it begins each counts itself, and looks for another that comes, for so many turns.
-#[derive(Drop)]
-struct Meeting {
-    arrived: AtomicU64,
-    met: AtomicU64,
-}
-
-/// How often a job looks for another.
-const TURNS: u64 = 100_000_000;
-
-impl Gate for Meeting {
-    fn at(&self, _job: u64) {
-        let before = self.arrived.fetch_add(1, Ordering::SeqCst);
-        for _ in 0..TURNS {
-            if self.met.load(Ordering::SeqCst) == 1 {
-                return;
-            }
-            if self.arrived.load(Ordering::SeqCst) != before.wrapping_add(1) {
-                self.met.store(1, Ordering::SeqCst);
-                return;
-            }
-        }
-    }
-}
-
-/// Whether a line is one of these lines, each of which has a line end.
-fn is_one_of(alloc: Global, lines: &[u8], line: &[u8]) -> Result<bool, AllocError> {
-    let mut one = Vec::new(alloc);
-    for &byte in lines {
-        one.push(byte)?;
-        if byte == b'\n' {
-            if one.as_slice() == line {
-                return Ok(true);
-            }
-            one.clear();
-        }
-    }
-    Ok(false)
-}
-
-/// How many pairs of places there are among so many.
-fn pairs_of(members: usize) -> usize {
-    members.wrapping_mul(members.wrapping_sub(1)) / 2
 }
 
 /// The bytes of a field, in which a backslash stands before the letter of a line end, a tab or a carriage return, or before a byte as it is.
@@ -167,15 +100,10 @@ fn row_of<'l>(alloc: Global, line: &'l str) -> Result<Option<(Row, &'l str)>, Al
         told: bytes_of(alloc, told)?,
         files: Vec::new(alloc),
     };
+    for word in words.split(' ') {
+        row.words.push(String::from_str(alloc, word)?)?;
+    }
     let devices = fields.next().unwrap_or("");
-    if devices != "none" {
-        for word in words.split(' ') {
-            row.words.push(String::from_str(alloc, word)?)?;
-        }
-    }
-    if devices == "blanks" {
-        row.input = vec![in alloc; b' '; MAX_INPUT + 1]?;
-    }
     while let Some(name) = fields.next() {
         let Some(text) = fields.next() else {
             return Ok(None);
@@ -239,58 +167,6 @@ struct Runner<'r, R: Threads + Sync> {
 }
 
 impl<'r, R: Threads + Sync> Runner<'r, R> {
-    /// How a run with a row's words, and more behind them, and its files ends over an input, in which this fails. Each device moves one byte a call, but
-    /// for an input that is too long.
-    fn ending<G: Gate>(
-        &self,
-        row: &Row,
-        more: &[&str],
-        input: &[u8],
-        faults: Faults,
-        gate: &G,
-    ) -> Result<Ending, AllocError> {
-        let alloc = self.alloc;
-        let mut words = Vec::new(alloc);
-        for word in &row.words {
-            words.push(String::from_str(alloc, word)?)?;
-        }
-        for word in more {
-            words.push(String::from_str(alloc, word)?)?;
-        }
-        let mut copies = Vec::new(alloc);
-        for file in &row.files {
-            copies.push(MemFile {
-                name: String::from_str(alloc, &file.name)?,
-                bytes: file.bytes.to_vec(alloc)?,
-            })?;
-        }
-        let most = if input.len() > MAX_INPUT { 16_384 } else { 1 };
-        let mut source = MemSource::new(input.to_vec(alloc)?, most, listed(alloc, faults.read)?);
-        let mut files = MemFiles::new(copies, 1, listed(alloc, faults.file)?);
-        let mut output = sink(alloc, faults.is_output_stuck, faults.write)?;
-        let mut line = sink(alloc, faults.is_line_stuck, faults.line)?;
-        let status = run(
-            self.rt,
-            alloc,
-            &words,
-            &mut source,
-            &mut output,
-            &mut line,
-            &mut files,
-            gate,
-        );
-        let left = match read_all(alloc, &mut source) {
-            Ok(rest) => Some(rest.len()),
-            Err(_) => None,
-        };
-        Ok(Ending {
-            code: status.code(),
-            written: output.bytes().to_vec(alloc)?,
-            told: line.bytes().to_vec(alloc)?,
-            left,
-        })
-    }
-
     /// Whether a run with a row's words and files over an input, in which this fails, ends with this status, writes this and tells this.
     fn ends(
         &self,
@@ -301,79 +177,29 @@ impl<'r, R: Threads + Sync> Runner<'r, R> {
         written: &[u8],
         told: &[u8],
     ) -> Result<bool, AllocError> {
-        let end = self.ending(row, &[], input, faults, &FreeGate)?;
-        Ok(end.code == code && end.written.as_slice() == written && end.told.as_slice() == told)
-    }
-
-    /// Whether the run of a row, in which this fails, ends as the row says in this manner, and leaves so many bytes of its input, where that is said.
-    fn ends_so(
-        &self,
-        row: &Row,
-        manner: Manner,
-        faults: Faults,
-        left: Option<usize>,
-    ) -> Result<bool, AllocError> {
-        let end = self.ending(row, &[], &row.input, faults, &FreeGate)?;
-        let is_written = if manner.is_output_begun {
-            end.written.starts_with(&row.written)
-        } else {
-            end.written.as_slice() == row.written.as_slice()
-        };
-        let is_told = if manner.is_line_begun {
-            end.told.starts_with(&row.told)
-        } else if manner.is_line_one {
-            is_one_of(self.alloc, &row.told, &end.told)?
-        } else {
-            end.told.as_slice() == row.told.as_slice()
-        };
-        Ok(end.code == row.code && is_written && is_told && (left.is_none() || end.left == left))
-    }
-
-    /// Whether 1, 2, 4 and 64 workers end a run just as no word of workers does.
-    fn do_workers_agree(&self, row: &Row) -> Result<bool, AllocError> {
-        let alone = self.ending(row, &[], &row.input, NO_FAULTS, &FreeGate)?;
-        for workers in ["1", "2", "4", "64"] {
-            let more = ["--workers", workers];
-            let end = self.ending(row, &more, &row.input, NO_FAULTS, &FreeGate)?;
-            if end != alone {
-                return Ok(false);
-            }
+        let alloc = self.alloc;
+        let mut copies = Vec::new(alloc);
+        for file in &row.files {
+            copies.push(MemFile {
+                name: String::from_str(alloc, &file.name)?,
+                bytes: file.bytes.to_vec(alloc)?,
+            })?;
         }
-        Ok(true)
-    }
-
-    /// Whether two workers have jobs that meet, and end a run just as no word of workers does.
-    fn do_workers_meet(&self, row: &Row) -> Result<bool, AllocError> {
-        let gate = Meeting {
-            arrived: AtomicU64::new(0),
-            met: AtomicU64::new(0),
-        };
-        let end = self.ending(row, &["--workers", "2"], &row.input, NO_FAULTS, &gate)?;
-        let alone = self.ending(row, &[], &row.input, NO_FAULTS, &FreeGate)?;
-        Ok(gate.met.load(Ordering::SeqCst) == 1 && end == alone)
-    }
-
-    /// Whether Buchberger's algorithm, with each budget up to this one, leaves all pairs of places but as many as the budget, and one at least.
-    fn do_budgets_leave(&self, row: &Row, most: u64) -> Result<bool, AllocError> {
-        for budget in 0..=most {
-            let options = BuchbergerOptions {
-                weighted: false,
-                revlex: false,
-                pairs: budget,
-            };
-            let Err(refused) = answer(self.alloc, &row.input, options) else {
-                return Ok(false);
-            };
-            let Refusal::PairBudget { basis, unsettled } = &refused.refusal else {
-                return Ok(false);
-            };
-            let left = unsettled.items().len();
-            let members = basis.items().len();
-            if left == 0 || left.wrapping_add(budget as usize) != pairs_of(members) {
-                return Ok(false);
-            }
-        }
-        Ok(true)
+        let mut source = MemSource::new(input.to_vec(alloc)?, 1, listed(alloc, faults.read)?);
+        let mut files = MemFiles::new(copies, 1, listed(alloc, faults.file)?);
+        let mut output = sink(alloc, faults.is_output_stuck, faults.write)?;
+        let mut line = sink(alloc, faults.is_line_stuck, faults.line)?;
+        let status = run(
+            self.rt,
+            alloc,
+            &row.words,
+            &mut source,
+            &mut output,
+            &mut line,
+            &mut files,
+            &FreeGate,
+        );
+        Ok(status.code() == code && output.bytes() == written && line.bytes() == told)
     }
 
     /// Whether a run of a row ends as the row says, but that this is told, where this fails.
@@ -414,8 +240,7 @@ impl<'r, R: Threads + Sync> Runner<'r, R> {
         Ok(true)
     }
 
-    /// Whether each write that fails in turn ends the run there, also where its line isn't taken; and an output that takes nothing. There is no further
-    /// write.
+    /// Whether each write that fails in turn ends the run there, also where its line isn't taken; and an output that takes nothing.
     fn do_writes_fail(&self, row: &Row) -> Result<bool, AllocError> {
         let mut prefix = Vec::new(self.alloc);
         for (call, &byte) in row.written.iter().enumerate() {
@@ -435,14 +260,7 @@ impl<'r, R: Threads + Sync> Runner<'r, R> {
             is_output_stuck: true,
             ..NO_FAULTS
         };
-        let further = Faults {
-            write: Some(row.written.len() as u64),
-            ..NO_FAULTS
-        };
-        Ok(
-            self.ends(row, &row.input, faults, 6, b"", WRITE_FAILED)?
-                && self.tells(row, further, &row.told)?,
-        )
+        self.ends(row, &row.input, faults, 6, b"", WRITE_FAILED)
     }
 
     /// Whether each byte of the line that isn't taken in turn changes nothing else; and a line of which nothing is.
@@ -521,39 +339,13 @@ impl<'r, R: Threads + Sync> Runner<'r, R> {
         Ok(true)
     }
 
-    /// Whether the run of a row ends as the row says, as these devices have it: which call fails, what is left, how what is written and told is said.
-    fn is_said(&self, row: &Row, devices: &str) -> Result<bool, AllocError> {
-        let mut manner = Manner {
-            is_output_begun: false,
-            is_line_begun: false,
-            is_line_one: false,
-        };
-        let mut faults = NO_FAULTS;
-        let mut left = None;
-        for device in devices.split(' ') {
-            match device.split_once('=') {
-                Some(("read", call)) => faults.read = call.parse::<u64>().ok(),
-                Some(("file", call)) => faults.file = call.parse::<u64>().ok(),
-                Some(("left", count)) => left = count.parse::<usize>().ok(),
-                _ => {}
-            }
-            match device {
-                "starts" => manner.is_output_begun = true,
-                "begins" => manner.is_line_begun = true,
-                "one" => manner.is_line_one = true,
-                _ => {}
-            }
-        }
-        self.ends_so(row, manner, faults, left)
-    }
-
     /// Whether all runs of a row with these devices end as they have to.
     fn is_right(&self, row: &Row, devices: &str) -> Result<bool, AllocError> {
-        let mut is_right = self.is_said(row, devices)?;
+        let mut is_right = self.tells(row, NO_FAULTS, &row.told)?;
         for device in devices.split(' ') {
             is_right = is_right
                 && match device {
-                    "" | "starts" | "begins" | "one" | "none" | "blanks" => true,
+                    "" => true,
                     "read" => self.do_reads_fail(row)?,
                     "file" => self.do_files_fail(row)?,
                     "write" => self.do_writes_fail(row)?,
@@ -562,27 +354,10 @@ impl<'r, R: Threads + Sync> Runner<'r, R> {
                     "file-prefix" => self.are_prefixes_refused(row, Place::LastFile)?,
                     "wrong" => self.are_wrong_texts_refused(row, Place::Input)?,
                     "file-wrong" => self.are_wrong_texts_refused(row, Place::LastFile)?,
-                    "workers" => self.do_workers_agree(row)?,
-                    "meet" => self.do_workers_meet(row)?,
-                    other => self.is_numbered_right(row, other)?,
+                    _ => false,
                 };
         }
         Ok(is_right)
-    }
-
-    /// Whether a device that has a number is known, and what is asked by it holds.
-    fn is_numbered_right(&self, row: &Row, device: &str) -> Result<bool, AllocError> {
-        let Some((name, number)) = device.split_once('=') else {
-            return Ok(false);
-        };
-        let Ok(number) = number.parse::<u64>() else {
-            return Ok(false);
-        };
-        match name {
-            "read" | "file" | "left" => Ok(true),
-            "budgets" => self.do_budgets_leave(row, number),
-            _ => Ok(false),
-        }
     }
 }
 
