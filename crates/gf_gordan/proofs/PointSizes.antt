@@ -77,7 +77,7 @@ more n = omega arith
 pub point_up : (n b : ℕ) (rows : List (List ℤ)) (u : List ℤ) → Sized n b rows → IsPoint n rows u → UpTo (point_bound n b) u
 point_up n b rows u z (nothing m) = up_zeros (point_bound m b) m
 point_up n b rows u z (kept m old r v whole e p h) = point_up m b old v (Sized-front m b old (r ∷ []) (subst (Sized m b) e z)) p
-point_up n b rows u z (pushed m old r j cs below v x k whole ek e piv sys p push) =
+point_up n b rows u z (pushed m old r j cs below last v x k whole ek e piv sys pt low p push) =
     let zs : Sized (m + 1) b (old ++ r ∷ []) = subst (λ i. Sized i b (old ++ r ∷ [])) ek (subst (Sized k b) e z) in
     let zo = Sized-front (m + 1) b old (r ∷ []) zs in
     let l = last_long (m + 1) b old r zs in

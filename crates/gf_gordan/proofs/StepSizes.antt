@@ -179,20 +179,20 @@ no_rows_step all n b rows s h z room (earlier a m old more t whole e p) = no_row
 no_rows_step all n b rows s h z room (testing a m old r u t whole e p w) =
     let zs = subst (Sized m b) e z in
     no_dot m b (point_bound m b) (length old) r u t (omega (arith, last_long m b old r zs)) (last_up m b old r zs) (point_up m b old u (Sized-front m b old (r ∷ []) zs) p) (test_room m b room) w
-no_rows_step all n b rows s h z room (eliminating a m old r j t whole e p w) =
+no_rows_step all n b rows s h z room (eliminating a m old r j u t whole e p pt low w) =
     let zs = subst (Sized m b) e z in
     no_eliminating b old r j t (last_up m b old r zs) (Sized-front m b old (r ∷ []) zs).entries (room_of m b r j p (last_long m b old r zs) room) w
-no_rows_step all n b rows s h z room (below a m old r j cs by_r t k whole ek e p sys w) =
+no_rows_step all n b rows s h z room (below a m old r j cs by_r u t k whole ek e p sys pt low w) =
     let zs : Sized (m + 1) b (old ++ r ∷ []) = subst (λ i. Sized i b (old ++ r ∷ [])) ek (subst (Sized k b) e z) in
     no_rows_step a m (below_bound m b) by_r t (one_below m b h) (Sized-below m b r j old cs by_r p (last_long (m + 1) b old r zs) (last_up (m + 1) b old r zs) (Sized-front (m + 1) b old (r ∷ []) zs) sys) (room_at k m b ek room).1 w
-no_rows_step all n b rows s h z room (pushing a m old r j cs by_r v t k whole ek e p sys q w) =
+no_rows_step all n b rows s h z room (pushing a m old r j cs by_r u v t k whole ek e p sys pt low q w) =
     let zs : Sized (m + 1) b (old ++ r ∷ []) = subst (λ i. Sized i b (old ++ r ∷ [])) ek (subst (Sized k b) e z) in
     let zo = Sized-front (m + 1) b old (r ∷ []) zs in
     let l = last_long (m + 1) b old r zs in
     let u = last_up (m + 1) b old r zs in
     let f = (room_at k m b ek room).0 in
     no_pushing m b (point_bound m (below_bound m b)) (length old) old r j v t p (subst (λ i. Sized i b old) (more m) zo) l u (point_up m (below_bound m b) by_r v (Sized-below m b r j old cs by_r p l u zo sys) q) f.lifting f.factor f.pushing w
-no_rows_step all n b rows s h z room (carrying a m old r j cs by_r ms t k whole ek e p sys q w) =
+no_rows_step all n b rows s h z room (carrying a m old r j cs by_r u ms t k whole ek e p sys pt low q w) =
     let zs : Sized (m + 1) b (old ++ r ∷ []) = subst (λ i. Sized i b (old ++ r ∷ [])) ek (subst (Sized k b) e z) in
     let zb = Sized-below m b r j old cs by_r p (last_long (m + 1) b old r zs) (last_up (m + 1) b old r zs) (Sized-front (m + 1) b old (r ∷ []) zs) sys in
     let f = (room_at k m b ek room).0 in

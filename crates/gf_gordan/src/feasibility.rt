@@ -1,8 +1,8 @@
 //! The public calls, and the law that makes their answers exact.
 //!
 //! `strict` asks the pivoting engine first, whose candidate is judged by exact arithmetic; where it has none that is right,
-//! the system is solved by elimination from the start. With few columns elimination is the quicker one, and comes first. So
-//! an answer is exact whatever the engine does, and a refusal is an operation of the elimination.
+//! the system is solved by elimination from the start. With few columns and few rows elimination is the quicker one, and comes
+//! first. So an answer is exact whatever the engine does, and a refusal is an operation of the elimination.
 ghost use Rattle.std.specs.Prelude.{◌≡◌, ◌≤◌, ◌+◌, IfOk, IfErr, IfSome, length};
 ghost use Rattle.gf_gordan.specs.declared.error.GordanError.TheVariants.{Memory};
 ghost use Rattle.gf_gordan.specs.Alternative.{AreRows, GordansAlternative};
@@ -22,8 +22,11 @@ use crate::workspace::Workspace;
 use gf_vec::{IntVec, VecError};
 use std::alloc::{AllocError, Global};
 
-/// With at most so many columns elimination is quicker than the pivoting engine.
+/// With at most so many columns, and at most `FEW_ROWS` rows, elimination is quicker than the pivoting engine.
 const FEW_COLUMNS: u32 = 3;
+
+/// With more rows the pivoting engine is quicker, however few columns there are.
+const FEW_ROWS: usize = 40;
 
 /// A solution or multipliers, by elimination.
 ///
@@ -176,7 +179,7 @@ pub fn strict(
     ensures err { IfErr result (Failed (IsStepOn (length rows.now + length equations.now) n rows.now equations.now)) }
     ensures three_columns { n ≤ 3 → HaveEntriesUpTo 500 rows.now → HaveEntriesUpTo 500 equations.now → IfErr result (λ e. e ≡ Memory) }
 {
-    if n > FEW_COLUMNS {
+    if n > FEW_COLUMNS || rows.len() > FEW_ROWS {
         return match pivoted(alloc, n as usize, rows, equations) {
             Some(answer) => Ok(answer),
             None => strict_plain(alloc, n, rows, equations),
