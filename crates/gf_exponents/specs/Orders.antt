@@ -56,7 +56,7 @@ pub record IsRevlexBelow (x y : Exponents) : Type 0 where
 abbrev pub IsDeglexBelow : Exponents → Exponents → Type 0
 IsDeglexBelow x y = (degree x < degree y) ⊎ ((degree x ≡ degree y) × IsLexBelow x y)
 
--- the weight alone is smaller
+-- the weight of x is smaller than that of y
 abbrev pub lighter : List ℕ → Exponents → Exponents → Type 0
 lighter w x y = weight w x < weight w y
 
@@ -85,7 +85,7 @@ is_alike r x y = weight r.gain x + weight r.loss y ≡ weight r.gain y + weight 
 abbrev pub IsFacetBelow : WeightRow → Exponents → Exponents → Type 0
 IsFacetBelow r x y = is_less r x y ⊎ (is_alike r x y × IsLexBelow x y)
 
--- of whole weights, what counts for an exponent: the entries that aren't negative
+-- the entries of a vector of integers as natural numbers, with 0 for each negative one
 abbrev pub gains : List ℤ → List ℕ
 gains [] = []
 gains (pos k ∷ ws) = k ∷ gains ws

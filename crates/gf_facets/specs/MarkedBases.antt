@@ -18,12 +18,12 @@ pub record IsMarkedReduced (n : ℕ) (fs : List Terms) (bs : List MarkedPolynomi
   pub tails : HasReducedTails bs
   pub heads : AreApart bs
 
--- an arranged one
+-- a marked reduced Gröbner basis in the form that a program keeps
 pub record IsMarkedReducedBasis (n : ℕ) (fs : List Terms) (bs : List MarkedPolynomial) : Type 0 where
   pub reduced : IsMarkedReduced n fs bs
   pub arranged : AreArranged n bs
 
--- an arranged one, whose marks a vector in the region gives
+-- a marked reduced Gröbner basis in the form that a program keeps, whose marks a vector in the region gives
 pub record IsBasisInRegion (n : ℕ) (fs : List Terms) (k : Region) (bs : List MarkedPolynomial) : Type 0 where
   pub reduced : IsMarkedReduced n fs bs
   pub arranged : AreArranged n bs

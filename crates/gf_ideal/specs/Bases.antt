@@ -38,7 +38,7 @@ pub record IsGreatest (below : Exponents → Exponents → Type 0) (f : Terms) (
 
 -- ---- Gröbner bases, where `IsLeading f x` says that x is a leading monomial of f
 
--- monic members whose marks lead, such that a mark divides each leading monomial of each member of the ideal
+-- a Gröbner basis: monic members of the ideal whose marks lead, such that a mark divides each leading monomial of each member of the ideal
 pub record IsGroebnerBasisBy (n : ℕ) (fs : List Terms) (below : Exponents → Exponents → Type 0) (IsLeading : Terms → Exponents → Type 0) (bs : List MarkedPolynomial) : Type 0 where
   pub members : AreMembers n fs bs
   pub marked : AreMarked below bs
@@ -54,7 +54,7 @@ abbrev pub HasReducedTails : List MarkedPolynomial → Type 0
 HasReducedTails bs = (b : MarkedPolynomial) → Contains bs b → (x : Exponents) → HasMonomial b.poly x →
     IsDivisible (Contains bs) x → same x b.head ≡ true
 
--- so is the reduced one: no mark divides another mark, nor an unmarked monomial
+-- the reduced Gröbner basis: no mark divides another mark, nor an unmarked monomial
 pub record IsReducedBy (n : ℕ) (fs : List Terms) (below : Exponents → Exponents → Type 0) (IsLeading : Terms → Exponents → Type 0) (bs : List MarkedPolynomial) : Type 0 where
   pub basis : IsGroebnerBasisBy n fs below IsLeading bs
   pub tails : HasReducedTails bs
@@ -67,7 +67,7 @@ pub record IsGroebnerBasis (n : ℕ) (fs : List Terms) (w : List ℕ) (bs : List
   pub positive : IsPositive n w
   pub basis : IsGroebnerBasisBy n fs (lighter w) (IsHeaviest w) bs
 
--- the reduced one
+-- the reduced Gröbner basis for the positive weight w
 pub record IsReducedBasis (n : ℕ) (fs : List Terms) (w : List ℕ) (bs : List MarkedPolynomial) : Type 0 where
   pub positive : IsPositive n w
   pub reduced : IsReducedBy n fs (lighter w) (IsHeaviest w) bs
@@ -78,7 +78,7 @@ pub record IsReducedBasis (n : ℕ) (fs : List Terms) (w : List ℕ) (bs : List 
 abbrev pub IsGroebnerBasisFor : ℕ → List Terms → (Exponents → Exponents → Type 0) → List MarkedPolynomial → Type 0
 IsGroebnerBasisFor n fs below bs = IsGroebnerBasisBy n fs below (IsGreatest below) bs
 
--- the reduced one
+-- the reduced Gröbner basis for the order, marked at the greatest monomials
 abbrev pub IsReducedBasisFor : ℕ → List Terms → (Exponents → Exponents → Type 0) → List MarkedPolynomial → Type 0
 IsReducedBasisFor n fs below bs = IsReducedBy n fs below (IsGreatest below) bs
 
@@ -96,7 +96,7 @@ pub record AreSameBasis (bs cs : List MarkedPolynomial) : Type 0 where
 
 -- ---- bases as a program keeps them
 
--- in n variables, with terms that descend in deglex and count
+-- a marked polynomial in n variables, whose terms descend in deglex and have nonzero coefficients
 pub record IsCanonical (n : ℕ) (b : MarkedPolynomial) : Type 0 where
   pub variables : HasVariables n b.poly
   pub descending : IsDescending b.poly
@@ -107,7 +107,7 @@ abbrev pub HaveAscendingMarks : List MarkedPolynomial → Type 0
 HaveAscendingMarks [] = Unit {0}
 HaveAscendingMarks (b ∷ bs) = Each (λ (c : MarkedPolynomial). IsLexBelow b.head c.head) bs × HaveAscendingMarks bs
 
--- each member is kept so, and the marks ascend
+-- a basis as a program keeps it: each polynomial in the form of `IsCanonical`, and the marks ascend by lex
 pub record AreArranged (n : ℕ) (bs : List MarkedPolynomial) : Type 0 where
   pub canonical : (b : MarkedPolynomial) → Contains bs b → IsCanonical n b
   pub ascending : HaveAscendingMarks bs

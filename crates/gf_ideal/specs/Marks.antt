@@ -14,7 +14,7 @@ pub record IsMarked (below : Exponents → Exponents → Type 0) (b : MarkedPoly
   pub monic : coefficient b.poly b.head ≡ one_ℚ
   pub tail : (x : Exponents) → HasMonomial b.poly x → (same x b.head ≡ true) ⊎ below x b.head
 
--- so is each member
+-- each polynomial is monic, and its other monomials are below the marked one
 abbrev pub AreMarked : (Exponents → Exponents → Type 0) → List MarkedPolynomial → Type 0
 AreMarked below bs = (b : MarkedPolynomial) → Contains bs b → IsMarked below b
 

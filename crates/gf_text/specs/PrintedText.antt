@@ -88,11 +88,11 @@ fraction_text c = leading_sign c ++ size_text c
 abbrev pub inner_sign : Fraction → List ℕ
 inner_sign c = if is_below_zero c.num then 45 ∷ [] else 43 ∷ []
 
--- the first term of a polynomial, and a later one
+-- the first term of a polynomial, with a minus or without a sign
 abbrev pub first_text : List (List ℕ) → Fraction → List ℕ → List ℕ
 first_text names c es = leading_sign c ++ unsigned_text names c es
 
--- a term behind another: its sign is always written
+-- a term after another: its sign is always written
 abbrev pub later_text : List (List ℕ) → Fraction → List ℕ → List ℕ
 later_text names c es = inner_sign c ++ unsigned_text names c es
 
