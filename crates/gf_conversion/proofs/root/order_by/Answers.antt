@@ -1,6 +1,6 @@
 use Rattle.std.proofs.Common.{pos, arith}
 use Rattle.std.proofs.lemmas.Int.{ints}
-use Rattle.gf_tree.proofs.root.order_by.Goals as goal
+use Rattle.gf_conversion.proofs.root.order_by.Goals as goal
 
 -- no entry is negative
 pub unreachable-requires : goal.unreachable-requires

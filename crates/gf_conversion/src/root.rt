@@ -1,4 +1,4 @@
-//! The root of the tree, from generators.
+//! The root of the tree of the bases in a region, from generators.
 ghost use Rattle.std.specs.Prelude.{◌≡◌, ◌<◌, ◌^◌, ◌<ℤ◌, pos, length, All, IfOk, IfErr};
 ghost use Rattle.gf_exponents.specs.Orders.{gains};
 ghost use Rattle.gf_exponents.specs.SixOrders.{MonomialOrder};
@@ -9,7 +9,8 @@ ghost use Rattle.gf_buchberger.specs.Jobs.{HaveRingVariables};
 ghost use Rattle.gf_reverse.specs.Upward.{IsNodeIn, IsNode};
 ghost use Rattle.gf_tree.specs.Ideals.{ideal_within};
 
-use gf_buchberger::{BasisError, basis};
+use crate::several_ways::basis_by_several_ways;
+use gf_buchberger::BasisError;
 use gf_cone::Region;
 use gf_order::Order;
 use gf_poly::{MarkedSet, Poly};
@@ -30,13 +31,14 @@ fn order_by(weight: IntVec) -> Order
     }
 }
 
-/// The basis of an ideal by the root of a region and then lex: the root of the tree of the ideal's bases in the region.
+/// The reduced Gröbner basis of an ideal for the root of a region, ties broken by lex: the root of the tree of the ideal's bases in the region.
 ///
-/// A run of Buchberger's algorithm works it out, and may settle `pairs` pairs.
+/// The polynomials of `set` generate the ideal, in `n` variables, and the region's root has an entry for each. It is computed by
+/// `basis_by_several_ways`, whose runs and flips may each settle `pairs` pairs.
 ///
 /// # Errors
 ///
-/// Those of `basis` of `gf_buchberger` by this order; `Memory` may come at any time.
+/// Those of `basis_by_several_ways` for this order; `Memory` may come at any time.
 pub fn root_in(
     alloc: Global,
     n: u32,
@@ -56,5 +58,5 @@ pub fn root_in(
         return Err(BasisError::Memory);
     };
     let order = order_by(root);
-    basis(alloc, n, set, &order, pairs)
+    basis_by_several_ways(alloc, n, set, &order, pairs)
 }
