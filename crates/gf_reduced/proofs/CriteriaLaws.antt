@@ -70,7 +70,8 @@ divided_on x y z d e = record {
 }
 
 -- where an earlier mark divides that of the member at i, each pair of it with a later member is excused
-pub redundant_passed : (bs : List MarkedPolynomial) (i : ℕ) (b : MarkedPolynomial) (x : Exponents) → IsAt bs i b → x ≡ b.head → IsDividedBefore bs i x → ArePassedFrom bs i
+pub redundant_passed : (bs : List MarkedPolynomial) (i : ℕ) (b : MarkedPolynomial) (x : Exponents) → IsAt bs i b → x ≡ b.head → IsDividedBefore bs i x →
+    ArePassedFrom bs i
 redundant_passed bs i b x p e d j l h =
     let c : MarkedPolynomial = get_or bs j b in
     let m : Exponents = join b.head c.head in
