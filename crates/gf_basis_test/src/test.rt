@@ -12,8 +12,8 @@ ghost use Rattle.gf_basis_test.specs.Limits.{IsTestWithinLimits, HasNoMemory};
 use crate::bases::at_bases;
 use crate::error::BasisTestError;
 use crate::verdict::Verdict;
-use gf_buchberger::basis;
 use gf_cone::Region;
+use gf_conversion::basis_by_several_ways;
 use gf_gordan::gordans_alternative;
 use gf_order::Order;
 use gf_poly::{Poly, ROOM};
@@ -49,7 +49,7 @@ fn tested<R: Threads + Sync>(
     are_in(n, set);
     let fan = prevariety(rt, alloc, n, set)?;
     let region = Region::positive(alloc, n)?;
-    let start = basis(alloc, n, set, &Order::deglex(), pairs)?;
+    let start = basis_by_several_ways(alloc, n, set, &Order::deglex(), pairs)?;
     at_bases(alloc, start, &region, &fan, pairs)
 }
 

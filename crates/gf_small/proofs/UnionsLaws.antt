@@ -1,44 +1,15 @@
 -- The union of sets, polynomial by polynomial.
--- To cite: same_terms, other_terms, other_length, terms_exact, nothing_exact, equal_at, none_equal, passed, SeenSoFar and
--- its steps, UnitedSoFar and its steps.
-use Rattle.std.specs.Prelude.{◌≡◌, ◌↔◌, ℕ, zero, suc, ◌+◌, ◌<◌, ◌≤◌, Bool, true, IsTrue, List, [], ◌∷◌, ◌++◌, length, take, get_or, flat_map}
-use Rattle.std.proofs.Common.{arith, refl, sym, ap, subst, ◌∙◌, append_assoc, append-nil}
+-- To cite: SeenSoFar and its steps, UnitedSoFar and its steps, set_at, set_inside, in_set.
+use Rattle.std.specs.Prelude.{◌≡◌, ℕ, zero, suc, ◌+◌, ◌<◌, List, [], ◌∷◌, ◌++◌, length, take, get_or, flat_map}
+use Rattle.std.proofs.Common.{arith, sym, ap, subst, ◌∙◌, append_assoc, append-nil}
 use Rattle.std.specs.Prelude.{Vec}
 use Rattle.std.specs.Global.{Global}
-use Rattle.std.proofs.lemmas.List.{take_more, take_all, length-map}
-use Rattle.std.specs.Prelude.{◌==◌}
-use Rattle.std.proofs.lemmas.Slice.Eq.{slice_eq-Decides}
-use Rattle.std.proofs.lemmas.Bool.Decides.{Decides-eqb}
-use lib.Pointwise.{pointwise}
-use lib.Dec.{eqb}
-use Rattle.gf_frac.specs.Fraction.{Fraction}
-use Rattle.gf_frac.specs.Equality.{fraction_eq}
-use Rattle.gf_frac.proofs.FractionLaws.{Decides-fraction_eq}
-use Rattle.gf_exponents.proofs.ExponentsLaws.{eq_by}
-use Rattle.gf_exponents.specs.Exponents.{Exponents}
-use Rattle.gf_poly.specs.declared.Term.{Term}
-use Rattle.gf_poly.specs.Polynomial.{Terms, coefficient, SamePolynomial, IsDescending, HasVariables}
-use Rattle.gf_poly.proofs.CoefficientLaws.{descending_unique}
+use Rattle.std.proofs.lemmas.List.{take_more, length-map}
 use Rattle.gf_text.specs.declared.written.Written.{Written}
 use Rattle.gf_text.specs.Sets.{AreIn}
 use Rattle.gf_text.specs.SetLists.{AreAllIn, sets_in}
 use Rattle.gf_small.specs.Unions.{IsAmong, IsNew, AreFirstSeen, IsUnion}
 use Rattle.gf_small.proofs.WrittenLaws.{AreIn-push, in_read}
-
--- ---- lists of terms
-
-pub same_to_end : (f g : Terms) (i : ℕ) → length f ≡ length g → length f ≤ i → take i f ≡ take i g → f ≡ g
-same_to_end f g i e l h = sym (take_all i f l) ∙ h ∙ take_all i g (omega arith)
-
--- ---- polynomials
-
--- polynomials in n variables are equal exactly where their terms are
-pub terms_exact : (n : ℕ) (f g : Terms) (b : Bool) → HasVariables n f → HasVariables n g → IsDescending f → IsDescending g → IsTrue b ↔ (f ≡ g) → IsTrue b ↔ SamePolynomial f g
-terms_exact n f g b v w d e h = (λ t x. ap (λ (z : Terms). coefficient z x) (h.0 t), λ s. h.1 (descending_unique n f g v w d e s))
-
--- whether a list of terms is empty
-pub empty_exact : (n : ℕ) (f : Terms) (b : Bool) → HasVariables n f → IsDescending f → IsTrue b ↔ (f ≡ []) → IsTrue b ↔ SamePolynomial f []
-empty_exact n f b v d h = terms_exact n f [] b v tt d tt h
 
 -- ---- the polynomials of a set
 
@@ -88,24 +59,7 @@ united-more sets kept next s i l e add in_n h = record {
   variables = λ n a. in_n n (h.variables n a) (subst (AreIn n) (sym e) (set_in n sets i s a l));
 }
 
--- ---- tests
-
-pub term_exact : (s t : Term) (x y : Exponents) (b : Bool) → x ≡ s.mono → y ≡ t.mono → b ≡ pointwise eqb x y → true ≡ fraction_eq s.coef t.coef → IsTrue b ↔ (s ≡ t)
-term_exact s t x y b ex ey e q = (
-  λ h. ap (λ (c : Fraction). record { coef = c; mono = s.mono }) ((Decides-fraction_eq s.coef t.coef).0 (sym q)) ∙ ap (λ (m : Exponents). record { coef = t.coef; mono = m }) (sym ex ∙ (slice_eq-Decides Decides-eqb x y (pointwise eqb x y) refl).0 (sym e ∙ h) ∙ ey),
-  λ p. e ∙ (slice_eq-Decides Decides-eqb x y (pointwise eqb x y) refl).1 (ex ∙ ap (λ (z : Term). z.mono) p ∙ sym ey),
-)
-
-pub empty_test : (n : ℕ) (f : Terms) (b : Bool) → HasVariables n f → IsDescending f → b ≡ (length f == 0) → IsTrue b ↔ SamePolynomial f []
-empty_test n f b v d e = empty_exact n f b v d (by f e)
-  where
-    by : (f : Terms) → b ≡ (length f == 0) → IsTrue b ↔ (f ≡ [])
-    by [] q = (λ _. refl, λ _. q)
-    by (t ∷ f) q = (λ h. absurd (omega (arith, eq_by (length (t ∷ f)) 0 (sym q ∙ h))), λ h. absurd (cc))
-
--- equal polynomials the other way round
-pub turned : (b : Bool) (f g : Terms) → IsTrue b ↔ SamePolynomial f g → IsTrue b ↔ SamePolynomial g f
-turned b f g h = (λ t x. sym (h.0 t x), λ s. h.1 (λ x. sym (s x)))
+-- ---- sets at their places
 
 -- a set at its place
 pub set_at : (vs : List (Vec Written Global)) (i : ℕ) (v : Vec Written Global) → i < length vs → v ≡ get_or vs i v → v.items ≡ get_or (sets_in vs) i v.items

@@ -1,83 +1,65 @@
 //! The union of sets of polynomials.
-ghost use Rattle.std.specs.Prelude.{◌≡◌, ◌↔◌, ◌++◌, [], ℕ, List, IfOk, OnOk, IsTrue, true, false};
-ghost use Rattle.gf_poly.specs.Polynomial.{SamePolynomial, IsDescending, HasVariables};
+ghost use Rattle.std.specs.Prelude.{◌≡◌, ◌++◌, ◌∷◌, [], ℕ, List, All, IfOk, OnOk};
+ghost use Rattle.gf_int.specs.Range.{InRange};
+ghost use Rattle.gf_poly.specs.Polynomial.{IsDescending};
 ghost use Rattle.gf_text.specs.declared.written.Written.{Written as AnyWritten};
-ghost use Rattle.gf_text.specs.Sets.{IsIn, AreIn};
+ghost use Rattle.gf_text.specs.Sets.{AreIn};
 ghost use Rattle.gf_text.specs.SetLists.{sets_in, AreAllIn};
-ghost use Rattle.gf_small.specs.Unions.{terms_of, AreEqual, IsAmong, IsNew, AreFirstSeen, IsUnion, HaveOneLength};
+ghost use Rattle.gf_small.specs.Unions.{terms_of, AreFirstSeen, IsUnion, HaveOneLength};
+ghost use Rattle.gf_small.specs.Keys.{term_key, terms_key, AreKeyed};
 
 use gf_poly::Term;
 use gf_text::Written;
+use gf_vec::IntVec;
+use indexmap::IndexSet;
 use std::alloc::{AllocError, Global};
 
-/// Whether the two terms are the same.
-fn is_same(s: &Term, t: &Term) -> bool
-    ensures { IsTrue result ↔ (s.now ≡ t.now) }
+/// Adds a number to a key.
+fn push_number(key: &mut Vec<i128>, number: i128) -> Result<(), AllocError>
+    requires range { All InRange key.old.items }
+    requires number { InRange number }
+    ensures items { OnOk result (key.new.items ≡ key.old.items ++ number ∷ []) }
+    ensures range { OnOk result (All InRange key.new.items) }
 {
-    s.coef == t.coef && s.mono.exponents() == t.mono.exponents()
+    key.push(number)?;
+    Ok(())
 }
 
-/// Whether these are the same terms in the same order.
-fn are_same(f: &[Term], g: &[Term]) -> bool
-    ensures { IsTrue result ↔ (f.now ≡ g.now) }
+/// Adds the numbers of a term to a key: the numerator and the denominator of its coefficient, and its exponents.
+fn push_term(key: &mut Vec<i128>, t: &Term) -> Result<(), AllocError>
+    requires { All InRange key.old.items }
+    ensures items { OnOk result (key.new.items ≡ key.old.items ++ term_key t.now) }
+    ensures range { OnOk result (All InRange key.new.items) }
 {
-    if f.len() != g.len() {
-        return false;
+    push_number(key, t.coef.numer())?;
+    push_number(key, t.coef.denom())?;
+    let exponents = t.mono.exponents();
+    'exponents: for i in 0..exponents.len() {
+        push_number(key, i128::from(exponents[i]))?;
     }
+    Ok(())
+}
+
+/// The numbers of the terms, one term after another: the key of a polynomial.
+fn terms_key(alloc: Global, f: &[Term]) -> Result<IntVec, AllocError>
+    ensures { IfOk result (λ k. k ≡ terms_key f.now) }
+{
+    let mut key = Vec::new(alloc);
     'terms: for i in 0..f.len() {
-        if !is_same(&f[i], &g[i]) {
-            return false;
-        }
+        push_term(&mut key, &f[i])?;
     }
-    true
+    Ok(IntVec::from_vec(key))
 }
 
-/// Whether the polynomial has these terms, which descend.
-fn has_terms(v: &Written, f: &[Term]) -> bool
-    requires variables { (n : ℕ) × (IsIn n v.now × HasVariables n f.now) }
-    requires descending { IsDescending f.now }
-    ensures { IsTrue result ↔ SamePolynomial (terms_of v.now) f.now }
-{
-    match v {
-        Written::Zero => f.is_empty(),
-        Written::Nonzero(b) => are_same(b.poly().terms(), f),
-    }
-}
-
-/// Whether the polynomial is zero.
-fn is_zero(v: &Written) -> bool
-    requires { (n : ℕ) × IsIn n v.now }
-    ensures { IsTrue result ↔ SamePolynomial (terms_of v.now) [] }
-{
-    match v {
-        Written::Zero => true,
-        Written::Nonzero(b) => b.poly().terms().is_empty(),
-    }
-}
-
-/// Whether the two are equal as polynomials, wherever they are marked.
-fn are_equal(v: &Written, w: &Written) -> bool
-    requires { (n : ℕ) × (IsIn n v.now × IsIn n w.now) }
-    ensures { IsTrue result ↔ AreEqual v.now w.now }
+/// The key of a polynomial that may be zero. Two in the same number of variables are equal, wherever they are marked, if and only if their keys are.
+fn key(alloc: Global, w: &Written) -> Result<IntVec, AllocError>
+    ensures value { IfOk result (λ k. k ≡ terms_key (terms_of w.now)) }
+    ensures descending { IfOk result (λ _. IsDescending (terms_of w.now)) }
 {
     match w {
-        Written::Zero => is_zero(v),
-        Written::Nonzero(b) => has_terms(v, b.poly().terms()),
+        Written::Zero => terms_key(alloc, &[]),
+        Written::Nonzero(b) => terms_key(alloc, b.poly().terms()),
     }
-}
-
-/// Whether one of these is equal to the polynomial.
-fn is_among(w: &Written, kept: &[Written]) -> bool
-    requires { (n : ℕ) × (IsIn n w.now × AreIn n kept.now) }
-    ensures among { result ≡ true → IsAmong w.now kept.now }
-    ensures new { result ≡ false → IsNew w.now kept.now }
-{
-    'kept: for i in 0..kept.len() {
-        if are_equal(&kept[i], w) {
-            return true;
-        }
-    }
-    false
 }
 
 /// The same polynomial, marked alike.
@@ -93,15 +75,22 @@ fn copied(w: &Written) -> Result<Written, AllocError>
     }
 }
 
-/// Adds each polynomial of a set that isn't among those that are kept already.
-fn add_new(kept: &mut Vec<Written>, set: &[Written]) -> Result<(), AllocError>
-    requires { (n : ℕ) × (AreIn n kept.old.items × AreIn n set.now) }
+/// Adds each polynomial of a set that isn't among those that are kept already, whose keys are at hand.
+fn add_new(
+    alloc: Global,
+    kept: &mut Vec<Written>,
+    keys: &mut IndexSet<IntVec>,
+    set: &[Written],
+) -> Result<(), AllocError>
+    requires variables { (n : ℕ) × (AreIn n kept.old.items × AreIn n set.now) }
+    requires keyed { AreKeyed kept.old.items keys.old.keys }
     ensures first_seen { OnOk result ((fs : List AnyWritten) → AreFirstSeen fs kept.old.items → AreFirstSeen (fs ++ set.now) kept.new.items) }
     ensures variables { OnOk result ((n : ℕ) → AreIn n kept.old.items → AreIn n set.now → AreIn n kept.new.items) }
+    ensures keyed { OnOk result (AreKeyed kept.new.items keys.new.keys) }
 {
     'polynomials: for i in 0..set.len() {
         let w = &set[i];
-        if !is_among(w, kept.as_slice()) {
+        if keys.insert(key(alloc, w)?)? {
             kept.push(copied(w)?)?;
         }
     }
@@ -120,8 +109,9 @@ pub fn union(alloc: Global, sets: &[Vec<Written>]) -> Result<Vec<Written>, Alloc
     ensures variables { IfOk result (λ kept. (n : ℕ) → AreAllIn n (sets_in sets.now) → AreIn n kept.items) }
 {
     let mut kept = Vec::new(alloc);
+    let mut keys = IndexSet::new(alloc);
     'sets: for i in 0..sets.len() {
-        add_new(&mut kept, sets[i].as_slice())?;
+        add_new(alloc, &mut kept, &mut keys, sets[i].as_slice())?;
     }
     Ok(kept)
 }

@@ -19,8 +19,8 @@ ghost use Rattle.gf_frame.specs.Runs.{IsDoneOn, IsStoppedOn};
 ghost use Rattle.gfan_common.specs.Performed.{IsPerformedFor, IsStoppedFor};
 
 use crate::certificates::push_certified;
-use gf_buchberger::basis;
 use gf_cone::Region;
+use gf_conversion::basis_by_several_ways;
 use gf_front::Refusal;
 use gf_items::{RingAndSet, ring_and_set};
 use gf_order::Order;
@@ -178,7 +178,7 @@ pub(crate) fn first_basis(
     ensures told { IfErr result IsUnnamed }
 {
     let generators = polynomials(alloc, set)?;
-    match basis(alloc, ring.len(), &generators, &Order::deglex(), pairs) {
+    match basis_by_several_ways(alloc, ring.len(), &generators, &Order::deglex(), pairs) {
         Ok(root) => Ok(root),
         Err(error) => Err(Refused::from(error)),
     }

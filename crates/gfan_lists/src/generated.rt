@@ -18,7 +18,7 @@ ghost use Rattle.gfan_lists.specs.Generated.{one_where, vector_line, summary_tex
 ghost use Rattle.gfan_lists.specs.Summaries.{IsOfNoBasis, IsWideSum, IsWithBasis, IsUnsummed, IsSummary};
 
 use crate::bases::waves_of;
-use gf_buchberger::basis;
+use gf_conversion::basis_by_several_ways;
 use gf_front::{GeneratedOptions, Refusal};
 use gf_generated::generators;
 use gf_order::Order;
@@ -56,7 +56,7 @@ fn first_basis(alloc: Global, number: u64, pairs: u64) -> Result<MarkedSet, Refu
     ensures told { IfErr result IsUnnamed }
 {
     let generators = generators(alloc, number)?;
-    match basis(alloc, 4, &generators, &Order::deglex(), pairs) {
+    match basis_by_several_ways(alloc, 4, &generators, &Order::deglex(), pairs) {
         Ok(root) => Ok(root),
         Err(error) => Err(Refused::from(error)),
     }

@@ -17,11 +17,11 @@ use Rattle.gf_basis_test.specs.Refusals.{IsVerdictRefusal}
 use Rattle.gf_basis_test.proofs.EndLaws.{first_of, refused_at_bases}
 use Rattle.gf_basis_test.proofs.test.tested.Goals as goal
 
-pub basis-requires-clause-entries : goal.basis-requires-clause-entries
-basis-requires-clause-entries g c = subst (HasEntries c.args.n) (sym c.deglex.ensures) tt
+pub basis_by_several_ways-requires-clause-entries : goal.basis_by_several_ways-requires-clause-entries
+basis_by_several_ways-requires-clause-entries g c = subst (HasEntries c.args.n) (sym c.deglex.ensures) tt
 
-pub basis-requires-clause-suited : goal.basis-requires-clause-suited
-basis-requires-clause-suited g c = subst (λ (o : MonomialOrder). IsSuited o c.args.n c.args.set.now) (sym c.deglex.ensures) (orders_that_suit.deglex c.args.n c.args.set.now c.requires.variables)
+pub basis_by_several_ways-requires-clause-suited : goal.basis_by_several_ways-requires-clause-suited
+basis_by_several_ways-requires-clause-suited g c = subst (λ (o : MonomialOrder). IsSuited o c.args.n c.args.set.now) (sym c.deglex.ensures) (orders_that_suit.deglex c.args.n c.args.set.now c.requires.variables)
 
 pub returns-in_err-fan-clause-err : goal.returns-in_err-fan-clause-err
 returns-in_err-fan-clause-err g c =
