@@ -36,8 +36,8 @@ def version():
     return (ROOT / "VERSION").read_text().strip()
 
 
-def sum_of_sources():
-    return subprocess.run([ROOT / "docs" / "sum-sources", "gfan_main"], check=True, capture_output=True, text=True).stdout.strip()
+def sum_of_sources(checkout=ROOT):
+    return subprocess.run([ROOT / "docs" / "sum-sources", "--in", checkout, "gfan_main"], check=True, capture_output=True, text=True).stdout.strip()
 
 
 def kit():
