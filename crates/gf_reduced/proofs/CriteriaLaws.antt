@@ -1,15 +1,16 @@
 -- Pairs that a criterion settles, or whose S-polynomial reduces to zero, are settled, so that they make a Gröbner basis.
--- To cite: coprime_by_test, excused_coprime, excused_divided, divided_before, marks_long, multiple_variables, PassedBefore,
+-- To cite: coprime_by_test, excused_coprime, excused_divided, divided_before, redundant_passed, marks_long, multiple_variables, PassedBefore,
 -- AllPassedBefore, all_passed_next, vanish_passed, passed_groebner. The rest are steps.
-use Rattle.std.specs.Prelude.{◌≡◌, ◌⊎◌, ℕ, zero, suc, ◌+◌, ◌<◌, ◌≤◌, Bool, List, [], length, max, IsTrue, Contains, map}
+use Rattle.std.specs.Prelude.{◌≡◌, ◌⊎◌, ℕ, zero, suc, ◌+◌, ◌<◌, ◌≤◌, Bool, List, [], length, max, get_or, IsTrue, Contains, map}
 use Rattle.std.proofs.Common.{arith, refl, sym, ap, ◌∙◌, subst, inl, inr, eqb}
 use Rattle.std.proofs.lemmas.Bool.{cases_lt}
+use Rattle.std.proofs.lemmas.List.{get_or_default}
 use Rattle.std.proofs.lemmas.Slice.Eq.{slice_eq-Decides}
 use Rattle.std.proofs.lemmas.Bool.Decides.{Decides-eqb}
 use lib.Pointwise.{pointwise}
 use Rattle.gf_exponents.specs.Exponents.{Exponents, entry, plus, join, Divides, AreCoprime}
 use Rattle.gf_exponents.specs.Orders.{lighter}
-use Rattle.gf_exponents.proofs.ExponentsLaws.{entry-plus, entry-join}
+use Rattle.gf_exponents.proofs.ExponentsLaws.{entry-plus, entry-join, same_by_entries, entries_same}
 use Rattle.gf_exponents.proofs.OrderLaws.{lighter-strict}
 use Rattle.gf_poly.specs.Marking.{MarkedPolynomial, HaveVariables, HasMarkedTerm, polys}
 use Rattle.gf_ideal.specs.Membership.{AreInVariables}
@@ -19,7 +20,7 @@ use Rattle.gf_ideal.proofs.CriteriaLaws.{pair_by_steps, pair_by_product, pair_by
 use Rattle.gf_ideal.proofs.LawsOfBasesHold.{buchbergers_criterion}
 use Rattle.gf_ideal.proofs.NormalFormLaws.{normal_form-reached}
 use Rattle.gf_division.proofs.ReducerLaws.{members_equal, member_contained, member_length}
-use Rattle.gf_division.proofs.SPolynomialLaws.{join_length}
+use Rattle.gf_division.proofs.SPolynomialLaws.{join_length, divides_left}
 use Rattle.gf_reduced.specs.Forms.{monic_of}
 use Rattle.gf_reduced.specs.Markings.{IsMarkedGroebnerBasis}
 use Rattle.gf_reduced.specs.Pairs.{Vanishes, DoAllVanish}
@@ -53,6 +54,40 @@ excused_divided bs i j b c x y m p q e f g d = record { first = b; second = c; a
 
 pub divided_before : (bs : List MarkedPolynomial) (i k : ℕ) (b : MarkedPolynomial) (h x : Exponents) → IsAt bs k b → k < i → h ≡ b.head → Divides h x → IsDividedBefore bs i x
 divided_before bs i k b h x p l e d = record { place = k; before = l; member = b; at = p; divides = subst (λ (z : Exponents). Divides z x) e d }
+
+divided_on : (x y z : Exponents) → Divides x y → Divides y z → Divides x z
+divided_on x y z d e = record {
+  rest = plus e.rest d.rest;
+  product = same_by_entries z (plus (plus e.rest d.rest) x) (λ i. omega (
+    arith,
+    entries_same z (plus e.rest y) e.product i,
+    entry-plus e.rest y i,
+    entries_same y (plus d.rest x) d.product i,
+    entry-plus d.rest x i,
+    entry-plus (plus e.rest d.rest) x i,
+    entry-plus e.rest d.rest i,
+  ));
+}
+
+-- where an earlier mark divides that of the member at i, each pair of it with a later member is excused
+pub redundant_passed : (bs : List MarkedPolynomial) (i : ℕ) (b : MarkedPolynomial) (x : Exponents) → IsAt bs i b → x ≡ b.head → IsDividedBefore bs i x →
+    ArePassedFrom bs i
+redundant_passed bs i b x p e d j l h =
+    let c : MarkedPolynomial = get_or bs j b in
+    let m : Exponents = join b.head c.head in
+    inl (record {
+      first = b;
+      second = c;
+      at_first = p;
+      at_second = record { within = h; is = get_or_default bs j c b h };
+      criterion = inr (record {
+        place = d.place;
+        before = d.before;
+        member = d.member;
+        at = d.at;
+        divides = divided_on d.member.head b.head m (subst (Divides d.member.head) e d.divides) (divides_left b.head c.head m refl);
+      });
+    })
 
 -- ---- variables
 

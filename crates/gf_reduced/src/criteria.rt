@@ -78,6 +78,8 @@ fn is_passed(
 }
 
 /// Whether so it is for the member at `i` and each later one.
+///
+/// Where the mark of an earlier member divides that of this one, it divides the least common multiple of each such pair, and none is looked at.
 fn are_passed_from(
     alloc: Global,
     by: &[Marked],
@@ -91,6 +93,10 @@ fn are_passed_from(
     ensures no { IfOk result (λ r. r ≡ false → HasFailing by.now) }
     ensures cause { IfErr result (IsPairsRefusal by.now) }
 {
+    let member = &by[i];
+    if is_divided_before(by, i, member.head()) {
+        return Ok(true);
+    }
     'later: for j in i + 1..by.len() {
         if !is_passed(alloc, by, i, j, guide)? {
             return Ok(false);

@@ -1,9 +1,9 @@
-"""What docs/make-release, docs/check-release and docs/make-package share: the version, the released program, and how a program is compared with it.
+"""What scripts/make-release, scripts/check-release and scripts/make-package share: the version, the released program, and how a program is compared with it.
 
 The released program is release/gfan-x86_64-linux.gz. Beside it, release/gfan-x86_64-linux.txt has a line `NAME VALUE` for each of
 
 - `version`: that of the repository, as VERSION has it;
-- `sources`: the sum of the sources that it is built from, as `docs/sum-sources gfan_main` prints it;
+- `sources`: the sum of the sources that it is built from, as `scripts/sum-sources gfan_main` prints it;
 - `kit`: the toolchain that proved and built it, as `rt version` prints it;
 - `sha256`: the SHA-256 of the program, unpacked;
 - `glibc`: the version of glibc from which on the program runs.
@@ -37,7 +37,7 @@ def version():
 
 
 def sum_of_sources(checkout=ROOT):
-    return subprocess.run([ROOT / "docs" / "sum-sources", "--in", checkout, "gfan_main"], check=True, capture_output=True, text=True).stdout.strip()
+    return subprocess.run([ROOT / "scripts" / "sum-sources", "--in", checkout, "gfan_main"], check=True, capture_output=True, text=True).stdout.strip()
 
 
 def kit():

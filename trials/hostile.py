@@ -1,4 +1,4 @@
-"""What bench/fuzz, bench/refused-growth and bench/outside share: the commands, a run with its time and memory, what a run may end with, and small inputs.
+"""What trials/fuzz, trials/refused-growth and trials/outside share: the commands, a run with its time and memory, what a run may end with, and small inputs.
 
 A run that ends as the pages say it may is no finding. `faults_of` lists what else there is: a signal, a status or a line that no page has, a place
 behind the text, output that shouldn't stand, or one that ends inside a piece. A new command is a row of COMMANDS and one of SMALL, a new option a word in

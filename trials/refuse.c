@@ -1,4 +1,4 @@
-/* A library to be loaded before the C library: one call of a kind, or each from it on, fails. bench/refused-growth builds and uses it.
+/* A library to be loaded before the C library: one call of a kind, or each from it on, fails. trials/refused-growth builds and uses it.
  *
  * REFUSE_KIND   grow (malloc, calloc, realloc), read, write, open or thread
  * REFUSE_ON     there where all later calls fail too
