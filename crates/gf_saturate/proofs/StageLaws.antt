@@ -36,7 +36,7 @@ use Rattle.gf_saturate.proofs.SparedLaws.{adds_nothing, left_over_spared}
 
 -- ---- the variable as it is kept
 
-variable-same : (n k : ℕ) → k < n → same (variable_at n k) (next_variable k) ≡ true
+pub variable-same : (n k : ℕ) → k < n → same (variable_at n k) (next_variable k) ≡ true
 variable-same n k l = same_by_entries (variable_at n k) (next_variable k) (λ i. at n k i l)
   where
     at : (n k i : ℕ) → k < n → entry (variable_at n k) i ≡ entry (next_variable k) i
@@ -78,7 +78,7 @@ step_spared n k j fs s l m v b none =
 
 -- ---- the basis by degree
 
-degree_members : (n : ℕ) (fs : List Terms) (s : MarkedPolynomials) → HaveRingVariables n fs → IsArrangedBasis MonomialOrder.deglex n fs s → (f : Terms) → IsMember n (polys s.items) f ↔ IsMember n fs f
+pub degree_members : (n : ℕ) (fs : List Terms) (s : MarkedPolynomials) → HaveRingVariables n fs → IsArrangedBasis MonomialOrder.deglex n fs s → (f : Terms) → IsMember n (polys s.items) f ↔ IsMember n fs f
 degree_members n fs s v b f = (λ m. member_of_basis n fs s.items f (ring_variables n fs v) basis m, λ m. basis_of_member n fs s.items f (ring_variables n fs v) basis m)
   where
     basis : IsBasis n fs s.items
@@ -98,7 +98,7 @@ degree_own n fs s v b = record {
     basis : IsBasis n fs s.items
     basis = deglex_basis n fs s.items b.reduced
 
-degree_reduced : (n : ℕ) (fs : List Terms) (s : MarkedPolynomials) → HaveRingVariables n fs → IsArrangedBasis MonomialOrder.deglex n fs s → IsReducedBasisFor n (polys s.items) IsDeglexBelow s.items
+pub degree_reduced : (n : ℕ) (fs : List Terms) (s : MarkedPolynomials) → HaveRingVariables n fs → IsArrangedBasis MonomialOrder.deglex n fs s → IsReducedBasisFor n (polys s.items) IsDeglexBelow s.items
 degree_reduced n fs s v b = record {
   basis = record {
     members = λ c k. (degree_members n fs s v b c.poly).1 (b.reduced.basis.members c k);

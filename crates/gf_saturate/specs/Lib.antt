@@ -1,3 +1,4 @@
 pub mod Widening  -- polynomials in one more variable, and in one less
 pub mod Marks  -- which variables occur in the marks of a basis
+pub mod Graded  -- grades, which variables are enough, bases and division
 pub mod Saturating  -- what a saturation is answered with, the sets on the way, refusals

@@ -1,11 +1,14 @@
 //! The saturation of an ideal by the product of all variables.
 //!
-//! Start at `saturate`: one variable after another is taken out by Rabinowitsch's trick and elimination, and at the end the
-//! reduced Gröbner basis by degree is made. What a saturation is stands in `gf_saturation` (`specs/Saturations.antt`), what is
-//! answered here in `specs/Saturating.antt`.
+//! Start at `saturate`. Where a positive weight makes the polynomials homogeneous, one variable after another is taken out by a basis whose
+//! members are divided; else, and where a run of this way is refused, by Rabinowitsch's trick and elimination. At the end the reduced Gröbner
+//! basis by degree is made. What a saturation is stands in `gf_saturation` (`specs/Saturations.antt`), what is answered here in
+//! `specs/Saturating.antt`.
 #![tactic(auto)]
 
 mod elimination;
+mod graded;
+mod grades;
 mod marks;
 mod narrowing;
 mod relation;

@@ -4,6 +4,7 @@ ghost use Rattle.gf_buchberger.specs.Bases.{IsWantOfMemory};
 ghost use Rattle.gf_buchberger.specs.Jobs.{HaveRingVariables};
 ghost use Rattle.gf_saturate.specs.Saturating.{IsOnTheWay, IsStage, IsSaturation, IsSaturateRefusal, AreStepsWithinLimits};
 
+use crate::graded::by_division;
 use crate::stages::{Stage, first_stage, step};
 use gf_buchberger::{BasisError, basis};
 use gf_order::Order;
@@ -60,14 +61,17 @@ fn by_degree(alloc: Global, n: u32, set: &[Poly], pairs: u64) -> Result<MarkedSe
 /// polynomials: of the ideal of the f of which some multiple by a power of that product is in theirs. `n` is at most 24, so that
 /// a monomial has room for one variable more.
 ///
-/// One variable x after another is taken out: with a new last variable t and `t*x - 1` among the generators a basis by the weight
-/// of t, then lex, is made, and its members without t generate the saturation by x. At the end the basis by deglex is made. A variable that
-/// occurs in no mark of the basis before, that of the polynomials by deglex at first, is left out: nothing is added by it. So is all
-/// the rest where 1 is reached. Each of these runs settles at most `pairs` pairs.
+/// Where a positive weight that makes the polynomials homogeneous is found, one variable x after another is taken out by a basis by twice
+/// this weight, less 1 at x, then revlex: its members are divided by all that their terms share. At the end the basis by deglex is made.
+///
+/// Else, and where one of these runs is refused, x is taken out so: with a new last variable t and `t*x - 1` among the generators a basis by
+/// the weight of t, then lex, is made, and its members without t generate the saturation by x. At the end the basis by deglex is made. A
+/// variable that occurs in no mark of the basis before, that of the polynomials by deglex at first, is left out: nothing is added by it. So
+/// is all the rest where 1 is reached. Each run of either way settles at most `pairs` pairs.
 ///
 /// # Errors
 ///
-/// As those of `basis` of `gf_buchberger`, each of one of these runs: `Overflow` and `Exponent` only at an operation that a run
+/// As those of `basis` of `gf_buchberger`, each of one of the runs of the second way: `Overflow` and `Exponent` only at an operation that a run
 /// of Buchberger's algorithm on one of these sets may have, and whose operands don't fit; `PairBudget` only where a run on one
 /// of them would have to settle more pairs. The first basis by deglex, which has at most
 /// 1000 pairs, is left out where it is refused.
@@ -78,5 +82,8 @@ pub fn saturate(alloc: Global, n: u32, set: &[Poly], pairs: u64) -> Result<Marke
     ensures err { IfErr result (IsSaturateRefusal n set.now pairs) }
     ensures complete { AreStepsWithinLimits n set.now pairs → IfErr result IsWantOfMemory }
 {
-    by_degree(alloc, n, set, pairs)
+    match by_division(alloc, n, set, pairs) {
+        Some(saturation) => Ok(saturation),
+        None => by_degree(alloc, n, set, pairs),
+    }
 }

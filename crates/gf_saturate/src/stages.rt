@@ -30,7 +30,7 @@ pub struct Stage {
 }
 
 /// Equal polynomials.
-fn copies(alloc: Global, set: &[Poly]) -> Result<Vec<Poly>, AllocError>
+pub(crate) fn copies(alloc: Global, set: &[Poly]) -> Result<Vec<Poly>, AllocError>
     ensures { IfOk result (λ all. all.items ≡ set.now) }
 {
     let mut all = Vec::with_capacity(alloc, set.len())?;
@@ -55,7 +55,7 @@ fn polys_of(alloc: Global, basis: &MarkedSet) -> Result<Vec<Poly>, AllocError>
 }
 
 /// The product of `n` variables.
-fn product(alloc: Global, n: u32) -> Mono
+pub(crate) fn product(alloc: Global, n: u32) -> Mono
     requires { n ≤ ROOM }
     ensures long { length result ≡ n }
     ensures all { (k : ℕ) → k < n → entry result k ≡ 1 }

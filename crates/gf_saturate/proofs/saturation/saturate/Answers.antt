@@ -1,5 +1,5 @@
 use Rattle.gf_saturate.proofs.StageLaws.{if_memory}
 use Rattle.gf_saturate.proofs.saturation.saturate.Goals as goal
 
-pub returns-clause-complete : goal.returns-clause-complete
-returns-clause-complete c = λ w. if_memory c.args.n c.args.pairs c.args.set.now c.by_degree.result w c.by_degree.ensures.err
+pub returns-in-None-clause-complete : goal.returns-in-None-clause-complete
+returns-in-None-clause-complete c = λ w. if_memory c.args.n c.args.pairs c.args.set.now c.by_degree.result w c.by_degree.ensures.err

@@ -1,0 +1,32 @@
+use Rattle.std.proofs.Common.{◌<◌, ◌≤◌, ℕ, List, arith, sym, subst, ◌∙◌}
+use Rattle.gf_exponents.specs.Exponents.{entry}
+use Rattle.gf_poly.specs.Polynomial.{Terms}
+use Rattle.gf_buchberger.specs.Jobs.{HaveRingVariables}
+use Rattle.gf_saturate.specs.Graded.{IsDividedStep}
+use Rattle.gf_saturate.proofs.GradedLaws.{at_start, skipped, stepped, finished}
+use Rattle.gf_saturate.proofs.graded.divided_by.Goals as goal
+
+pub variables-init : goal.variables-init
+variables-init c = at_start c.args.n c.args.set.now c.in-Ok.given.items c.args.left.now c.requires.variables c.requires.choice c.in-Ok.ensures
+
+pub exponent-times-requires : goal.exponent-times-requires
+exponent-times-requires c = subst (λ (m : ℕ). c.variables.k < m) (sym c.requires.choice.long) c.variables-test.true
+
+pub variables-preserved-then-times-eq0 : goal.variables-preserved-then-times-eq0
+variables-preserved-then-times-eq0 c =
+    skipped c.args.n c.args.set.now c.variables.polys.items c.args.left.now c.variables.k c.requires.choice (sym c.exponent-times.ensures ∙ c.if-times-eq0.true)
+    c.variables.invariant
+
+pub divided_step-requires-clause-variables : goal.divided_step-requires-clause-variables
+divided_step-requires-clause-variables c = subst (HaveRingVariables c.args.n) (sym c.deref.ensures.value) c.variables.invariant.ring
+
+pub variables-preserved : goal.variables-preserved
+variables-preserved c =
+    let some : 1 ≤ entry c.args.left.now c.variables.k = omega (arith, c.exponent-times.ensures) in
+    stepped c.args.n c.variables.k c.args.set.now c.variables.polys.items c.in-Some.next.items c.args.left.now c.variables-test.true c.requires.variables
+    c.requires.choice some c.variables.invariant
+    (subst (λ (gs : List Terms). IsDividedStep c.args.n c.variables.k gs c.in-Some.next.items) c.deref.ensures.value c.in-Some.ensures)
+
+pub returns : goal.returns
+returns c =
+    finished c.args.n c.variables.k c.args.set.now c.variables.polys.items c.args.left.now c.variables-test.false c.requires.choice c.variables.invariant

@@ -1,0 +1,213 @@
+//! Saturations by division: bases whose marks have least of a variable, and members without all that their terms share.
+//!
+//! Each function answers nothing where a run of Buchberger's algorithm or the allocator refuses, or where a member can't be divided as far as
+//! it has to be: then the saturation is worked out by inverses.
+ghost use Rattle.std.specs.Prelude.{◌≡◌, ◌<◌, ◌≤◌, ◌^◌, unsigned_abs, IfOk, IfSome, length};
+ghost use Rattle.gf_exponents.specs.Exponents.{entry};
+ghost use Rattle.gf_poly.specs.Polynomial.{HasVariables};
+ghost use Rattle.gf_order.specs.Weights.{AreBounded};
+ghost use Rattle.gf_buchberger.specs.Jobs.{HaveRingVariables};
+ghost use Rattle.gf_saturate.specs.Graded.{IsByWeights, IsWeightedBasis, IsDividedMember, AreToDivide, AreDividedMembers};
+ghost use Rattle.gf_saturate.specs.Graded.{IsDividedStep, IsChoice, GenerateSaturation};
+ghost use Rattle.gf_saturate.specs.Saturating.{IsSaturation};
+
+use crate::grades::grade_of;
+use crate::stages::{copies, product};
+use gf_buchberger::basis;
+use gf_dividing::{Factors, stripped};
+use gf_order::Order;
+use gf_poly::{Marked, MarkedSet, Mono, Poly, ROOM};
+use gf_vec::IntVec;
+use std::alloc::{AllocError, Global};
+
+/// Twice a weight, or 1 less.
+fn doubled(weight: u32, less: bool) -> u64
+    ensures { result < 2 ^ 33 }
+{
+    let twice = 2 * u64::from(weight);
+    if less && 0 < twice {
+        return twice - 1;
+    }
+    twice
+}
+
+/// Twice an entry, or 1 less; 0 where it is negative or has more than 32 bits.
+fn lowered_entry(entry: i128, less: bool) -> i128
+    ensures { unsigned_abs result ≤ 2 ^ 63 }
+{
+    match u32::try_from(entry) {
+        Ok(weight) => i128::from(doubled(weight, less)),
+        Err(_) => 0,
+    }
+}
+
+/// Twice each entry, and 1 less at place `k`.
+fn lowered(alloc: Global, k: u32, grade: &[i128]) -> Result<IntVec, AllocError>
+    ensures { IfOk result AreBounded }
+{
+    let mut all = Vec::with_capacity(alloc, grade.len())?;
+    'entries: for i in 0..grade.len() {
+        all.push(lowered_entry(grade[i], i == k as usize))?;
+    }
+    Ok(IntVec::from_vec(all))
+}
+
+/// The order by twice the grade, less 1 at place `k`, then revlex: of monomials of one grade that with less of this variable is greater.
+fn lowered_order(alloc: Global, n: u32, k: u32, grade: &[i128]) -> Option<Order>
+    ensures { IfSome result (IsByWeights n) }
+{
+    let Ok(weight) = lowered(alloc, k, grade) else {
+        return None;
+    };
+    let long = weight.as_slice().len();
+    if long != n as usize {
+        return None;
+    }
+    match Order::weighted_revlex(weight) {
+        Ok(order) => Some(order),
+        Err(_) => None,
+    }
+}
+
+/// The basis by this order.
+fn lowered_basis(
+    alloc: Global,
+    n: u32,
+    k: u32,
+    grade: &[i128],
+    set: &[Poly],
+    pairs: u64,
+) -> Option<MarkedSet>
+    requires { HaveRingVariables n set.now }
+    ensures { IfSome result (IsWeightedBasis n set.now) }
+{
+    let Some(order) = lowered_order(alloc, n, k, grade) else {
+        return None;
+    };
+    match basis(alloc, n, set, &order, pairs) {
+        Ok(found) => Some(found),
+        Err(_) => None,
+    }
+}
+
+/// The exponent of the variable at place `k`.
+fn exponent(x: &Mono, k: u32) -> u32
+    requires { k < length x.now }
+    ensures { result ≡ entry x.now k }
+{
+    x.exponents()[k as usize]
+}
+
+/// The member without all that its terms share, where that has as much of the variable at place `k` as the mark.
+fn divided_member(alloc: Global, n: u32, k: u32, b: &Marked) -> Option<Poly>
+    requires inside { k < n }
+    requires some { 0 < length b.now.poly }
+    requires variables { HasVariables n b.now.poly }
+    requires head { length b.now.head ≡ n }
+    ensures { IfSome result (IsDividedMember n k b.now) }
+{
+    let Ok(factors) = stripped(alloc, n, b.poly()) else {
+        return None;
+    };
+    let shared = exponent(&factors.by, k);
+    let marked = exponent(b.head(), k);
+    if shared < marked {
+        return None;
+    }
+    let Factors { rest, .. } = factors;
+    Some(rest)
+}
+
+/// All members so divided, where each may be.
+fn divided_members(
+    alloc: Global,
+    n: u32,
+    k: u32,
+    found: &MarkedSet,
+) -> Result<Option<Vec<Poly>>, AllocError>
+    requires inside { k < n }
+    requires members { AreToDivide n found.now.items }
+    ensures { IfOk result (λ o. IfSome o (λ all. AreDividedMembers n k found.now.items all.items)) }
+{
+    let items = found.items();
+    let mut all = Vec::with_capacity(alloc, items.len())?;
+    'members: for i in 0..items.len() {
+        let b = &items[i];
+        let Some(h) = divided_member(alloc, n, k, b) else {
+            return Ok(None);
+        };
+        all.push(h)?;
+    }
+    Ok(Some(all))
+}
+
+/// One step: the members of the basis, divided, where each may be.
+fn divided_step(
+    alloc: Global,
+    n: u32,
+    k: u32,
+    grade: &[i128],
+    set: &[Poly],
+    pairs: u64,
+) -> Option<Vec<Poly>>
+    requires inside { k < n }
+    requires variables { HaveRingVariables n set.now }
+    ensures { IfSome result (λ all. IsDividedStep n k set.now all.items) }
+{
+    let Some(found) = lowered_basis(alloc, n, k, grade, set, pairs) else {
+        return None;
+    };
+    match divided_members(alloc, n, k, &found) {
+        Ok(all) => all,
+        Err(_) => None,
+    }
+}
+
+/// What the steps by the variables of `left`, one after another, leave.
+fn divided_by(
+    alloc: Global,
+    n: u32,
+    grade: &[i128],
+    left: &Mono,
+    set: &[Poly],
+    pairs: u64,
+) -> Option<Vec<Poly>>
+    requires choice { IsChoice n set.now left.now }
+    requires variables { HaveRingVariables n set.now }
+    ensures { IfSome result (λ all. GenerateSaturation n set.now all.items) }
+{
+    let Ok(given) = copies(alloc, set) else {
+        return None;
+    };
+    let mut polys = given;
+    'variables: for k in 0..n {
+        let times = exponent(left, k);
+        if times == 0 {
+            continue;
+        }
+        let Some(next) = divided_step(alloc, n, k, grade, &polys, pairs) else {
+            return None;
+        };
+        polys = next;
+    }
+    Some(polys)
+}
+
+/// The saturation of polynomials that a positive weight makes homogeneous, if such a weight is found and nothing is refused.
+pub(crate) fn by_division(alloc: Global, n: u32, set: &[Poly], pairs: u64) -> Option<MarkedSet>
+    requires room { n < ROOM }
+    requires variables { HaveRingVariables n set.now }
+    ensures { IfSome result (IsSaturation n set.now) }
+{
+    let Some(grade) = grade_of(alloc, n, set) else {
+        return None;
+    };
+    let left = product(alloc, n);
+    let Some(polys) = divided_by(alloc, n, grade.as_slice(), &left, set, pairs) else {
+        return None;
+    };
+    match basis(alloc, n, &polys, &Order::deglex(), pairs) {
+        Ok(saturation) => Some(saturation),
+        Err(_) => None,
+    }
+}
