@@ -97,7 +97,8 @@ from_request false None (Some basis) o workers input text a =
         inside = read_variables input a.value.1.1 a.read.1.1;
         region = answer.1;
         is_region = subst (λ (k : Region). IsRegion (length a.value.1.1.0) k) (sym answer.1) (all_positive-region (length a.value.1.1.0));
-        before = (a.value.1.0.1, answer.4.basis, answer.4.front, subst (λ (names : List (List ℕ)). IsTextOf ring_marked_set basis.bytes (names, a.value.1.0.1)) answer.2 a.read.1.0, answer.4.taken, refl);
+        before = (a.value.1.0.1, answer.4.basis, answer.4.front,
+            subst (λ (names : List (List ℕ)). IsTextOf ring_marked_set basis.bytes (names, a.value.1.0.1)) answer.2 a.read.1.0, answer.4.taken, refl);
       };
       list = answer.4.list;
     }
@@ -113,7 +114,8 @@ from_request true None (Some basis) o workers input text a =
         inside = given_variables input a.value.1.1 a.read.1.1;
         region = answer.1;
         is_region = subst (λ (k : Region). IsRegion (length a.value.1.1.0) k) (sym answer.1) (all_positive-region (length a.value.1.1.0));
-        before = (a.value.1.0.1, answer.4.basis, answer.4.front, subst (λ (names : List (List ℕ)). IsTextOf ring_marked_set basis.bytes (names, a.value.1.0.1)) answer.2 a.read.1.0, answer.4.taken, refl);
+        before = (a.value.1.0.1, answer.4.basis, answer.4.front,
+            subst (λ (names : List (List ℕ)). IsTextOf ring_marked_set basis.bytes (names, a.value.1.0.1)) answer.2 a.read.1.0, answer.4.taken, refl);
       };
       list = answer.4.list;
     }
@@ -129,7 +131,8 @@ from_request false (Some file) (Some basis) o workers input text a =
         inside = read_variables input a.value.1.1 a.read.1.1;
         region = (a.value.0, a.read.0, answer.1);
         is_region = answer.1.region;
-        before = (a.value.1.0.1, answer.4.basis, answer.4.front, subst (λ (names : List (List ℕ)). IsTextOf ring_marked_set basis.bytes (names, a.value.1.0.1)) answer.2 a.read.1.0, answer.4.taken, refl);
+        before = (a.value.1.0.1, answer.4.basis, answer.4.front,
+            subst (λ (names : List (List ℕ)). IsTextOf ring_marked_set basis.bytes (names, a.value.1.0.1)) answer.2 a.read.1.0, answer.4.taken, refl);
       };
       list = answer.4.list;
     }
@@ -145,7 +148,8 @@ from_request true (Some file) (Some basis) o workers input text a =
         inside = given_variables input a.value.1.1 a.read.1.1;
         region = (a.value.0, a.read.0, answer.1);
         is_region = answer.1.region;
-        before = (a.value.1.0.1, answer.4.basis, answer.4.front, subst (λ (names : List (List ℕ)). IsTextOf ring_marked_set basis.bytes (names, a.value.1.0.1)) answer.2 a.read.1.0, answer.4.taken, refl);
+        before = (a.value.1.0.1, answer.4.basis, answer.4.front,
+            subst (λ (names : List (List ℕ)). IsTextOf ring_marked_set basis.bytes (names, a.value.1.0.1)) answer.2 a.read.1.0, answer.4.taken, refl);
       };
       list = answer.4.list;
     }
@@ -155,32 +159,40 @@ answers_are_lists q input text a = from_request q.from_basis q.within q.after q.
 
 -- ---- what is read determines it
 
-pub says_once : (from_basis : Bool) (source : List ℕ) (ring other : List (List ℕ)) (fs gs : List Terms) → HasPolynomials from_basis source ring fs → HasPolynomials from_basis source other gs →
+pub says_once : (from_basis : Bool) (source : List ℕ) (ring other : List (List ℕ)) (fs gs : List Terms) → HasPolynomials from_basis source ring fs →
+    HasPolynomials from_basis source other gs →
     (other ≡ ring) × (gs ≡ fs)
 says_once false source ring other fs gs p q =
-    let same : (other, q.0) ≡ (ring, p.0) = (source_once (ring_set_vector false) (ring_and_once a_set (vector_where false ∷ [])) source).once (ring, p.0) (other, q.0) p.1 q.1 in
-    (ap (λ (v : List (List ℕ) × (List Written × Option (List ℤ))). v.0) same, q.2 ∙ ap (λ (v : List (List ℕ) × (List Written × Option (List ℤ))). generators_of v.1.0) same ∙ sym p.2)
+    let same : (other, q.0) ≡ (ring, p.0) = (source_once (ring_set_vector false) (ring_and_once a_set (vector_where false ∷ [])) source).once (ring, p.0)
+        (other, q.0) p.1 q.1 in
+    (ap (λ (v : List (List ℕ) × (List Written × Option (List ℤ))). v.0) same, q.2
+        ∙ ap (λ (v : List (List ℕ) × (List Written × Option (List ℤ))). generators_of v.1.0) same ∙ sym p.2)
 says_once true source ring other fs gs p q =
     let same : (other, q.0) ≡ (ring, p.0) = (source_once ring_marked_set (ring_and_once a_marked_set []) source).once (ring, p.0) (other, q.0) p.1 q.1 in
     (ap (λ (v : List (List ℕ) × MarkedPolynomials). v.0) same, q.2 ∙ ap (λ (v : List (List ℕ) × MarkedPolynomials). polys v.1.items) same ∙ sym p.2)
 
-pub region_once : (within other : Option NamedFile) (n : ℕ) (k j : Region) → bytes_of other ≡ bytes_of within → IsRegionSaid within n k → IsRegionSaid other n j → j ≡ k
+pub region_once : (within other : Option NamedFile) (n : ℕ) (k j : Region) → bytes_of other ≡ bytes_of within → IsRegionSaid within n k →
+    IsRegionSaid other n j → j ≡ k
 region_once None None n k j e p q = q ∙ sym p
 region_once None (Some g) n k j e p q = absurd (cc)
 region_once (Some f) None n k j e p q = absurd (cc)
 region_once (Some f) (Some g) n k j e p q =
     let bytes : g.bytes ≡ f.bytes = cc in
-    let rows : q.0 ≡ p.0 = (source_once vectors_alone (items_once vector_list [] []) f.bytes).once p.0 q.0 p.1 (subst (λ (b : List ℕ). IsTextOf vectors_alone b q.0) bytes q.1) in
+    let rows : q.0 ≡ p.0 = (source_once vectors_alone (items_once vector_list [] []) f.bytes).once p.0 q.0 p.1
+        (subst (λ (b : List ℕ). IsTextOf vectors_alone b q.0) bytes q.1) in
     regions_are_one.one n p.0 j k (subst (λ (z : List (List ℤ)). IsRegionOf n z j) rows q.2) p.2
 
-pub basis_once : (ring : List (List ℕ)) (source : List ℕ) (s t : MarkedPolynomials) → IsTextOf ring_marked_set source (ring, s) → IsTextOf ring_marked_set source (ring, t) → t ≡ s
+pub basis_once : (ring : List (List ℕ)) (source : List ℕ) (s t : MarkedPolynomials) → IsTextOf ring_marked_set source (ring, s) →
+    IsTextOf ring_marked_set source (ring, t) → t ≡ s
 basis_once ring source s t p q =
     ap (λ (v : List (List ℕ) × MarkedPolynomials). v.1) ((source_once ring_marked_set (ring_and_once a_marked_set []) source).once (ring, s) (ring, t) p q)
 
 -- what follows the bases up to the one of the file, in one list
-pub rest_once : (after other : Option NamedFile) (ring : List (List ℕ)) (k : Region) (early late xs ys : List MarkedPolynomials) → bytes_of other ≡ bytes_of after →
+pub rest_once : (after other : Option NamedFile) (ring : List (List ℕ)) (k : Region) (early late xs ys : List MarkedPolynomials) →
+    bytes_of other ≡ bytes_of after →
     AreBasesBefore after ring k early → AreBasesBefore other ring k late → EachOnce (early ++ xs) → early ++ xs ≡ late ++ ys → xs ≡ ys
-rest_once None None ring k early late xs ys e p q o w = subst (λ (l : List MarkedPolynomials). [] ++ xs ≡ l ++ ys) q (subst (λ (l : List MarkedPolynomials). l ++ xs ≡ late ++ ys) p w)
+rest_once None None ring k early late xs ys e p q o w = subst (λ (l : List MarkedPolynomials). [] ++ xs ≡ l ++ ys) q
+    (subst (λ (l : List MarkedPolynomials). l ++ xs ≡ late ++ ys) p w)
 rest_once None (Some g) ring k early late xs ys e p q o w = absurd (cc)
 rest_once (Some f) None ring k early late xs ys e p q o w = absurd (cc)
 rest_once (Some f) (Some g) ring k early late xs ys e p q o w = behind_once front back xs ys basis (subst EachOnce flat o) (sym flat ∙ w ∙ other_flat)

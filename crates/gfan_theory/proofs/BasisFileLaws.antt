@@ -28,7 +28,8 @@ use Rattle.gfan_theory.specs.Joined.{basis_file}
 
 -- ---- reading goes by the tokens alone
 
-read_moved : (ring : List (List ℕ)) (old new : Position) (place : ℕ) (s : MarkedPolynomials) → lexemes (ring_more ring) old.source old.at ≡ lexemes (ring_more ring) new.source new.at →
+read_moved : (ring : List (List ℕ)) (old new : Position) (place : ℕ) (s : MarkedPolynomials) →
+    lexemes (ring_more ring) old.source old.at ≡ lexemes (ring_more ring) new.source new.at →
     IsMarkedRead ring old place s → IsMarkedRead ring new place s
 read_moved ring old new place s e h = record {
   written = h.written;
@@ -56,7 +57,8 @@ module _ (ring : List (List ℕ)) (b : MarkedPolynomials) (is : IsRing ring) (ke
   ring_read : IsRingRead (from (basis_file ring b) 0) (length (ring_words ring)) ring
   ring_read =
       subst (λ (m : ℕ). IsRingRead (from (basis_file ring b) 0) m ring) (none_more (length (ring_words ring)))
-      (subst (λ (source : List ℕ). IsRingRead (from source 0) (0 + length (ring_words ring)) ring) (sym flat) (rings_again ring [] (10 ∷ (basis_text ring b.items ++ 10 ∷ [])) is).read)
+      (subst (λ (source : List ℕ). IsRingRead (from source 0) (0 + length (ring_words ring)) ring) (sym flat)
+          (rings_again ring [] (10 ∷ (basis_text ring b.items ++ 10 ∷ [])) is).read)
 
   -- at the line end, and behind it
   here : drop (length (ring_words ring)) (basis_file ring b) ≡ 10 ∷ (basis_text ring b.items ++ 10 ∷ [])
@@ -74,13 +76,16 @@ module _ (ring : List (List ℕ)) (b : MarkedPolynomials) (is : IsRing ring) (ke
       ∙ sym (lex-space (ring_more ring) 10 (length (ring_words ring)) (basis_text ring b.items ++ 10 ∷ []) refl)
       ∙ ap (λ (l : List ℕ). lex_tokens (ring_more ring) 0 (length (ring_words ring)) l) (sym here)
 
-  set_read : IsMarkedRead ring (from (basis_file ring b) (length (ring_words ring))) (length (ring_text ring) + length (basis_text ring b.items)) (record { variables = length ring; items = b.items })
-  set_read = read_moved ring (from (basis_file ring b) (length (ring_text ring))) (from (basis_file ring b) (length (ring_words ring))) (length (ring_text ring) + length (basis_text ring b.items)) (record { variables = length ring; items = b.items }) same_tokens
+  set_read : IsMarkedRead ring (from (basis_file ring b) (length (ring_words ring))) (length (ring_text ring) + length (basis_text ring b.items))
+      (record { variables = length ring; items = b.items })
+  set_read = read_moved ring (from (basis_file ring b) (length (ring_text ring))) (from (basis_file ring b) (length (ring_words ring)))
+      (length (ring_text ring) + length (basis_text ring b.items)) (record { variables = length ring; items = b.items }) same_tokens
       (bases_again ring b.items (ring_text ring) (10 ∷ []) is kept).read
 
   left : drop (length (ring_text ring) + length (basis_text ring b.items)) (basis_file ring b) ≡ 10 ∷ []
   left =
-      ap₂ (λ (n : ℕ) (l : List ℕ). drop n l) (sym (length-append (ring_text ring) (basis_text ring b.items))) (sym (append_assoc (ring_text ring) (basis_text ring b.items) (10 ∷ [])))
+      ap₂ (λ (n : ℕ) (l : List ℕ). drop n l) (sym (length-append (ring_text ring) (basis_text ring b.items)))
+          (sym (append_assoc (ring_text ring) (basis_text ring b.items) (10 ∷ [])))
       ∙ drop-append_seam (ring_text ring ++ basis_text ring b.items) (10 ∷ [])
 
   pub read_again : IsTextOf ring_marked_set (basis_file ring b) (ring, record { variables = length ring; items = b.items })
@@ -97,9 +102,11 @@ reciprocal_one = sym (one-*ℚ (reciprocal_ℚ one_ℚ)) ∙ *ℚ-reciprocal_ℚ
 
 monic_itself : (b : MarkedPolynomial) → coefficient b.poly b.head ≡ one_ℚ → monic_of b ≡ b
 monic_itself b e =
-    ap (λ (f : Terms). record { poly = f; head = b.head }) (ap (λ (c : Fraction). times (reciprocal_ℚ c) [] b.poly) e ∙ ap (λ (c : Fraction). times c [] b.poly) reciprocal_one ∙ times-plain b.poly)
+    ap (λ (f : Terms). record { poly = f; head = b.head }) (ap (λ (c : Fraction). times (reciprocal_ℚ c) [] b.poly) e
+        ∙ ap (λ (c : Fraction). times c [] b.poly) reciprocal_one ∙ times-plain b.poly)
 
 pub monic_again : (bs : List MarkedPolynomial) → ((b : MarkedPolynomial) → Contains bs b → coefficient b.poly b.head ≡ one_ℚ) → map monic_of bs ≡ bs
 monic_again [] h = refl
 monic_again (b ∷ bs) h =
-    ap₂ (λ (c : MarkedPolynomial) (cs : List MarkedPolynomial). c ∷ cs) (monic_itself b (h b (Contains-here b bs))) (monic_again bs (λ c k. h c (Contains-there b c bs k)))
+    ap₂ (λ (c : MarkedPolynomial) (cs : List MarkedPolynomial). c ∷ cs) (monic_itself b (h b (Contains-here b bs)))
+        (monic_again bs (λ c k. h c (Contains-there b c bs k)))

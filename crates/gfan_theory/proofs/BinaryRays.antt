@@ -1,6 +1,7 @@
 -- The rays of a cone that differences of two entries cut out of the non-negative vectors have entries 0 and 1; so they are few, and their sums small.
 -- To cite: IsOrderRow, AreBits, by_entry, doubled, rays_bits, few_rays, bits_up, no_wide_sums, sum_up_of. The rest are steps.
-use Rattle.std.proofs.Common.{◌≡◌, ℕ, zero, suc, ◌+◌, ◌<◌, ◌≤◌, ◌^◌, List, [], ◌∷◌, ◌++◌, length, replicate, get_or, ℤ, pos, negsuc, ◌+ℤ◌, ◌-ℤ◌, ◌*ℤ◌, ◌<ℤ◌, ◌≤ℤ◌, unsigned_abs, arith, refl, sym, ap, ap₂, ◌∙◌, subst, inl, inr, Contains}
+use Rattle.std.proofs.Common.{◌≡◌, ℕ, zero, suc, ◌+◌, ◌<◌, ◌≤◌, ◌^◌, List, [], ◌∷◌, ◌++◌, length, replicate, get_or, ℤ, pos, negsuc, ◌+ℤ◌, ◌-ℤ◌, ◌*ℤ◌, ◌<ℤ◌,
+    ◌≤ℤ◌, unsigned_abs, arith, refl, sym, ap, ap₂, ◌∙◌, subst, inl, inr, Contains}
 use Rattle.std.specs.Prelude.{AllPairs}
 use Rattle.std.specs.Int.{◌∣◌}
 use Rattle.std.specs.List.{AllByRecursion}
@@ -95,7 +96,8 @@ by_entry P [] i a l = absurd (omega arith)
 by_entry P (x ∷ xs) zero a l = a.0
 by_entry P (x ∷ xs) (suc i) a l = by_entry P xs i a.1 (omega arith)
 
-module _ (n : ℕ) (hs rays : List (List ℤ)) (h : IsRays n hs [] [] rays) (order : (t : List ℤ) → Contains hs t → IsOrderRow n t) (low : HaveUnits n hs) (x : List ℤ) (c : Contains rays x) where
+module _ (n : ℕ) (hs rays : List (List ℤ)) (h : IsRays n hs [] [] rays) (order : (t : List ℤ) → Contains hs t → IsOrderRow n t) (low : HaveUnits n hs)
+    (x : List ℤ) (c : Contains rays x) where
   long : length x ≡ n
   long = (described_of n hs [] [] rays h).rays_width x c
 
@@ -109,21 +111,26 @@ module _ (n : ℕ) (hs rays : List (List ℤ)) (h : IsRays n hs [] [] rays) (ord
   up_at : (t : List ℤ) → IsOrderRow n t → pos 0 ≤ℤ dot t x → pos 0 ≤ℤ dot t (indicator x)
   up_at t (IsOrderRow.difference d) l =
       subst (λ (z : ℤ). pos 0 ≤ℤ z) (sym (d.difference (indicator x) long_too ∙ ap₂ (λ (p q : ℤ). p -ℤ q) (entry-indicator x d.high) (entry-indicator x d.low)))
-      (step_up (get_or x d.high (pos 0)) (get_or x d.low (pos 0)) (one_of (get_or x d.high (pos 0))) (one_of (get_or x d.low (pos 0))) (fits d.high d.high_inside) (fits d.low d.low_inside)
+      (step_up (get_or x d.high (pos 0)) (get_or x d.low (pos 0)) (one_of (get_or x d.high (pos 0))) (one_of (get_or x d.low (pos 0)))
+          (fits d.high d.high_inside) (fits d.low d.low_inside)
       (subst (λ (z : ℤ). pos 0 ≤ℤ z) (d.difference x long) l))
   up_at t (IsOrderRow.entry place i e) l =
-      subst (λ (z : ℤ). pos 0 ≤ℤ z) (sym (e (indicator x) long_too ∙ entry-indicator x place)) (bit_up (get_or x place (pos 0)) (one_of (get_or x place (pos 0))) (fits place i))
+      subst (λ (z : ℤ). pos 0 ≤ℤ z) (sym (e (indicator x) long_too ∙ entry-indicator x place))
+          (bit_up (get_or x place (pos 0)) (one_of (get_or x place (pos 0))) (fits place i))
 
   flat_at : (t : List ℤ) → IsOrderRow n t → dot t x ≡ pos 0 → dot t (indicator x) ≡ pos 0
   flat_at t (IsOrderRow.difference d) e =
       d.difference (indicator x) long_too ∙ ap₂ (λ (p q : ℤ). p -ℤ q) (entry-indicator x d.high) (entry-indicator x d.low)
-      ∙ step_flat (get_or x d.high (pos 0)) (get_or x d.low (pos 0)) (one_of (get_or x d.high (pos 0))) (one_of (get_or x d.low (pos 0))) (fits d.high d.high_inside) (fits d.low d.low_inside)
+      ∙ step_flat (get_or x d.high (pos 0)) (get_or x d.low (pos 0)) (one_of (get_or x d.high (pos 0))) (one_of (get_or x d.low (pos 0)))
+          (fits d.high d.high_inside) (fits d.low d.low_inside)
       (sym (d.difference x long) ∙ e)
   flat_at t (IsOrderRow.entry place i f) e =
-      f (indicator x) long_too ∙ entry-indicator x place ∙ bit_flat (get_or x place (pos 0)) (one_of (get_or x place (pos 0))) (fits place i) (sym (f x long) ∙ e)
+      f (indicator x) long_too ∙ entry-indicator x place
+          ∙ bit_flat (get_or x place (pos 0)) (one_of (get_or x place (pos 0))) (fits place i) (sym (f x long) ∙ e)
 
   made : Made n rays [] (indicator x)
-  made = (described_of n hs [] [] rays h).complete (indicator x) long_too (λ t k. up_at t (order t k) ((described_of n hs [] [] rays h).valid.up t x k c)) (λ e k. absurd (none_in e k))
+  made = (described_of n hs [] [] rays h).complete (indicator x) long_too (λ t k. up_at t (order t k) ((described_of n hs [] [] rays h).valid.up t x k c))
+      (λ e k. absurd (none_in e k))
 
   -- so it is a multiple of the ray
   multiple : IsMultiple x (indicator x)
@@ -163,13 +170,15 @@ module _ (n : ℕ) (hs rays : List (List ℤ)) (h : IsRays n hs [] [] rays) (ord
 
   indicator_primitive : IsPrimitive (indicator x)
   indicator_primitive d a =
-      inl (eq-one_of_dvd-one (subst (λ (z : ℤ). d ∣ unsigned_abs z) one_there (by_entry (λ (z : ℤ). d ∣ unsigned_abs z) (indicator x) some.0 a (let l = some.1 in let m = long_too in omega arith))))
+      inl (eq-one_of_dvd-one (subst (λ (z : ℤ). d ∣ unsigned_abs z) one_there
+          (by_entry (λ (z : ℤ). d ∣ unsigned_abs z) (indicator x) some.0 a (let l = some.1 in let m = long_too in omega arith))))
 
   not_zero : AllZero x → ⊥
   not_zero a = let z = by_entry (λ (y : ℤ). y ≡ pos 0) x some.0 a (let l = some.1 in let m = long in omega arith) in let l = some.2 in omega (arith, ints, z, l)
 
   pub itself : indicator x ≡ x
-  itself = primitive_same x (indicator x) multiple.k multiple.a multiple.k_positive factor_positive multiple.is (All-contains IsPrimitive rays x h.primitive c) indicator_primitive not_zero
+  itself = primitive_same x (indicator x) multiple.k multiple.a multiple.k_positive factor_positive multiple.is
+      (All-contains IsPrimitive rays x h.primitive c) indicator_primitive not_zero
 
 -- ---- vectors of zeros and ones
 
@@ -185,7 +194,8 @@ bits_of (pos (suc zero) ∷ xs) e = let t : indicator xs ≡ xs = cc in AreBits.
 bits_of (pos (suc (suc k)) ∷ xs) e = absurd (let q : pos 1 ≡ pos (suc (suc k)) = cc in omega (arith, ints, q))
 bits_of (negsuc k ∷ xs) e = absurd (let q : pos 0 ≡ negsuc k = cc in omega (arith, ints, q))
 
-pub rays_bits : (n : ℕ) (hs rays : List (List ℤ)) → IsRays n hs [] [] rays → ((t : List ℤ) → Contains hs t → IsOrderRow n t) → HaveUnits n hs → (x : List ℤ) → Contains rays x → AreBits x
+pub rays_bits : (n : ℕ) (hs rays : List (List ℤ)) → IsRays n hs [] [] rays → ((t : List ℤ) → Contains hs t → IsOrderRow n t) → HaveUnits n hs → (x : List ℤ) →
+    Contains rays x → AreBits x
 rays_bits n hs rays h order low x c = bits_of x (itself n hs rays h order low x c)
 
 -- ---- there are few of them
@@ -226,7 +236,8 @@ number_rises us zs (AreBits.one xs a) (AreBits.one ys b) e l =
     let q : doubled (length xs) ≡ doubled (length ys) = ap doubled m in
     omega (arith, p, q)
 
-module _ (n : ℕ) (rays : List (List ℤ)) (bits : (x : List ℤ) → Contains rays x → AreBits x) (wide : (x : List ℤ) → Contains rays x → length x ≡ n) (up : AllPairs (λ x y. slice_cmp int_cmp x y ≡ Less) rays) where
+module _ (n : ℕ) (rays : List (List ℤ)) (bits : (x : List ℤ) → Contains rays x → AreBits x) (wide : (x : List ℤ) → Contains rays x → length x ≡ n)
+    (up : AllPairs (λ x y. slice_cmp int_cmp x y ≡ Less) rays) where
   there : (i : ℕ) → i < length rays → Contains rays (get_or rays i [])
   there i l = (i, l, get_or_default rays i (get_or rays i []) [] l)
 
@@ -262,22 +273,27 @@ bits_up xs AreBits.none = up_none 1
 bits_up ys (AreBits.nought xs a) = up_cons 1 (pos 0) xs (omega arith) (bits_up xs a)
 bits_up ys (AreBits.one xs a) = up_cons 1 (pos 1) xs (omega arith) (bits_up xs a)
 
-no_wide_step : (p q : ℕ) (xs ys : List ℤ) (e : WideVector) (more : List WideVector) → UpTo p xs → UpTo q ys → p + q < 2 ^ 127 → IsFirstWide e (sum_steps xs ys ++ more) → IsFirstWide e more
+no_wide_step : (p q : ℕ) (xs ys : List ℤ) (e : WideVector) (more : List WideVector) → UpTo p xs → UpTo q ys → p + q < 2 ^ 127 →
+    IsFirstWide e (sum_steps xs ys ++ more) → IsFirstWide e more
 no_wide_step p q [] ys e more u v l f = f
 no_wide_step p q (x ∷ xs) [] e more u v l f = f
 no_wide_step p q (x ∷ xs) (y ∷ ys) e more u v l f = elim f [
-  | inl k ↦ absurd (let wide : 2 ^ 127 ≤ unsigned_abs (x +ℤ y) = subst IsWide (sym k.0) k.1 in let small : unsigned_abs (x +ℤ y) ≤ p + q = sum_up x y p q (u.at 0) (v.at 0) in omega (arith, wide, small, l))
+  | inl k ↦ absurd (let wide : 2 ^ 127 ≤ unsigned_abs (x +ℤ y) = subst IsWide (sym k.0) k.1 in
+      let small : unsigned_abs (x +ℤ y) ≤ p + q = sum_up x y p q (u.at 0) (v.at 0) in omega (arith, wide, small, l))
   | inr k ↦ no_wide_step p q xs ys e more (up_tail p x xs u) (up_tail q y ys v) l k.1
 ]
 
-pub no_wide_sums : (c : ℕ) (sum : List ℤ) (rays : List (List ℤ)) (e : WideVector) → UpTo c sum → ((x : List ℤ) → Contains rays x → UpTo 1 x) → c + length rays < 2 ^ 127 → IsFirstWide e (adding_steps sum rays) → ⊥
+pub no_wide_sums : (c : ℕ) (sum : List ℤ) (rays : List (List ℤ)) (e : WideVector) → UpTo c sum → ((x : List ℤ) → Contains rays x → UpTo 1 x) →
+    c + length rays < 2 ^ 127 → IsFirstWide e (adding_steps sum rays) → ⊥
 no_wide_sums c sum [] e u each l f = f
 no_wide_sums c sum (x ∷ xs) e u each l f =
     let k = no_wide_step c 1 sum x e (adding_steps (vector_sum sum x) xs) u (each x (Contains-here x xs)) (omega (arith, l)) f in
     no_wide_sums (c + 1) (vector_sum sum x) xs e (up_sum c 1 sum x u (each x (Contains-here x xs))) (λ y i. each y (in_tail x xs y i)) (omega (arith, l)) k
 
-pub sum_up_of : (n : ℕ) (rays : List (List ℤ)) → ((x : List ℤ) → Contains rays x → UpTo 1 x) → UpTo (length rays) (combined n (replicate (length rays) (pos 1)) rays)
+pub sum_up_of : (n : ℕ) (rays : List (List ℤ)) → ((x : List ℤ) → Contains rays x → UpTo 1 x) →
+    UpTo (length rays) (combined n (replicate (length rays) (pos 1)) rays)
 sum_up_of n [] each = up_zeros 0 n
 sum_up_of n (x ∷ xs) each =
     up_weaker (1 + length xs) (length (x ∷ xs)) (vector_sum (scaled (pos 1) x) (combined n (replicate (length xs) (pos 1)) xs)) (omega arith)
-    (up_sum 1 (length xs) (scaled (pos 1) x) (combined n (replicate (length xs) (pos 1)) xs) (up_times (pos 1) 1 1 x (omega arith) (each x (Contains-here x xs))) (sum_up_of n xs (λ y i. each y (in_tail x xs y i))))
+    (up_sum 1 (length xs) (scaled (pos 1) x) (combined n (replicate (length xs) (pos 1)) xs)
+        (up_times (pos 1) 1 1 x (omega arith) (each x (Contains-here x xs))) (sum_up_of n xs (λ y i. each y (in_tail x xs y i))))

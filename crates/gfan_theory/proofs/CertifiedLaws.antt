@@ -27,7 +27,8 @@ use Rattle.gfan_theory.specs.Certified.{AnswersAreCertified}
 use Rattle.gfan_theory.proofs.AnswerLaws.{answers_are_lists}
 
 -- what is printed for one basis
-item_shows : (ring : List (List ℕ)) (j : Region) (fs : List Terms) (b : MarkedPolynomials) (text : List ℕ) → AreInVariables (length ring) fs → IsRegion (length ring) j → IsGivenIn (length ring) j fs b →
+item_shows : (ring : List (List ℕ)) (j : Region) (fs : List Terms) (b : MarkedPolynomials) (text : List ℕ) → AreInVariables (length ring) fs →
+    IsRegion (length ring) j → IsGivenIn (length ring) j fs b →
     IsItemTextIn true ring j b text → HasCertificatesIn ring j fs b text
 item_shows ring j fs b text v r g item = record {
   weight = told.weight;
@@ -62,7 +63,8 @@ item_shows ring j fs b text v r g item = record {
     flippable a c = let f = normal_there told.facets a c in subst (IsFlippable n j b.items) f.1.1 (witnessed.flippable f.0 f.1.0)
 
 -- for each basis of a list
-items_show : (ring : List (List ℕ)) (j : Region) (fs : List Terms) (bs : List MarkedPolynomials) (ts : List (List ℕ)) → AreInVariables (length ring) fs → IsRegion (length ring) j →
+items_show : (ring : List (List ℕ)) (j : Region) (fs : List Terms) (bs : List MarkedPolynomials) (ts : List (List ℕ)) → AreInVariables (length ring) fs →
+    IsRegion (length ring) j →
     ((b : MarkedPolynomials) → Among bs b → IsGivenIn (length ring) j fs b) → AreItemTextsIn true ring j bs ts → AllZip (HasCertificatesIn ring j fs) bs ts
 items_show ring j fs [] [] v r g a = tt
 items_show ring j fs [] (t ∷ ts) v r g a = absurd a

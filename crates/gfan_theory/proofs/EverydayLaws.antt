@@ -38,7 +38,8 @@ regions_of_binomials o n rows v f unlimited plain some small few differ inside g
   where
     going : (k : Region) → IsRegionOf n rows k → IsGoingWithin o n k (f ∷ [])
     going k i = record {
-      tree = small_search (ideal_within n (f ∷ []) k) f o.pairs refl g small (subst (HaveEntriesUpTo 500) (sym i.same) (rows_small n rows 500 (omega arith) differ)) short;
+      tree = small_search (ideal_within n (f ∷ []) k) f o.pairs refl g small
+          (subst (HaveEntriesUpTo 500) (sym i.same) (rows_small n rows 500 (omega arith) differ)) short;
       few = λ list all. subst (λ l. IsWithinLimit l list) (sym unlimited) tt;
       certificates = λ c. absurd (let no : false ≡ true = sym plain ∙ c in cc);
     }
@@ -46,7 +47,8 @@ regions_of_binomials o n rows v f unlimited plain some small few differ inside g
 -- ---- with certificates
 
 -- those of a basis of the ideal, in a region of few rows
-certified : (n : ℕ) (k : Region) (f : Terms) (b : MarkedPolynomials) → n ≤ 3 → IsRegion n k → length k.rows ≤ 1 → AreDifferenceRows n k.rows → (d : IsDifferenceOfVariables n f) → IsGivenIn n k (f ∷ []) b →
+certified : (n : ℕ) (k : Region) (f : Terms) (b : MarkedPolynomials) → n ≤ 3 → IsRegion n k → length k.rows ≤ 1 → AreDifferenceRows n k.rows →
+    (d : IsDifferenceOfVariables n f) → IsGivenIn n k (f ∷ []) b →
     AreCertificatesFittingIn b.variables k b.items
 certified n k f b small r few differ d g =
     subst (λ (m : ℕ). AreCertificatesFittingIn m k b.items) (sym g.variables)
@@ -83,8 +85,10 @@ certificates_of_variables = record { everywhere = everywhere; regions = regions 
       region = regions_of_differences_fit n rows v (let l = d.first_inside in omega (arith, l)) small (omega (arith, few)) differ inside;
       root = λ k i. runs_within (MonomialOrder.weighted (gains k.root)) f o.pairs (plain_of_variables n f d);
       going = λ k i. record {
-        tree = small_search (ideal_within n (f ∷ []) k) f o.pairs refl (plain_of_variables n f d) small (subst (HaveEntriesUpTo 500) (sym i.same) (rows_small n rows 500 (omega arith) differ)) (short_of_variables n f d);
+        tree = small_search (ideal_within n (f ∷ []) k) f o.pairs refl (plain_of_variables n f d) small
+            (subst (HaveEntriesUpTo 500) (sym i.same) (rows_small n rows 500 (omega arith) differ)) (short_of_variables n f d);
         few = λ list all. subst (λ l. IsWithinLimit l list) (sym unlimited) tt;
-        certificates = λ c b g. certified n k f b small i.region (let e : length k.rows ≡ length rows = ap length i.same in omega (arith, e, few)) (subst (AreDifferenceRows n) (sym i.same) differ) d g;
+        certificates = λ c b g. certified n k f b small i.region (let e : length k.rows ≡ length rows = ap length i.same in omega (arith, e, few))
+            (subst (AreDifferenceRows n) (sym i.same) differ) d g;
       };
     }

@@ -90,7 +90,8 @@ cut_request false (Some file) None o workers input text refusal a = record {
     before = refl;
   };
   begun = a.begun.begun;
-  whole = λ joined t. record { value = a.value; read = a.read; answer = record { formed = a.formed; is_answer = record { region = a.begun.region; is_region = a.begun.is_region; list = t } } };
+  whole = λ joined t. record { value = a.value; read = a.read;
+      answer = record { formed = a.formed; is_answer = record { region = a.begun.region; is_region = a.begun.is_region; list = t } } };
 }
 cut_request true (Some file) None o workers input text refusal a = record {
   ring = a.value.1.0;
@@ -108,7 +109,8 @@ cut_request true (Some file) None o workers input text refusal a = record {
   whole = λ joined t. record {
     value = a.value;
     read = a.read;
-    answer = record { formed = a.formed; is_answer = record { basis = a.begun.basis; within = record { region = a.begun.within.region; is_region = a.begun.within.is_region; list = t } } };
+    answer = record { formed = a.formed; is_answer =
+        record { basis = a.begun.basis; within = record { region = a.begun.within.region; is_region = a.begun.within.is_region; list = t } } };
   };
 }
 cut_request false None (Some basis) o workers input text refusal a = record {
@@ -121,13 +123,15 @@ cut_request false None (Some basis) o workers input text refusal a = record {
     inside = read_variables input a.value.1.1 a.read.1.1;
     region = a.begun.1;
     is_region = subst (λ (k : Region). IsRegion (length a.value.1.1.0) k) (sym a.begun.1) (all_positive-region (length a.value.1.1.0));
-    before = (a.value.1.0.1, a.begun.4.basis, a.begun.4.front, subst (λ (names : List (List ℕ)). IsTextOf ring_marked_set basis.bytes (names, a.value.1.0.1)) a.begun.2 a.read.1.0, a.begun.4.taken, refl);
+    before = (a.value.1.0.1, a.begun.4.basis, a.begun.4.front,
+        subst (λ (names : List (List ℕ)). IsTextOf ring_marked_set basis.bytes (names, a.value.1.0.1)) a.begun.2 a.read.1.0, a.begun.4.taken, refl);
   };
   begun = a.begun.4.begun;
   whole = λ joined t. record {
     value = a.value;
     read = a.read;
-    answer = record { formed = a.formed; is_answer = (a.begun.0, a.begun.1, a.begun.2, a.begun.3, record { basis = a.begun.4.basis; taken = a.begun.4.taken; front = a.begun.4.front; list = t }) };
+    answer = record { formed = a.formed; is_answer =
+        (a.begun.0, a.begun.1, a.begun.2, a.begun.3, record { basis = a.begun.4.basis; taken = a.begun.4.taken; front = a.begun.4.front; list = t }) };
   };
 }
 cut_request true None (Some basis) o workers input text refusal a = record {
@@ -140,13 +144,15 @@ cut_request true None (Some basis) o workers input text refusal a = record {
     inside = given_variables input a.value.1.1 a.read.1.1;
     region = a.begun.1;
     is_region = subst (λ (k : Region). IsRegion (length a.value.1.1.0) k) (sym a.begun.1) (all_positive-region (length a.value.1.1.0));
-    before = (a.value.1.0.1, a.begun.4.basis, a.begun.4.front, subst (λ (names : List (List ℕ)). IsTextOf ring_marked_set basis.bytes (names, a.value.1.0.1)) a.begun.2 a.read.1.0, a.begun.4.taken, refl);
+    before = (a.value.1.0.1, a.begun.4.basis, a.begun.4.front,
+        subst (λ (names : List (List ℕ)). IsTextOf ring_marked_set basis.bytes (names, a.value.1.0.1)) a.begun.2 a.read.1.0, a.begun.4.taken, refl);
   };
   begun = a.begun.4.begun;
   whole = λ joined t. record {
     value = a.value;
     read = a.read;
-    answer = record { formed = a.formed; is_answer = (a.begun.0, a.begun.1, a.begun.2, a.begun.3, record { basis = a.begun.4.basis; taken = a.begun.4.taken; front = a.begun.4.front; list = t }) };
+    answer = record { formed = a.formed; is_answer =
+        (a.begun.0, a.begun.1, a.begun.2, a.begun.3, record { basis = a.begun.4.basis; taken = a.begun.4.taken; front = a.begun.4.front; list = t }) };
   };
 }
 cut_request false (Some file) (Some basis) o workers input text refusal a = record {
@@ -159,13 +165,15 @@ cut_request false (Some file) (Some basis) o workers input text refusal a = reco
     inside = read_variables input a.value.1.1 a.read.1.1;
     region = (a.value.0, a.read.0, a.begun.1);
     is_region = a.begun.1.region;
-    before = (a.value.1.0.1, a.begun.4.basis, a.begun.4.front, subst (λ (names : List (List ℕ)). IsTextOf ring_marked_set basis.bytes (names, a.value.1.0.1)) a.begun.2 a.read.1.0, a.begun.4.taken, refl);
+    before = (a.value.1.0.1, a.begun.4.basis, a.begun.4.front,
+        subst (λ (names : List (List ℕ)). IsTextOf ring_marked_set basis.bytes (names, a.value.1.0.1)) a.begun.2 a.read.1.0, a.begun.4.taken, refl);
   };
   begun = a.begun.4.begun;
   whole = λ joined t. record {
     value = a.value;
     read = a.read;
-    answer = record { formed = a.formed; is_answer = (a.begun.0, a.begun.1, a.begun.2, a.begun.3, record { basis = a.begun.4.basis; taken = a.begun.4.taken; front = a.begun.4.front; list = t }) };
+    answer = record { formed = a.formed; is_answer =
+        (a.begun.0, a.begun.1, a.begun.2, a.begun.3, record { basis = a.begun.4.basis; taken = a.begun.4.taken; front = a.begun.4.front; list = t }) };
   };
 }
 cut_request true (Some file) (Some basis) o workers input text refusal a = record {
@@ -178,13 +186,15 @@ cut_request true (Some file) (Some basis) o workers input text refusal a = recor
     inside = given_variables input a.value.1.1 a.read.1.1;
     region = (a.value.0, a.read.0, a.begun.1);
     is_region = a.begun.1.region;
-    before = (a.value.1.0.1, a.begun.4.basis, a.begun.4.front, subst (λ (names : List (List ℕ)). IsTextOf ring_marked_set basis.bytes (names, a.value.1.0.1)) a.begun.2 a.read.1.0, a.begun.4.taken, refl);
+    before = (a.value.1.0.1, a.begun.4.basis, a.begun.4.front,
+        subst (λ (names : List (List ℕ)). IsTextOf ring_marked_set basis.bytes (names, a.value.1.0.1)) a.begun.2 a.read.1.0, a.begun.4.taken, refl);
   };
   begun = a.begun.4.begun;
   whole = λ joined t. record {
     value = a.value;
     read = a.read;
-    answer = record { formed = a.formed; is_answer = (a.begun.0, a.begun.1, a.begun.2, a.begun.3, record { basis = a.begun.4.basis; taken = a.begun.4.taken; front = a.begun.4.front; list = t }) };
+    answer = record { formed = a.formed; is_answer =
+        (a.begun.0, a.begun.1, a.begun.2, a.begun.3, record { basis = a.begun.4.basis; taken = a.begun.4.taken; front = a.begun.4.front; list = t }) };
   };
 }
 
@@ -193,7 +203,8 @@ cut_list q input text refusal a = cut_request q.from_basis q.within q.after q.op
 
 -- ---- its last basis
 
-begun_list : (before : List MarkedPolynomials) (o : ListOptions) (ring : List (List ℕ)) (k : Region) (fs : List Terms) (text : List ℕ) (refusal : Refusal) → IsBegunWhereBehind before o ring k fs text refusal →
+begun_list : (before : List MarkedPolynomials) (o : ListOptions) (ring : List (List ℕ)) (k : Region) (fs : List Terms) (text : List ℕ) (refusal : Refusal) →
+    IsBegunWhereBehind before o ring k fs text refusal →
     (written : List MarkedPolynomials) × (rest : List MarkedPolynomials) × IsBegunListBehind before o.certified ring k fs written rest text
 begun_list before o ring k fs text (refusals.ListLimit most) h = (h.written, h.next ∷ h.rest, h.begun)
 begun_list before o ring k fs text _ h = (h.2.0, h.2.1, h.2.2)
@@ -202,11 +213,13 @@ last_of : (x : MarkedPolynomials) (xs : List MarkedPolynomials) → (front : Lis
 last_of x [] = ([], x, refl)
 last_of x (y ∷ ys) = let r = last_of y ys in (x ∷ r.0, r.1, ap (λ (l : List MarkedPolynomials). x ∷ l) r.2)
 
-no_items : (certified : Bool) (ring : List (List ℕ)) (k : Region) (items : List (List ℕ)) (text : List ℕ) → AreItemTextsIn certified ring k [] items → text ≡ begun_text ring items → text ≡ []
+no_items : (certified : Bool) (ring : List (List ℕ)) (k : Region) (items : List (List ℕ)) (text : List ℕ) → AreItemTextsIn certified ring k [] items →
+    text ≡ begun_text ring items → text ≡ []
 no_items certified ring k [] text a e = e
 no_items certified ring k (t ∷ ts) text a e = absurd a
 
-ends : (before : List MarkedPolynomials) (certified : Bool) (ring : List (List ℕ)) (k : Region) (fs : List Terms) (written rest : List MarkedPolynomials) (text : List ℕ) →
+ends : (before : List MarkedPolynomials) (certified : Bool) (ring : List (List ℕ)) (k : Region) (fs : List Terms) (written rest : List MarkedPolynomials)
+    (text : List ℕ) →
     IsBegunListBehind before certified ring k fs written rest text → text ≢ [] →
     (front : List MarkedPolynomials) × (last : MarkedPolynomials) × IsBegunListBehind before certified ring k fs (front ++ last ∷ []) rest text
 ends before certified ring k fs [] rest text b n = absurd (n (no_items certified ring k b.items text b.are_items b.is_text))
@@ -245,8 +258,10 @@ ring_said false source ring fs p = p.1.read.one.ring
 ring_said true source ring fs p = p.1.read.one.ring
 
 -- a reduced basis in the ring is taken as itself
-taken_itself : (n : ℕ) (k : Region) (fs : List Terms) (last basis : MarkedPolynomials) → IsGivenIn n k fs last → IsBasisTaken k (record { variables = n; items = last.items }) basis → basis ≡ last
-taken_itself n k fs last basis g t = ap₂ (λ (m : ℕ) (bs : List MarkedPolynomial). record { variables = m; items = bs }) (t.arranged.variables ∙ sym g.variables) same
+taken_itself : (n : ℕ) (k : Region) (fs : List Terms) (last basis : MarkedPolynomials) → IsGivenIn n k fs last →
+    IsBasisTaken k (record { variables = n; items = last.items }) basis → basis ≡ last
+taken_itself n k fs last basis g t = ap₂ (λ (m : ℕ) (bs : List MarkedPolynomial). record { variables = m; items = bs })
+    (t.arranged.variables ∙ sym g.variables) same
   where
     first : AreArranged n basis.items
     first = subst (λ (m : ℕ). AreArranged m basis.items) t.arranged.variables t.basis.reduced.arranged
@@ -256,8 +271,11 @@ taken_itself n k fs last basis g t = ap₂ (λ (m : ℕ) (bs : List MarkedPolyno
 
     same : basis.items ≡ last.items
     same = arranged_equal n basis.items last.items first g.arranged (record {
-      there = λ x h. (x, subst (λ (bs : List MarkedPolynomial). Contains bs x) monic (Contains-permutation basis.items (map monic_of last.items) x (IsPermutation-sym (map monic_of last.items) basis.items t.arranged.members) h), record { head = same-refl x.head; poly = λ e. refl });
-      back = λ x h. (x, Contains-permutation (map monic_of last.items) basis.items x t.arranged.members (subst (λ (bs : List MarkedPolynomial). Contains bs x) (sym monic) h), record { head = same-refl x.head; poly = λ e. refl });
+      there = λ x h. (x, subst (λ (bs : List MarkedPolynomial). Contains bs x) monic
+          (Contains-permutation basis.items (map monic_of last.items) x (IsPermutation-sym (map monic_of last.items) basis.items t.arranged.members) h),
+          record { head = same-refl x.head; poly = λ e. refl });
+      back = λ x h. (x, Contains-permutation (map monic_of last.items) basis.items x t.arranged.members
+          (subst (λ (bs : List MarkedPolynomial). Contains bs x) (sym monic) h), record { head = same-refl x.head; poly = λ e. refl });
     })
 
 -- ---- the runs
@@ -267,9 +285,11 @@ record Parts (ring : List (List ℕ)) (k : Region) (fs : List Terms) (early : Li
   pub is_joined : IsJoined ring text behind joined
   pub list : IsTextBehind early certified None ring k fs joined
 
-module _ (q : Request) (input text : List ℕ) (ring : List (List ℕ)) (fs : List Terms) (k : Region) (early front rest : List MarkedPolynomials) (last : MarkedPolynomials)
+module _ (q : Request) (input text : List ℕ) (ring : List (List ℕ)) (fs : List Terms) (k : Region) (early front rest : List MarkedPolynomials)
+    (last : MarkedPolynomials)
     (some : text ≢ []) (said : IsSaid q input ring fs k early) (begun : IsBegunListBehind early q.options.certified ring k fs (front ++ last ∷ []) rest text)
-    (file : NamedFile) (options : ListOptions) (workers : ℕ) (behind : List ℕ) (kept : AreKept (length ring) last.items) (bytes : file.bytes ≡ basis_file ring last)
+    (file : NamedFile) (options : ListOptions) (workers : ℕ) (behind : List ℕ) (kept : AreKept (length ring) last.items)
+        (bytes : file.bytes ≡ basis_file ring last)
     (alike : options.certified ≡ q.options.certified) (second : AnswerAt (continued q file options workers) input behind ring fs) where
   region : second.region ≡ k
   region = region_once q.within q.within (length ring) k second.region refl said.region second.said.region
@@ -278,14 +298,17 @@ module _ (q : Request) (input text : List ℕ) (ring : List (List ℕ)) (fs : Li
   before = subst (λ (j : Region). AreBasesBefore (Some file) ring j second.early) region second.said.before
 
   given : IsGivenIn (length ring) k fs last
-  given = begun.are_all.only last (among_right early ((front ++ last ∷ []) ++ rest) last (among_left (front ++ last ∷ []) rest last (among_right front (last ∷ []) last (inl refl))))
+  given = begun.are_all.only last (among_right early ((front ++ last ∷ []) ++ rest) last
+      (among_left (front ++ last ∷ []) rest last (among_right front (last ∷ []) last (inl refl))))
 
   again : IsTextOf ring_marked_set file.bytes (ring, record { variables = length ring; items = last.items })
-  again = subst (λ (source : List ℕ). IsTextOf ring_marked_set source (ring, record { variables = length ring; items = last.items })) (sym bytes) (read_again ring last (ring_said q.from_basis input ring fs said.read) kept)
+  again = subst (λ (source : List ℕ). IsTextOf ring_marked_set source (ring, record { variables = length ring; items = last.items })) (sym bytes)
+      (read_again ring last (ring_said q.from_basis input ring fs said.read) kept)
 
   taken : before.1 ≡ last
   taken = taken_itself (length ring) k fs last before.1 given
-      (subst (λ (s : MarkedPolynomials). IsBasisTaken k s before.1) (basis_once ring file.bytes (record { variables = length ring; items = last.items }) before.0 again before.3) before.4)
+      (subst (λ (s : MarkedPolynomials). IsBasisTaken k s before.1)
+          (basis_once ring file.bytes (record { variables = length ring; items = last.items }) before.0 again before.3) before.4)
 
   early_is : second.early ≡ before.2 ++ last ∷ []
   early_is = before.5 ∙ ap (λ (b : MarkedPolynomials). before.2 ++ b ∷ []) taken
@@ -298,7 +321,8 @@ module _ (q : Request) (input text : List ℕ) (ring : List (List ℕ)) (fs : Li
 
   parts : Parts ring k fs early q.options.certified text behind
   parts =
-      let p = parts_are_joined q.options.certified options.limit ring k fs early front before.2 rest last text behind said.inside said.is_region begun second_list in
+      let p = parts_are_joined q.options.certified options.limit ring k fs early front before.2 rest last text behind said.inside said.is_region begun
+          second_list in
       record {
         joined = list_text ring (p.0 ++ p.1);
         is_joined = record { others = p.1; second = p.3; is_joined = text_joined ring p.0 p.1 text some p.2 };

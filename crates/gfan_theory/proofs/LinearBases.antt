@@ -1,6 +1,7 @@
 -- The members of reduced Gröbner bases of ideals that linear polynomials generate are linear, and so are their flips within limits.
 -- To cite: ones_positive, linear_members, region_members, flips_of_linear_fit. The rest are steps.
-use Rattle.std.proofs.Common.{◌≡◌, ◌⊎◌, ℕ, zero, suc, ◌+◌, ◌<◌, ◌≤◌, ◌^◌, true, false, List, [], ◌∷◌, length, replicate, Contains, ℤ, arith, sym, ap, ◌∙◌, subst, inl, inr}
+use Rattle.std.proofs.Common.{◌≡◌, ◌⊎◌, ℕ, zero, suc, ◌+◌, ◌<◌, ◌≤◌, ◌^◌, true, false, List, [], ◌∷◌, length, replicate, Contains, ℤ, arith, sym, ap, ◌∙◌,
+    subst, inl, inr}
 use Rattle.gf_frac.specs.Fraction.{◌*ℚ◌, neg_ℚ, one_ℚ}
 use Rattle.gf_frac.proofs.FractionLaws.{*ℚ-zero}
 use Rattle.gf_int.proofs.ListLaws.{Contains-here}
@@ -43,7 +44,8 @@ use Rattle.gf_flip.specs.Along.{AreAlong, IsBasisOfParts}
 use Rattle.gf_flip.specs.Operations.{IsFlipExponents, IsFlipWithinLimits}
 use Rattle.gf_binomial_calls.proofs.FlipLaws.{flip_fits}
 use Rattle.gfan_theory.specs.Linear.{IsLinear, AreLinearForms, AreLinearDifferences}
-use Rattle.gfan_theory.proofs.LinearRuns.{same_or_not, weight_ones, homogeneous, IsOfDegree, AreLinearMembers, plain, closed-degree, step_short, tail_linear, linear_basis, few, run_short, pairs_mono}
+use Rattle.gfan_theory.proofs.LinearRuns.{same_or_not, weight_ones, homogeneous, IsOfDegree, AreLinearMembers, plain, closed-degree, step_short, tail_linear,
+    linear_basis, few, run_short, pairs_mono}
 
 -- ---- the grade of all ones
 
@@ -68,10 +70,12 @@ apart_at (d ∷ bs) a i zero b c l p q s = absurd (omega (arith, l))
 apart_at (d ∷ bs) a zero (suc j) b c l p q s =
     let first : d ≡ b = p.is in
     let k : j < length bs = (let m = q.within in omega (arith, m)) in
-    let other : NoMultiple d.head c.head = (contained_each (λ (x : MarkedPolynomial). NoMultiple d.head x.head × NoMultiple x.head d.head) bs a.0 c (j, k, q.is)).0 in
+    let other : NoMultiple d.head c.head = (contained_each (λ (x : MarkedPolynomial). NoMultiple d.head x.head × NoMultiple x.head d.head) bs a.0 c
+        (j, k, q.is)).0 in
     not_twice b.head c.head (subst (λ (x : MarkedPolynomial). NoMultiple x.head c.head) first other) (same_flip b.head c.head s)
 apart_at (d ∷ bs) a (suc i) (suc j) b c l p q s =
-    apart_at bs a.1 i j b c (omega (arith, l)) (record { within = (let m = p.within in omega (arith, m)); is = p.is }) (record { within = (let m = q.within in omega (arith, m)); is = q.is }) s
+    apart_at bs a.1 i j b c (omega (arith, l)) (record { within = (let m = p.within in omega (arith, m)); is = p.is })
+        (record { within = (let m = q.within in omega (arith, m)); is = q.is }) s
 
 -- ---- the members whose marks are variables
 
@@ -96,7 +100,8 @@ linear_part (b ∷ bs) a =
             | inl q ↦ (subst (Contains (b ∷ bs)) (sym q) (Contains-here b bs), ap (λ (z : MarkedPolynomial). degree z.head) q ∙ e)
             | inr q ↦ let t = r.1.from c q in (Contains-there b c bs t.0, t.1)
           ];
-          to = λ c k f. elim (cons_cases b c bs k) [ inl q ↦ subst (Contains (b ∷ r.0)) (sym q) (Contains-here b r.0) | inr q ↦ Contains-there b c r.0 (r.1.to c q f) ];
+          to = λ c k f. elim (cons_cases b c bs k) [ inl q ↦ subst (Contains (b ∷ r.0)) (sym q) (Contains-here b r.0) | inr q ↦
+              Contains-there b c r.0 (r.1.to c q f) ];
           apart = (
             each_contained (λ (x : MarkedPolynomial). NoMultiple b.head x.head × NoMultiple x.head b.head) r.0
                 (λ x k. contained_each (λ (y : MarkedPolynomial). NoMultiple b.head y.head × NoMultiple y.head b.head) bs a.0 x (r.1.from x k).0),
@@ -130,7 +135,8 @@ spans_positive fs l f (Spans.more c u p h g k s e) x n =
 
 -- ---- a basis with reduced tails, by an order that is good on homogeneous polynomials
 
-module _ (order : MonomialOrder) (n : ℕ) (fs : List Terms) (a : IsAdmissible order n (replicate n 1)) (d : AreLinearForms n fs) (bs : List MarkedPolynomial) (basis : IsBasis n fs bs) (marked : AreMarked (below_of order) bs)
+module _ (order : MonomialOrder) (n : ℕ) (fs : List Terms) (a : IsAdmissible order n (replicate n 1)) (d : AreLinearForms n fs) (bs : List MarkedPolynomial)
+    (basis : IsBasis n fs bs) (marked : AreMarked (below_of order) bs)
     (tails : HasReducedTails bs) (heads : AreApart bs) where
   vars : (b : MarkedPolynomial) → Contains bs b → IsInVariables n b.poly
   vars b c = variables_of_member n fs b.poly d.variables (basis.members b c)
@@ -141,7 +147,8 @@ module _ (order : MonomialOrder) (n : ℕ) (fs : List Terms) (a : IsAdmissible o
   -- all monomials of a member have the degree of its mark
   alike : (b : MarkedPolynomial) → Contains bs b → (x : Exponents) → HasMonomial b.poly x → degree x ≡ degree b.head
   alike b c x m =
-      let g = basis-graded n fs (IsOfGrade n (replicate n 1)) bs b (grading n (replicate n 1)) d.variables (λ f k. homogeneous n f (d.variables f k) (d.linear f k)) basis.members basis.decides tails c x m in
+      let g = basis-graded n fs (IsOfGrade n (replicate n 1)) bs b (grading n (replicate n 1)) d.variables
+          (λ f k. homogeneous n f (d.variables f k) (d.linear f k)) basis.members basis.decides tails c x m in
       sym (weight_ones n x (vars b c x m)) ∙ g.0 ∙ weight_ones n b.head (vars b c b.head (there b c))
 
   closed : (e : ℕ) → IsClosed (Contains bs) (IsOfDegree e)
@@ -203,11 +210,13 @@ module _ (order : MonomialOrder) (n : ℕ) (fs : List Terms) (a : IsAdmissible o
 
 pub region_members : (n : ℕ) (fs : List Terms) (k : Region) (bs : List MarkedPolynomial) → AreLinearForms n fs → IsBasisInRegion n fs k bs → AreLinearMembers bs
 region_members n fs k bs d b = linear_members (MonomialOrder.weighted (gains b.weight)) n fs tt d bs b.reduced.basis
-    (λ c i. record { monic = (b.marked c i).monic; tail = λ x m. elim ((b.marked c i).tail x m) [ inl e ↦ inl e | inr l ↦ inr (inl l) ] }) b.reduced.tails b.reduced.heads
+    (λ c i. record { monic = (b.marked c i).monic; tail = λ x m. elim ((b.marked c i).tail x m) [ inl e ↦ inl e | inr l ↦ inr (inl l) ] }) b.reduced.tails
+        b.reduced.heads
 
 -- ---- flips
 
-module _ (n : ℕ) (fs : List Terms) (k : Region) (bs : List MarkedPolynomial) (a : List ℤ) (d : AreLinearDifferences n fs) (b : IsBasisInRegion n fs k bs) (q : IsFlippable n k bs a) where
+module _ (n : ℕ) (fs : List Terms) (k : Region) (bs : List MarkedPolynomial) (a : List ℤ) (d : AreLinearDifferences n fs) (b : IsBasisInRegion n fs k bs)
+    (q : IsFlippable n k bs a) where
   facet : MonomialOrder
   facet = MonomialOrder.facet (negated_row_of a)
 
@@ -227,7 +236,8 @@ module _ (n : ℕ) (fs : List Terms) (k : Region) (bs : List MarkedPolynomial) (
           let c = matched-from (IsPartAlong a) bs h.parts h.each p.0 p.1 in (
             c.0,
             c.1,
-            (part-there q.point c.0 p.0 x (level_of_along q.point (negated a) c.0 p.0 side.nonzero side.zero (side.marked c.0 c.1) (along_negated a c.0 p.0 c.2))
+            (part-there q.point c.0 p.0 x (level_of_along q.point (negated a) c.0 p.0 side.nonzero side.zero (side.marked c.0 c.1)
+                (along_negated a c.0 p.0 c.2))
                 (subst (λ (z : Terms). HasMonomial z x) (sym p.2) m)).1,
           )
 
@@ -243,7 +253,8 @@ module _ (n : ℕ) (fs : List Terms) (k : Region) (bs : List MarkedPolynomial) (
   -- so are the members of the basis of the parts
   parts_members : (hs : List MarkedPolynomial) → IsBasisOfParts n bs a hs → AreLinearMembers hs
   parts_members hs p =
-      linear_members (MonomialOrder.facet (negated_row_of a)) n (polys p.along.parts) admissible (subst (AreLinearForms n) p.along.polynomials (parts_linear p.generators p.along)) hs
+      linear_members (MonomialOrder.facet (negated_row_of a)) n (polys p.along.parts) admissible
+          (subst (AreLinearForms n) p.along.polynomials (parts_linear p.generators p.along)) hs
       (part_facts n fs k bs p.along.parts hs a q.point d.forms.variables b q.region q.inside p.along.each
       (subst (λ (z : List Terms). IsReducedBasisFor n z (IsFacetBelow (negated_row_of a)) hs) p.along.polynomials p.reduced)).basis
       p.reduced.basis.marked p.reduced.tails p.reduced.heads
@@ -265,7 +276,8 @@ module _ (n : ℕ) (fs : List Terms) (k : Region) (bs : List MarkedPolynomial) (
   forms_members : (hs ls ks : List MarkedPolynomial) → IsBasisOfParts n bs a hs → AreLifts bs hs ls → AreNeededForms ls ks → AreLinearMembers ks
   forms_members hs ls ks p l m = record {
     heads = λ c i. let e = m.inside c i in lifts_linear hs ls p l e.member (e.place, e.needed.at.within, e.needed.at.is) c.head e.form.form.there;
-    within = λ c i x t. let e = m.inside c i in lifts_linear hs ls p l e.member (e.place, e.needed.at.within, e.needed.at.is) x (monic-monomials e.member.poly c e.form.form x t);
+    within = λ c i x t. let e = m.inside c i in
+        lifts_linear hs ls p l e.member (e.place, e.needed.at.within, e.needed.at.is) x (monic-monomials e.member.poly c e.form.form x t);
     apart = apart_at ks m.apart;
   }
 
@@ -273,7 +285,8 @@ module _ (n : ℕ) (fs : List Terms) (k : Region) (bs : List MarkedPolynomial) (
   exponents left right (IsFlipExponents.parts gs h r) = run_short (MonomialOrder.facet (negated_row_of a)) n gs admissible (parts_linear gs h) left right r
   exponents left right (IsFlipExponents.lift hs p r) =
       step_short bs 1 r.sum.from r.sum.at left right (plain bs members) (omega arith)
-      (taken (Contains bs) (IsOfDegree 1) r.member.poly r.sum.from (closed-degree 1 bs (plain bs members)) ((parts_members hs p).within r.member r.contained) r.sum.reached).within r.sum.sum
+      (taken (Contains bs) (IsOfDegree 1) r.member.poly r.sum.from (closed-degree 1 bs (plain bs members)) ((parts_members hs p).within r.member r.contained)
+          r.sum.reached).within r.sum.sum
   exponents left right (IsFlipExponents.tail hs ls ks p l m r) =
       let i = plain ks (forms_members hs ls ks p l m) in step_short ks 1 r.from.poly r.at left right i (omega arith) (tail_linear ks r.from i r.tail) r.sum
 
@@ -281,5 +294,6 @@ module _ (n : ℕ) (fs : List Terms) (k : Region) (bs : List MarkedPolynomial) (
   flips_of_linear_fit budget room = record {
     operations = λ op left right o. flip_fits n fs k bs a op left right d.forms.variables d.binomials b q o;
     exponents = exponents;
-    pairs = λ gs cs h w. let p = pairs_mono (length cs) n (few (MonomialOrder.facet (negated_row_of a)) n gs admissible (parts_linear gs h) cs w) in omega (arith, p, room);
+    pairs = λ gs cs h w. let p = pairs_mono (length cs) n (few (MonomialOrder.facet (negated_row_of a)) n gs admissible (parts_linear gs h) cs w) in
+        omega (arith, p, room);
   }

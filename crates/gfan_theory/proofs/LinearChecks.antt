@@ -1,6 +1,7 @@
 -- The checks of a marked set of variables and differences of variables stay within their limits, and so does its printed weight.
 -- To cite: linear_checks, set_differences, linear_weight, linear_weights. The rest are steps.
-use Rattle.std.proofs.Common.{◌≡◌, ◌⊎◌, ℕ, ◌+◌, ◌<◌, ◌≤◌, ◌^◌, List, [], ◌∷◌, ◌++◌, length, map, All, Contains, Err, ℤ, unsigned_abs, arith, refl, sym, ap, ◌∙◌, subst, inl, inr}
+use Rattle.std.proofs.Common.{◌≡◌, ◌⊎◌, ℕ, ◌+◌, ◌<◌, ◌≤◌, ◌^◌, List, [], ◌∷◌, ◌++◌, length, map, All, Contains, Err, ℤ, unsigned_abs, arith, refl, sym, ap,
+    ◌∙◌, subst, inl, inr}
 use Rattle.std.proofs.lemmas.List.Elements.{All-nil, All-contains, Contains-append_cases}
 use Rattle.gf_exponents.specs.Exponents.{Exponents, entry, plus, join, degree}
 use Rattle.gf_exponents.proofs.WeightLaws.{degree-plus, degree-same}
@@ -51,7 +52,8 @@ module _ (s : MarkedPolynomials) (l : IsLinearSet s) where
       within : (d : MarkedPolynomial) → Contains (map monic_of s.items) d → IsLinear d.poly
       within d c =
           let b = form_of s.items d c in
-          subst (λ (z : MarkedPolynomial). IsLinear z.poly) b.2 (λ x m. l.linear b.0 b.1 x (monic-monomials b.0.poly (monic_of b.0) (is_form b.0 (head_there s l.binomials b.0 b.1)) x m))
+          subst (λ (z : MarkedPolynomial). IsLinear z.poly) b.2
+              (λ x m. l.linear b.0 b.1 x (monic-monomials b.0.poly (monic_of b.0) (is_form b.0 (head_there s l.binomials b.0 b.1)) x m))
 
   forms_memory : (e : PolyError) → IsFormRefusal s.items e → e ≡ errors.Memory
   forms_memory (errors.Overflow o) f = absurd (member_fits s l.binomials f.member o f.contained f.cause)
@@ -59,7 +61,8 @@ module _ (s : MarkedPolynomials) (l : IsLinearSet s) where
   forms_memory errors.Memory f = refl
 
   -- a sum of exponents of an S-polynomial
-  pair_short : (x y : MarkedPolynomial) (left right : ℕ) (u : Exponents) (of : MarkedPolynomial) → degree x.head ≡ 1 → degree y.head ≡ 1 → degree of.head ≡ 1 → IsLinear of.poly →
+  pair_short : (x y : MarkedPolynomial) (left right : ℕ) (u : Exponents) (of : MarkedPolynomial) → degree x.head ≡ 1 → degree y.head ≡ 1 →
+      degree of.head ≡ 1 → IsLinear of.poly →
       degree (plus u of.head) ≡ degree (join x.head y.head) → IsShiftOperation u of.poly left right → left + right < 2 ^ 31
   pair_short x y left right u of dx dy d m e i =
       shift_short u of left right (let p = degree-plus u of.head in let q = join_low x.head y.head in omega (arith, p, q, dx, dy, d, e)) m i
@@ -70,8 +73,10 @@ module _ (s : MarkedPolynomials) (l : IsLinearSet s) where
     where
       at : ((x : MarkedPolynomial) × (y : MarkedPolynomial) × AreMadeMonic c d x y × IsSPolynomialExponents x y o.left o.right) → o.left + o.right < 2 ^ 31
       at (x, y, m, k) = elim (k.sum) [
-        | inl i ↦ pair_short x y o.left o.right k.of_b x dx dy dx (λ z h. forms_marked.within c hc z (monic-monomials c.poly x m.left.form z h)) (degree-same (plus k.of_b x.head) (join x.head y.head) k.shift_b) i
-        | inr i ↦ pair_short x y o.left o.right k.of_c y dx dy dy (λ z h. forms_marked.within d hd z (monic-monomials d.poly y m.right.form z h)) (degree-same (plus k.of_c y.head) (join x.head y.head) k.shift_c) i
+        | inl i ↦ pair_short x y o.left o.right k.of_b x dx dy dx (λ z h. forms_marked.within c hc z (monic-monomials c.poly x m.left.form z h))
+            (degree-same (plus k.of_b x.head) (join x.head y.head) k.shift_b) i
+        | inr i ↦ pair_short x y o.left o.right k.of_c y dx dy dy (λ z h. forms_marked.within d hd z (monic-monomials d.poly y m.right.form z h))
+            (degree-same (plus k.of_c y.head) (join x.head y.head) k.shift_c) i
       ]
         where
           dx : degree x.head ≡ 1
@@ -82,7 +87,8 @@ module _ (s : MarkedPolynomials) (l : IsLinearSet s) where
   pairs_memory (errors.Exponent o) (IsPairCause.reduction c d h hc hd q r) =
       let e = s_polynomial_degree (map monic_of s.items) c d h forms_marked hc hd q in
       let k = step_short (map monic_of s.items) e.0 r.0.from r.0.at o.left o.right forms_marked e.1
-      (taken (Contains (map monic_of s.items)) (IsOfDegree e.0) h r.0.from (closed-degree e.0 (map monic_of s.items) forms_marked) e.2 r.0.reached).within r.0.sum in
+      (taken (Contains (map monic_of s.items)) (IsOfDegree e.0) h r.0.from (closed-degree e.0 (map monic_of s.items) forms_marked) e.2 r.0.reached).within
+          r.0.sum in
       absurd (let w = r.1 in omega (arith, k, w))
   pairs_memory errors.Memory q = refl
 
@@ -110,7 +116,8 @@ module _ (s : MarkedPolynomials) (l : IsLinearSet s) where
     node : IsBasisInRegion s.variables (polys s.items) (all_positive s.variables) t.items
     node =
         let r = reduced_of s t l.binomials.variables (each_contained HasMarkedTerm s.items l.binomials.marked) a terms basis in
-        let here : IsMarkedReducedBasis s.variables (polys t.items) t.items = subst (λ (m : ℕ). IsMarkedReducedBasis m (polys t.items) t.items) a.variables r.reduced in
+        let here : IsMarkedReducedBasis s.variables (polys t.items) t.items = subst (λ (m : ℕ). IsMarkedReducedBasis m (polys t.items) t.items) a.variables
+            r.reduced in
         let own : IsMarkedReducedBasis s.variables (polys s.items) t.items =
         only_ideals_count.same s.variables (polys t.items) (polys s.items) t.items (record { inside = r.basis.ideal.back; back = r.basis.ideal.inside }) here in
         (marked_bases_are_reduced.everywhere s.variables (polys s.items) t.items set_differences.forms.variables).1 own
@@ -120,7 +127,8 @@ module _ (s : MarkedPolynomials) (l : IsLinearSet s) where
       where
         all : AreCertificatesFittingIn s.variables (all_positive s.variables) t.items
         all = certificates_of_differences_fit s.variables (all_positive s.variables) t.items some small (λ row k. absurd (none_in row k))
-            (λ normals m. let p = linear_normals s.variables (polys s.items) (all_positive s.variables) t.items set_differences node normals m small in (let k = p.0 in omega (arith, k), p.1))
+            (λ normals m. let p = linear_normals s.variables (polys s.items) (all_positive s.variables) t.items set_differences node normals m small in
+                (let k = p.0 in omega (arith, k), p.1))
 
         fits : IsWeightWithinLimits s.variables t.items
         fits (weight_errors.Cone o) h = all (weight_errors.Cone o) h

@@ -1,6 +1,7 @@
 -- The search over the bases of an ideal that differences of variables generate, in at most three variables, stays within its limits, and so does `_bases`.
 -- To cite: linear_ideals. The rest are steps.
-use Rattle.std.proofs.Common.{◌≡◌, ℕ, zero, suc, ◌+◌, ◌≤◌, true, false, List, [], ◌∷◌, ◌++◌, length, All, Contains, Err, None, ℤ, pos, ◌-ℤ◌, unsigned_abs, arith, sym, ◌∙◌, subst, inl, inr}
+use Rattle.std.proofs.Common.{◌≡◌, ℕ, zero, suc, ◌+◌, ◌≤◌, true, false, List, [], ◌∷◌, ◌++◌, length, All, Contains, Err, None, ℤ, pos, ◌-ℤ◌, unsigned_abs,
+    arith, sym, ◌∙◌, subst, inl, inr}
 use Rattle.std.proofs.lemmas.Int.{ints}
 use Rattle.std.proofs.lemmas.List.{get_or_default}
 use Rattle.std.proofs.lemmas.List.Elements.{All-nil, All-contains, Contains-get_or, Contains-append_cases}
@@ -70,7 +71,8 @@ unit_up (suc n) (suc i) = up_cons 500 _ _ (omega arith) (unit_up n i)
 systems_within : (F : Fan) → AreLinearForms F.variables F.ideal → F.variables ≤ 3 → HaveEntriesUpTo 500 F.region.rows →
     (v : MarkedPolynomials) (s : ConeOverflow) → IsNodeIn F v → IsConeStep F v s → ⊥
 systems_within F d few low v s node step =
-    let q : Cone s ≡ Memory = not_refused (Err (Cone s)) (length rows + 1) c.variables rows (a ∷ []) rows_wide equation_wide step.step (omega (arith, few, node.variables, step.is_cone.variables)) rows_low equation_low in
+    let q : Cone s ≡ Memory = not_refused (Err (Cone s)) (length rows + 1) c.variables rows (a ∷ []) rows_wide equation_wide step.step
+        (omega (arith, few, node.variables, step.is_cone.variables)) rows_low equation_low in
     absurd (cc)
   where
     n : ℕ
@@ -101,7 +103,8 @@ systems_within F d few low v s node step =
             up_divided 500 k.0 b k.2.0 k.2.1 (subst (UpTo 500) (sym m.2.row)
             (differences_up 500 m.0.head t.mono
             (λ i. let p = entry_low m.0.head i in let q = members.heads m.0 m.1 in omega (arith, p, q))
-            (λ i. let p = entry_low t.mono i in let q = members.within m.0 m.1 t.mono (term_there n m.0.poly t w.variables w.descending m.2.inside) in omega (arith, p, q))))
+            (λ i. let p = entry_low t.mono i in let q = members.within m.0 m.1 t.mono (term_there n m.0.poly t w.variables w.descending m.2.inside) in
+                omega (arith, p, q))))
 
     normal_long : (b : List ℤ) → IsNormal v.items b → length b ≡ c.variables
     normal_long b k = normal-length n v.items b canonical k ∙ sym step.is_cone.variables
@@ -118,7 +121,8 @@ systems_within F d few low v s node step =
     rows_wide : AreRows c.variables rows
     rows_wide = all_by (λ t. length t ≡ c.variables) rows (λ t k. elim (Contains-append_cases (others_of step.place c.normals) c.beside t k) [
       | inl o ↦ normal_long t (other t o)
-      | inr i ↦ All-contains (λ t. length t ≡ n) (F.region.rows ++ units n n) t (region_rows_wide n F.region region_wide) (subst (λ (z : List (List ℤ)). Contains z t) step.is_cone.beside i) ∙ sym step.is_cone.variables
+      | inr i ↦ All-contains (λ t. length t ≡ n) (F.region.rows ++ units n n) t (region_rows_wide n F.region region_wide)
+          (subst (λ (z : List (List ℤ)). Contains z t) step.is_cone.beside i) ∙ sym step.is_cone.variables
     ])
 
     rows_low : HaveEntriesUpTo 500 rows
@@ -134,15 +138,18 @@ systems_within F d few low v s node step =
     equation_wide = all_by (λ t. length t ≡ c.variables) (a ∷ []) (λ t k. subst (λ (z : List ℤ). length z ≡ c.variables) (only a t k) (normal_long a is_normal))
 
     equation_low : HaveEntriesUpTo 500 (a ∷ [])
-    equation_low = all_by (All (λ x. unsigned_abs x ≤ 500)) (a ∷ []) (λ t k. subst (λ (z : List ℤ). All (λ x. unsigned_abs x ≤ 500) z) (only a t k) (all_up 500 a (normal_up a is_normal)))
+    equation_low = all_by (All (λ x. unsigned_abs x ≤ 500)) (a ∷ [])
+        (λ t k. subst (λ (z : List ℤ). All (λ x. unsigned_abs x ≤ 500) z) (only a t k) (all_up 500 a (normal_up a is_normal)))
 
 -- ---- searches and lists
 
-search_within : (F : Fan) (budget : ℕ) → AreLinearDifferences F.variables F.ideal → F.variables ≤ 3 → HaveEntriesUpTo 500 F.region.rows → pairs_below F.variables ≤ budget → IsTreeWithinLimits F budget
+search_within : (F : Fan) (budget : ℕ) → AreLinearDifferences F.variables F.ideal → F.variables ≤ 3 → HaveEntriesUpTo 500 F.region.rows →
+    pairs_below F.variables ≤ budget → IsTreeWithinLimits F budget
 search_within F budget d few low room = record {
   flips = λ v a node q.
       flips_of_linear_fit v.variables F.ideal F.region v.items a (subst (λ (m : ℕ). AreLinearDifferences m F.ideal) (sym node.variables) d)
-      (subst (λ (m : ℕ). IsBasisInRegion m F.ideal F.region v.items) (sym node.variables) node.basis) q budget (subst (λ (m : ℕ). pairs_below m ≤ budget) (sym node.variables) room);
+      (subst (λ (m : ℕ). IsBasisInRegion m F.ideal F.region v.items) (sym node.variables) node.basis) q budget
+          (subst (λ (m : ℕ). pairs_below m ≤ budget) (sym node.variables) room);
   systems = systems_within F d.forms few low;
 }
 
@@ -151,7 +158,8 @@ uncertified : {A : Type 0} (o : ListOptions) → o.certified ≡ false → o.cer
 uncertified o plain c = absurd (let no : false ≡ true = sym plain ∙ c in cc)
 
 -- the certificates of a basis
-certified : (n : ℕ) (fs : List Terms) (b : MarkedPolynomials) → 1 ≤ n → n ≤ 3 → AreLinearDifferences n fs → IsGivenIn n (all_positive n) fs b → AreCertificatesFittingIn b.variables (all_positive n) b.items
+certified : (n : ℕ) (fs : List Terms) (b : MarkedPolynomials) → 1 ≤ n → n ≤ 3 → AreLinearDifferences n fs → IsGivenIn n (all_positive n) fs b →
+    AreCertificatesFittingIn b.variables (all_positive n) b.items
 certified n fs b some small d g =
     let node = given_in_node n (all_positive n) fs b d.forms.variables (all_positive-region n) g in
     subst (λ (m : ℕ). AreCertificatesFittingIn m (all_positive n) b.items) (sym g.variables)
@@ -167,7 +175,8 @@ lists o n fs unlimited some small d room = record {
 }
 
 regions : (o : ListOptions) (n : ℕ) (rows : List (List ℤ)) (v : List ℤ) (fs : List Terms) → o.limit ≡ None → o.certified ≡ false → 1 ≤ n → n ≤ 3 →
-    length rows ≤ 2 → AreDifferenceRows n rows → IsInRegion n (record { rows = rows; root = v }) v → AreLinearDifferences n fs → pairs_below n ≤ o.pairs → IsWithinRegion o n rows fs
+    length rows ≤ 2 → AreDifferenceRows n rows → IsInRegion n (record { rows = rows; root = v }) v → AreLinearDifferences n fs → pairs_below n ≤ o.pairs →
+        IsWithinRegion o n rows fs
 regions o n rows v fs unlimited plain some small few differ inside d room = record {
   region = regions_of_differences_fit n rows v some small few differ inside;
   root = λ k i. linear_runs (MonomialOrder.weighted (gains k.root)) n fs o.pairs tt d room;

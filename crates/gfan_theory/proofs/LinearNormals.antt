@@ -1,6 +1,7 @@
--- The normals of a reduced basis of an ideal that differences of variables generate are differences of two entries, and in three variables there are at most two.
--- To cite: linear_normals. The rest are steps.
-use Rattle.std.proofs.Common.{◌≡◌, ◌≢◌, ◌⊎◌, ℕ, zero, suc, ◌+◌, ◌<◌, ◌≤◌, true, false, List, [], ◌∷◌, length, get_or, Some, None, Option, ℤ, pos, ◌-ℤ◌, Contains, arith, refl, sym, ap, ap₂, ◌∙◌, subst, inl, inr}
+-- The normals of a reduced basis of an ideal that differences of variables generate are differences of two entries, and in three variables there are at most
+-- two. To cite: linear_normals. The rest are steps.
+use Rattle.std.proofs.Common.{◌≡◌, ◌≢◌, ◌⊎◌, ℕ, zero, suc, ◌+◌, ◌<◌, ◌≤◌, true, false, List, [], ◌∷◌, length, get_or, Some, None, Option, ℤ, pos, ◌-ℤ◌,
+    Contains, arith, refl, sym, ap, ap₂, ◌∙◌, subst, inl, inr}
 use Rattle.std.proofs.lemmas.Bool.{cases_lt}
 use Rattle.gf_frac.specs.Fraction.{zero_ℚ, one_ℚ}
 use Rattle.gf_int.proofs.ListLaws.{Contains-here}
@@ -40,7 +41,8 @@ use Rattle.gfan_theory.proofs.LinearBases.{region_members}
 -- ---- variables
 
 variable_at : (x : Exponents) → degree x ≡ 1 → IsVariable (place_of x) x
-variable_at x d = record { one = (let p = place_there x d in let q = entry_low x (place_of x) in omega (arith, p, q, d)); others = λ k n. alone x (place_of x) k d (place_there x d) n }
+variable_at x d = record { one = (let p = place_there x d in let q = entry_low x (place_of x) in omega (arith, p, q, d));
+    others = λ k n. alone x (place_of x) k d (place_there x d) n }
 
 place_inside : (n : ℕ) (x : Exponents) → degree x ≡ 1 → IsInRing n x → place_of x < n
 place_inside n x d r = elim (cases_lt (place_of x) n) [
@@ -52,7 +54,8 @@ place_inside n x d r = elim (cases_lt (place_of x) n) [
 place_same : (x y : Exponents) → degree x ≡ 1 → degree y ≡ 1 → same x y ≡ true → place_of x ≡ place_of y
 place_same x y d e s = elim (same_or_not (place_of x) (place_of y)) [
   | inl q ↦ q
-  | inr n ↦ absurd (let z = alone y (place_of y) (place_of x) e (place_there y e) n in let t = entries_same x y s (place_of x) in let p = place_there x d in omega (arith, z, t, p))
+  | inr n ↦ absurd (let z = alone y (place_of y) (place_of x) e (place_there y e) n in let t = entries_same x y s (place_of x) in let p = place_there x d in
+      omega (arith, z, t, p))
 ]
 
 four_places : (n p q r s : ℕ) → n ≤ 3 → p < n → q < n → r < n → s < n → p ≢ q → p ≢ r → p ≢ s → q ≢ r → q ≢ s → r ≢ s → ⊥
@@ -113,13 +116,16 @@ module _ (n : ℕ) (fs : List Terms) (k : Region) (bs : List MarkedPolynomial) (
 
       apart : place_of r.member.head ≡ place_of r.at → ⊥
       apart e =
-          let s = same_places r.member.head r.at (place_of r.at) dx dy (subst (λ (z : ℕ). 1 ≤ entry r.member.head z) e (place_there r.member.head dx)) (place_there r.at dy) in
+          let s = same_places r.member.head r.at (place_of r.at) dx dy (subst (λ (z : ℕ). 1 ≤ entry r.member.head z) e (place_there r.member.head dx))
+              (place_there r.at dy) in
           let t : true ≡ false = sym s ∙ r.unmarked in
           absurd (cc)
 
   -- the unmarked monomial of a member is the same for each of its normals
-  tail_once : (m : MarkedPolynomial) → Contains bs m → (x y : Exponents) → HasMonomial m.poly x → HasMonomial m.poly y → same m.head x ≡ false → same m.head y ≡ false → same x y ≡ true
-  tail_once m c x y h i p q = at (binomials m c).tail (one_of_two (Some m.head) (binomials m c).tail m.poly x (binomials m c).binomial h) (one_of_two (Some m.head) (binomials m c).tail m.poly y (binomials m c).binomial i)
+  tail_once : (m : MarkedPolynomial) → Contains bs m → (x y : Exponents) → HasMonomial m.poly x → HasMonomial m.poly y → same m.head x ≡ false →
+      same m.head y ≡ false → same x y ≡ true
+  tail_once m c x y h i p q = at (binomials m c).tail (one_of_two (Some m.head) (binomials m c).tail m.poly x (binomials m c).binomial h)
+      (one_of_two (Some m.head) (binomials m c).tail m.poly y (binomials m c).binomial i)
     where
       no_mark : (z : Exponents) → IsTheMonomial (Some m.head) z → same m.head z ≡ false → ⊥
       no_mark z t o = let s = same_flip z m.head (is_monomial m.head z t) in let e : true ≡ false = sym s ∙ o in absurd (cc)
@@ -128,13 +134,15 @@ module _ (n : ℕ) (fs : List Terms) (k : Region) (bs : List MarkedPolynomial) (
       both None t u = absurd (one_not_zero (sym t.one))
       both (Some z) t u = same_trans x z y (is_monomial z x t) (same_flip y z (is_monomial z y u))
 
-      at : (s : Option Exponents) → IsFirst (Some m.head) s x ⊎ IsFirst s (Some m.head) x → IsFirst (Some m.head) s y ⊎ IsFirst s (Some m.head) y → same x y ≡ true
+      at : (s : Option Exponents) → IsFirst (Some m.head) s x ⊎ IsFirst s (Some m.head) x → IsFirst (Some m.head) s y ⊎ IsFirst s (Some m.head) y →
+          same x y ≡ true
       at s (inl t) u = absurd (no_mark x t.there p)
       at s (inr t) (inl u) = absurd (no_mark y u.there q)
       at s (inr t) (inr u) = both s t.there u.there
 
   -- so a normal is known by the place of the mark
-  one_normal : (a c : List ℤ) → IsNormal bs a → IsNormal bs c → (r : IsLinearNormal a) (s : IsLinearNormal c) → place_of r.member.head ≡ place_of s.member.head → a ≡ c
+  one_normal : (a c : List ℤ) → IsNormal bs a → IsNormal bs c → (r : IsLinearNormal a) (s : IsLinearNormal c) →
+      place_of r.member.head ≡ place_of s.member.head → a ≡ c
   one_normal a c h i r s e = vectors_equal a c (wide ∙ sym wide_too) (λ j l.
       let inside : j < n = omega (arith, l, wide) in
       sym (dot-unit n j a inside wide) ∙ dot_comm (unit n j) a ∙ r.value (unit n j)
@@ -154,7 +162,8 @@ module _ (n : ℕ) (fs : List Terms) (k : Region) (bs : List MarkedPolynomial) (
       ds = members.heads s.member s.contained
 
       marks : same s.member.head r.member.head ≡ true
-      marks = same_places s.member.head r.member.head (place_of s.member.head) ds dr (place_there s.member.head ds) (subst (λ (z : ℕ). 1 ≤ entry r.member.head z) e (place_there r.member.head dr))
+      marks = same_places s.member.head r.member.head (place_of s.member.head) ds dr (place_there s.member.head ds)
+          (subst (λ (z : ℕ). 1 ≤ entry r.member.head z) e (place_there r.member.head dr))
 
       same_member : r.member ≡ s.member
       same_member = apart_same bs r.member s.member b.reduced.heads r.contained s.contained [] marks
@@ -179,7 +188,8 @@ module _ (n : ℕ) (fs : List Terms) (k : Region) (bs : List MarkedPolynomial) (
   few (a ∷ []) m l = omega arith
   few (a ∷ (c ∷ [])) m l = omega arith
   few (a ∷ (c ∷ (e ∷ ns))) m l =
-      absurd (four_places n (place_of r.member.head) (place_of s.member.head) (place_of t.member.head) (place_of r.at) l r.high_inside s.high_inside t.high_inside r.low_inside
+      absurd (four_places n (place_of r.member.head) (place_of s.member.head) (place_of t.member.head) (place_of r.at) l r.high_inside s.high_inside
+          t.high_inside r.low_inside
       (λ q. before_strict.irreflexive a (subst (IsBefore a) (sym (one_normal a c first second r s q)) (m.rises.0 c (Contains-here c (e ∷ ns)))))
       (λ q. before_strict.irreflexive a (subst (IsBefore a) (sym (one_normal a e first third r t q)) (m.rises.0 e (in_tail c (e ∷ ns) e (Contains-here e ns)))))
       (λ q. no_mark a r r.member r.contained (sym q))
@@ -208,7 +218,8 @@ module _ (n : ℕ) (fs : List Terms) (k : Region) (bs : List MarkedPolynomial) (
   differ : (a : List ℤ) → IsNormal bs a → IsDifferenceRow n a
   differ a h =
       let r = normal_at a h in
-      record { width = normal-length n bs a b.arranged.canonical h; high = place_of r.member.head; low = place_of r.at; high_inside = r.high_inside; low_inside = r.low_inside; difference = λ v l. r.value v }
+      record { width = normal-length n bs a b.arranged.canonical h; high = place_of r.member.head; low = place_of r.at; high_inside = r.high_inside;
+          low_inside = r.low_inside; difference = λ v l. r.value v }
 
   pub linear_normals : (ns : List (List ℤ)) → AreNormals bs ns → n ≤ 3 → (length ns ≤ 2) × AreDifferenceRows n ns
   linear_normals ns m l = (few ns m l, λ row c. differ row (m.only row c))

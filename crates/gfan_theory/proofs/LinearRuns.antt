@@ -3,7 +3,8 @@
 -- To cite: same_or_not, entry_low, alone, place_of, place_there, same_places, weight_ones, homogeneous, IsOfDegree, AreLinearMembers, AreLinearMarked, plain,
 -- join_low, closed-degree, shift_short, s_polynomial_degree, at_contained, step_short, tail_linear, linear_basis, few, run_short, pairs_mono, linear_runs.
 -- The rest are steps.
-use Rattle.std.proofs.Common.{◌≡◌, ◌⊎◌, ℕ, zero, suc, ◌+◌, ◌<◌, ◌≤◌, ◌^◌, true, List, [], ◌∷◌, ◌++◌, length, replicate, get_or, Contains, arith, refl, sym, ap, ◌∙◌, subst, inl, inr, length-append}
+use Rattle.std.proofs.Common.{◌≡◌, ◌⊎◌, ℕ, zero, suc, ◌+◌, ◌<◌, ◌≤◌, ◌^◌, true, List, [], ◌∷◌, ◌++◌, length, replicate, get_or, Contains, arith, refl, sym,
+    ap, ◌∙◌, subst, inl, inr, length-append}
 use Rattle.std.proofs.lemmas.Bool.{cases_lt}
 use Rattle.std.proofs.lemmas.List.{get_or_default, get_or_append_left}
 use Rattle.gf_frac.specs.Fraction.{neg_ℚ, one_ℚ}
@@ -52,7 +53,8 @@ turned_low : (n v a : ℕ) (d : (a ≡ n) ⊎ (a ≡ n → ⊥)) → v < suc n �
 turned_low n v a (inl e) l m o = below v n l (λ q. o (e ∙ sym q))
 turned_low n v a (inr k) l m o = below a n m k
 
-turned_apart : (n v a b : ℕ) (d : (a ≡ n) ⊎ (a ≡ n → ⊥)) (e : (b ≡ n) ⊎ (b ≡ n → ⊥)) → (a ≡ b → ⊥) → (a ≡ v → ⊥) → (b ≡ v → ⊥) → turned n v a d ≡ turned n v b e → ⊥
+turned_apart : (n v a b : ℕ) (d : (a ≡ n) ⊎ (a ≡ n → ⊥)) (e : (b ≡ n) ⊎ (b ≡ n → ⊥)) → (a ≡ b → ⊥) → (a ≡ v → ⊥) → (b ≡ v → ⊥) →
+    turned n v a d ≡ turned n v b e → ⊥
 turned_apart n v a b (inl p) (inl q) o x y z = o (p ∙ sym q)
 turned_apart n v a b (inl p) (inr q) o x y z = y (sym z)
 turned_apart n v a b (inr p) (inl q) o x y z = x z
@@ -67,7 +69,8 @@ pigeons (suc n) (suc m) p low apart =
     let other : (i : ℕ) → i < m → p i ≡ p m → ⊥ = λ i l. apart i m l (omega arith) in
     let q : m ≤ n = pigeons n m (λ i. turned n (p m) (p i) (same_or_not (p i) n))
     (λ i l. turned_low n (p m) (p i) (same_or_not (p i) n) (low m (omega arith)) (low i (omega (arith, l))) (other i l))
-    (λ i j l k. turned_apart n (p m) (p i) (p j) (same_or_not (p i) n) (same_or_not (p j) n) (apart i j l (omega (arith, k))) (other i (omega (arith, l, k))) (other j k)) in
+    (λ i j l k. turned_apart n (p m) (p i) (p j) (same_or_not (p i) n) (same_or_not (p j) n) (apart i j l (omega (arith, k))) (other i (omega (arith, l, k)))
+        (other j k)) in
     omega (arith, q)
 
 -- ---- degrees
@@ -176,7 +179,8 @@ closed-degree d bs m = record {
 pub at_contained : (bs : List MarkedPolynomial) (i : ℕ) (b : MarkedPolynomial) → IsAt bs i b → Contains bs b
 at_contained bs i b h = (i, h.within, h.is)
 
-pub shift_short : (u : Exponents) (b : MarkedPolynomial) (left right : ℕ) → degree u ≤ 1 → IsLinear b.poly → IsShiftOperation u b.poly left right → left + right < 2 ^ 31
+pub shift_short : (u : Exponents) (b : MarkedPolynomial) (left right : ℕ) → degree u ≤ 1 → IsLinear b.poly → IsShiftOperation u b.poly left right →
+    left + right < 2 ^ 31
 shift_short u b left right l m o = at o.operands
   where
     at : AreThese (entry u o.variable) (entry o.monomial o.variable) left right → left + right < 2 ^ 31
@@ -184,9 +188,11 @@ shift_short u b left right l m o = at o.operands
         let p = entry_low u o.variable in
         let q = entry_low o.monomial o.variable in
         let r = m o.monomial o.there in
-        elim t [ inl x ↦ (let y = x.0 in let z = x.1 in omega (arith, p, q, r, l, y, z)) | inr x ↦ (let y = x.0 in let z = x.1 in omega (arith, p, q, r, l, y, z)) ]
+        elim t [ inl x ↦ (let y = x.0 in let z = x.1 in omega (arith, p, q, r, l, y, z)) | inr x ↦
+            (let y = x.0 in let z = x.1 in omega (arith, p, q, r, l, y, z)) ]
 
-pub step_short : (bs : List MarkedPolynomial) (e : ℕ) (f : Terms) (at : Exponents) (left right : ℕ) → AreLinearMarked bs → e ≤ 2 → IsWithin (IsOfDegree e) f → IsStepExponents (Contains bs) f at left right → left + right < 2 ^ 31
+pub step_short : (bs : List MarkedPolynomial) (e : ℕ) (f : Terms) (at : Exponents) (left right : ℕ) → AreLinearMarked bs → e ≤ 2 → IsWithin (IsOfDegree e) f →
+    IsStepExponents (Contains bs) f at left right → left + right < 2 ^ 31
 step_short bs e f at left right m l w o =
     let p : degree at ≡ e = w at o.place.there in
     let q = degree-same at (plus o.rest o.member.head) o.place.divides in
@@ -196,20 +202,25 @@ step_short bs e f at left right m l w o =
 
 pub tail_linear : (bs : List MarkedPolynomial) (b : MarkedPolynomial) → AreLinearMarked bs → IsTail bs b → IsLinear b.poly
 tail_linear bs b m (IsTail.member e c) = m.within b c
-tail_linear bs c m (IsTail.step b e t h s k) = (taken (Contains bs) (IsOfDegree 1) b.poly c.poly (closed-degree 1 bs m) (tail_linear bs b m t) (reached-one (Contains bs) b.poly c.poly s)).within
+tail_linear bs c m (IsTail.step b e t h s k) =
+    (taken (Contains bs) (IsOfDegree 1) b.poly c.poly (closed-degree 1 bs m) (tail_linear bs b m t) (reached-one (Contains bs) b.poly c.poly s)).within
 
 -- an S-polynomial has a degree of two at most
-pub s_polynomial_degree : (bs : List MarkedPolynomial) (b c : MarkedPolynomial) (f : Terms) → AreLinearMarked bs → Contains bs b → Contains bs c → IsSPolynomial b c f → (e : ℕ) × (e ≤ 2) × IsWithin (IsOfDegree e) f
+pub s_polynomial_degree : (bs : List MarkedPolynomial) (b c : MarkedPolynomial) (f : Terms) → AreLinearMarked bs → Contains bs b → Contains bs c →
+    IsSPolynomial b c f → (e : ℕ) × (e ≤ 2) × IsWithin (IsOfDegree e) f
 s_polynomial_degree bs b c f m k l s = (
   degree (join b.head c.head),
   (let p = join_low b.head c.head in let q = m.heads b k in let r = m.heads c l in omega (arith, p, q, r)),
   sum_within (IsOfDegree (degree (join b.head c.head))) (times one_ℚ s.left b.poly) (times (neg_ℚ one_ℚ) s.right c.poly) f
-      (multiple_within (Contains bs) (IsOfDegree (degree (join b.head c.head))) b one_ℚ s.left (closed-degree (degree (join b.head c.head)) bs m) k (degree-same (plus s.left b.head) (join b.head c.head) s.of_left))
-      (multiple_within (Contains bs) (IsOfDegree (degree (join b.head c.head))) c (neg_ℚ one_ℚ) s.right (closed-degree (degree (join b.head c.head)) bs m) l (degree-same (plus s.right c.head) (join b.head c.head) s.of_right)) s.equal,
+      (multiple_within (Contains bs) (IsOfDegree (degree (join b.head c.head))) b one_ℚ s.left (closed-degree (degree (join b.head c.head)) bs m) k
+          (degree-same (plus s.left b.head) (join b.head c.head) s.of_left))
+      (multiple_within (Contains bs) (IsOfDegree (degree (join b.head c.head))) c (neg_ℚ one_ℚ) s.right (closed-degree (degree (join b.head c.head)) bs m) l
+          (degree-same (plus s.right c.head) (join b.head c.head) s.of_right)) s.equal,
 )
 
 -- such a list is a Gröbner basis of the ideal that it generates, by each order that marks it so
-pub linear_basis : (order : MonomialOrder) (n : ℕ) (bs : List MarkedPolynomial) → IsAdmissible order n (replicate n 1) → AreLinearMembers bs → AreInVariables n (polys bs) → AreMarked (below_of order) bs →
+pub linear_basis : (order : MonomialOrder) (n : ℕ) (bs : List MarkedPolynomial) → IsAdmissible order n (replicate n 1) → AreLinearMembers bs →
+    AreInVariables n (polys bs) → AreMarked (below_of order) bs →
     IsGroebnerBasisFor n (polys bs) (below_of order) bs
 linear_basis order n bs a m v marked = buchbergers_criterion.for_order order n (replicate n 1) bs a v
     (λ f c. homogeneous n f (v f c) (let k = Contains-marked bs f c in subst IsLinear k.2 (m.within k.0 k.1))) marked pairs
@@ -231,8 +242,10 @@ module _ (order : MonomialOrder) (n : ℕ) (fs : List Terms) (a : IsAdmissible o
 
   -- so what an S-polynomial of it leaves has a greatest monomial that a mark divides
   none_new : (bs : List MarkedPolynomial) (f g : Terms) (b : MarkedPolynomial) → IsWorkList fs (below_of order) bs → AreLinearMembers bs →
-      ((e : MarkedPolynomial) × (c : MarkedPolynomial) × Contains bs e × Contains bs c × IsSPolynomial e c f) → Reached (Contains bs) f g → IsMonicForm g b → IsMarked (below_of order) b → IsDivisible (Contains bs) b.head
-  none_new bs f g b w m (e, c, k, l, s) r q h = (basis bs w m).initial g member b.head (record { there = q.there; greatest = λ y t. h.tail y (form_to g b y q t) })
+      ((e : MarkedPolynomial) × (c : MarkedPolynomial) × Contains bs e × Contains bs c × IsSPolynomial e c f) → Reached (Contains bs) f g → IsMonicForm g b →
+          IsMarked (below_of order) b → IsDivisible (Contains bs) b.head
+  none_new bs f g b w m (e, c, k, l, s) r q h = (basis bs w m).initial g member b.head
+      (record { there = q.there; greatest = λ y t. h.tail y (form_to g b y q t) })
     where
       inside : (z : MarkedPolynomial) → Contains bs z → IsMember n (polys bs) z.poly
       inside z t = member-generator n (polys bs) z.poly (Contains-polys bs z t)
@@ -245,10 +258,12 @@ module _ (order : MonomialOrder) (n : ℕ) (fs : List Terms) (a : IsAdmissible o
           (member-s_polynomial n (polys bs) e c f (members_variables bs w) (there e k) (there c l) (inside e k) (inside c l) s)
 
   -- one member more
-  more : (bs : List MarkedPolynomial) (g : Terms) (b : MarkedPolynomial) → AreLinearMembers bs → IsLinear g → IsMonicForm g b → (IsDivisible (Contains bs) b.head → ⊥) → AreLinearMembers (bs ++ b ∷ [])
+  more : (bs : List MarkedPolynomial) (g : Terms) (b : MarkedPolynomial) → AreLinearMembers bs → IsLinear g → IsMonicForm g b →
+      (IsDivisible (Contains bs) b.head → ⊥) → AreLinearMembers (bs ++ b ∷ [])
   more bs g b m l q new = record {
     heads = λ c k. elim (Contains-last bs b c k) [ inl i ↦ m.heads c i | inr e ↦ ap (λ (z : MarkedPolynomial). degree z.head) e ∙ l b.head q.there ];
-    within = λ c k. elim (Contains-last bs b c k) [ inl i ↦ m.within c i | inr e ↦ subst (λ (z : MarkedPolynomial). IsLinear z.poly) (sym e) (λ x h. l x (monic-monomials g b q x h)) ];
+    within = λ c k. elim (Contains-last bs b c k) [ inl i ↦ m.within c i | inr e ↦
+        subst (λ (z : MarkedPolynomial). IsLinear z.poly) (sym e) (λ x h. l x (monic-monomials g b q x h)) ];
     apart = λ i j c e less p o s. at i j c e less p o s (cases_lt j (length bs));
   }
     where
@@ -256,7 +271,8 @@ module _ (order : MonomialOrder) (n : ℕ) (fs : List Terms) (a : IsAdmissible o
       before : (i : ℕ) (c : MarkedPolynomial) → i < length bs → IsAt (bs ++ b ∷ []) i c → IsAt bs i c
       before i c less p = record { within = less; is = sym (get_or_append_left bs (b ∷ []) c i less) ∙ p.is }
 
-      at : (i j : ℕ) (c e : MarkedPolynomial) → i < j → IsAt (bs ++ b ∷ []) i c → IsAt (bs ++ b ∷ []) j e → same c.head e.head ≡ true → (j < length bs) ⊎ (length bs ≤ j) → ⊥
+      at : (i j : ℕ) (c e : MarkedPolynomial) → i < j → IsAt (bs ++ b ∷ []) i c → IsAt (bs ++ b ∷ []) j e → same c.head e.head ≡ true → (j < length bs)
+          ⊎ (length bs ≤ j) → ⊥
       at i j c e less p o s (inl k) = m.apart i j c e less (before i c (omega (arith, less, k)) p) (before j e k o) s
       at i j c e less p o s (inr k) =
           let long : length (bs ++ b ∷ []) ≡ length bs + 1 = length-append bs (b ∷ []) in
@@ -264,10 +280,12 @@ module _ (order : MonomialOrder) (n : ℕ) (fs : List Terms) (a : IsAdmissible o
           let end : j ≡ length bs = omega (arith, long, inside, k) in
           let is : e ≡ b = sym o.is ∙ ap (λ (z : ℕ). get_or (bs ++ b ∷ []) z e) end ∙ last_at bs b e in
           let first : IsAt bs i c = before i c (omega (arith, less, end)) p in
-          new (record { member = c; contained = at_contained bs i c first; rest = []; divides = same_flip c.head b.head (subst (λ (z : MarkedPolynomial). same c.head z.head ≡ true) is s) })
+          new (record { member = c; contained = at_contained bs i c first; rest = [];
+              divides = same_flip c.head b.head (subst (λ (z : MarkedPolynomial). same c.head z.head ≡ true) is s) })
 
   work_linear : (bs : List MarkedPolynomial) → IsWorkList fs (below_of order) bs → AreLinearMembers bs
-  work_linear bs IsWorkList.start = record { heads = λ b c. absurd (omega (arith, c.1)); within = λ b c. absurd (omega (arith, c.1)); apart = λ i j b c l p q s. absurd (let k = p.within in omega (arith, k)) }
+  work_linear bs IsWorkList.start = record { heads = λ b c. absurd (omega (arith, c.1)); within = λ b c. absurd (omega (arith, c.1));
+      apart = λ i j b c l p q s. absurd (let k = p.within in omega (arith, k)) }
   work_linear cs (IsWorkList.more bs f g b w o r q m new) = at (work_linear bs w) o
     where
       at : AreLinearMembers bs → IsOrigin fs bs f → AreLinearMembers (bs ++ b ∷ [])
@@ -303,7 +321,8 @@ module _ (order : MonomialOrder) (n : ℕ) (fs : List Terms) (a : IsAdmissible o
               let c = at_contained bs i (get_or bs i none) (here i l) in
               let z : entry (head_at i) (place_of (head_at i)) ≡ 0 =
               variables_of_member n fs (get_or bs i none).poly d.variables (work-members n fs (below_of order) bs d.variables w (get_or bs i none) c)
-              (head_at i) (mark-there (below_of order) (get_or bs i none) (work-marked fs (below_of order) bs w (get_or bs i none) c)) (place_of (head_at i)) k in
+              (head_at i) (mark-there (below_of order) (get_or bs i none) (work-marked fs (below_of order) bs w (get_or bs i none) c)) (place_of (head_at i))
+                  k in
               let s = place_there (head_at i) (one i l) in
               absurd (omega (arith, z, s))
 

@@ -26,16 +26,19 @@ pub record AnswerAt (q : Request) (input text : List ℕ) (ring : List (List ℕ
   pub said : IsSaid q input ring fs region early
   pub list : IsTextBehind early q.options.certified q.options.limit ring region fs text
 
-pub answer_at : (q : Request) (input text : List ℕ) (ring : List (List ℕ)) (fs : List Terms) → HasPolynomials q.from_basis input ring fs → IsBasesAnswer q input text → AnswerAt q input text ring fs
+pub answer_at : (q : Request) (input text : List ℕ) (ring : List (List ℕ)) (fs : List Terms) → HasPolynomials q.from_basis input ring fs →
+    IsBasesAnswer q input text → AnswerAt q input text ring fs
 answer_at q input text ring fs p a =
     let l : IsListAnswer q input text = answers_are_lists q input text a in
     let same : (ring ≡ l.ring) × (fs ≡ l.ideal) = says_once q.from_basis input l.ring ring l.ideal fs l.said.read p in
     let here : AnswerAt q input text l.ring l.ideal = record { region = l.region; early = l.early; said = l.said; list = l.list } in
-    subst (λ (gs : List Terms). AnswerAt q input text ring gs) (sym same.1) (subst (λ (names : List (List ℕ)). AnswerAt q input text names l.ideal) (sym same.0) here)
+    subst (λ (gs : List Terms). AnswerAt q input text ring gs) (sym same.1)
+        (subst (λ (names : List (List ℕ)). AnswerAt q input text names l.ideal) (sym same.0) here)
 
 -- ---- lists depend on the ideal alone
 
-reduced_moved : (n : ℕ) (fs gs : List Terms) (below : Exponents → Exponents → Type 0) (leads : Terms → Exponents → Type 0) (bs : List MarkedPolynomial) → AreSameIdeal n fs gs →
+reduced_moved : (n : ℕ) (fs gs : List Terms) (below : Exponents → Exponents → Type 0) (leads : Terms → Exponents → Type 0) (bs : List MarkedPolynomial) →
+    AreSameIdeal n fs gs →
     IsReducedBy n fs below leads bs → IsReducedBy n gs below leads bs
 reduced_moved n fs gs below leads bs s r = record {
   basis = record { members = λ c k. s.inside c.poly (r.basis.members c k); marked = r.basis.marked; initial = λ f m x l. r.basis.initial f (s.back f m) x l };
@@ -55,7 +58,8 @@ given_moved n k fs gs x s g = record {
   };
 }
 
-pub all_moved : (n : ℕ) (k : Region) (fs gs : List Terms) (list : List MarkedPolynomials) → AreSameIdeal n fs gs → AreAllBasesIn n k fs list → AreAllBasesIn n k gs list
+pub all_moved : (n : ℕ) (k : Region) (fs gs : List Terms) (list : List MarkedPolynomials) → AreSameIdeal n fs gs → AreAllBasesIn n k fs list →
+    AreAllBasesIn n k gs list
 all_moved n k fs gs list s a = record {
   only = λ x j. given_moved n k fs gs x s (a.only x j);
   all = λ x g. a.all x (given_moved n k gs fs x (record { inside = s.back; back = s.inside }) g);
@@ -71,7 +75,8 @@ all_moved n k fs gs list s a = record {
 
 -- ---- one text
 
-two_answers : (q r : Request) (input other text same : List ℕ) (ring : List (List ℕ)) (fs gs : List Terms) → ReadTheSame q r → AreSameIdeal (length ring) gs fs →
+two_answers : (q r : Request) (input other text same : List ℕ) (ring : List (List ℕ)) (fs gs : List Terms) → ReadTheSame q r →
+    AreSameIdeal (length ring) gs fs →
     AnswerAt q input text ring fs → AnswerAt r other same ring gs → text ≡ same
 two_answers q r input other text same ring fs gs e s a b =
     a.list.is_text ∙ ap (list_text ring) items ∙ sym moved.is_text
@@ -99,7 +104,8 @@ two_answers q r input other text same ring fs gs e s a b =
         (one_list_in n k fs (a.early ++ a.list.list) (b.early ++ moved.list) a.said.inside a.said.is_region a.list.are_all theirs)
 
     texts : AreItemTextsIn q.options.certified ring k a.list.list moved.items
-    texts = subst (λ (l : List MarkedPolynomials). AreItemTextsIn q.options.certified ring k l moved.items) (sym lists) (subst (λ (c : Bool). AreItemTextsIn c ring k moved.list moved.items) e.certified moved.are_items)
+    texts = subst (λ (l : List MarkedPolynomials). AreItemTextsIn q.options.certified ring k l moved.items) (sym lists)
+        (subst (λ (c : Bool). AreItemTextsIn c ring k moved.list moved.items) e.certified moved.are_items)
 
     items : a.list.items ≡ moved.items
     items = items_one q.options.certified ring k a.list.list a.list.items moved.items a.list.are_items texts

@@ -11,7 +11,8 @@ use Rattle.gfan_theory.specs.Answers.{IsListAnswer}
 use Rattle.gfan_theory.specs.Served.{ServesRegion, AnswersServe}
 use Rattle.gfan_theory.proofs.AnswerLaws.{answers_are_lists}
 
-list_serves : (n : ℕ) (k : Region) (fs : List Terms) (list : List MarkedPolynomials) → AreInVariables n fs → IsRegion n k → AreAllBasesIn n k fs list → ServesRegion n k fs list
+list_serves : (n : ℕ) (k : Region) (fs : List Terms) (list : List MarkedPolynomials) → AreInVariables n fs → IsRegion n k → AreAllBasesIn n k fs list →
+    ServesRegion n k fs list
 list_serves n k fs list v r all = record {
   exactly = λ x. regions_are_served.exactly n k fs list x all;
   monomial = λ w. regions_are_served.monomial n k fs list w v r all;

@@ -1,6 +1,7 @@
 -- The normals of the bases of the ideal that the difference of two variables generates.
 -- To cite: is_monomial, plain_of_variables, short_of_variables, in_variables, gives, vectors_equal, normals_differ. The rest are steps.
-use Rattle.std.proofs.Common.{◌≡◌, ◌⊎◌, ℕ, zero, suc, ◌<◌, ◌≤◌, Bool, true, false, if◌then◌else◌, List, [], ◌∷◌, length, get_or, Some, ℤ, pos, ◌+ℤ◌, ◌-ℤ◌, ◌*ℤ◌, unsigned_abs, arith, refl, sym, ap, ap₂, ◌∙◌, subst, inl, inr, Contains}
+use Rattle.std.proofs.Common.{◌≡◌, ◌⊎◌, ℕ, zero, suc, ◌<◌, ◌≤◌, Bool, true, false, if◌then◌else◌, List, [], ◌∷◌, length, get_or, Some, ℤ, pos, ◌+ℤ◌, ◌-ℤ◌,
+    ◌*ℤ◌, unsigned_abs, arith, refl, sym, ap, ap₂, ◌∙◌, subst, inl, inr, Contains}
 use Rattle.std.specs.Int.{◌∣◌}
 use Rattle.std.proofs.Math.Nat.{eq-one_of_dvd-one}
 use Rattle.std.proofs.lemmas.Int.{ints}
@@ -62,7 +63,8 @@ small_entry i x v k = at (same_place k i)
 module _ (n : ℕ) (f : Terms) (d : IsDifferenceOfVariables n f) where
   -- a monomial of it is one of the two variables
   either : (x : Exponents) → HasMonomial f x → (same x d.left ≡ true) ⊎ (same x d.right ≡ true)
-  either x h = elim (one_of_two (Some d.left) (Some d.right) f x d.binomial h) [ inl k ↦ inl (is_monomial d.left x k.there) | inr k ↦ inr (is_monomial d.right x k.there) ]
+  either x h = elim (one_of_two (Some d.left) (Some d.right) f x d.binomial h) [ inl k ↦ inl (is_monomial d.left x k.there) | inr k ↦
+      inr (is_monomial d.right x k.there) ]
 
   small : (x : Exponents) → HasMonomial f x → (k : ℕ) → entry x k ≤ 1
   small x h k = at (either x h)
@@ -119,13 +121,17 @@ variable_weight [] x i h = refl
 variable_weight (w ∷ v) [] i h = absurd (let p = h.one in omega (arith, p))
 variable_weight (w ∷ v) (a ∷ x) zero h =
     let p : a ≡ 1 = h.one in
-    ap (λ (b : ℕ). w *ℤ pos b +ℤ whole_weight v x) p ∙ ap (λ (y : ℤ). w *ℤ pos 1 +ℤ y) (none_weight v x (λ k. h.others (suc k) (λ e. omega (arith, e)))) ∙ omega (arith, ints)
+    ap (λ (b : ℕ). w *ℤ pos b +ℤ whole_weight v x) p ∙ ap (λ (y : ℤ). w *ℤ pos 1 +ℤ y) (none_weight v x (λ k. h.others (suc k) (λ e. omega (arith, e))))
+        ∙ omega (arith, ints)
 variable_weight (w ∷ v) (a ∷ x) (suc i) h =
     let p : a ≡ 0 = h.others 0 (λ e. omega (arith, e)) in
-    ap (λ (b : ℕ). w *ℤ pos b +ℤ whole_weight v x) p ∙ ap (λ (y : ℤ). w *ℤ pos 0 +ℤ y) (variable_weight v x i (record { one = h.one; others = λ k m. h.others (suc k) (λ e. m (omega (arith, e))) })) ∙ omega (arith, ints)
+    ap (λ (b : ℕ). w *ℤ pos b +ℤ whole_weight v x) p
+        ∙ ap (λ (y : ℤ). w *ℤ pos 0 +ℤ y) (variable_weight v x i (record { one = h.one; others = λ k m. h.others (suc k) (λ e. m (omega (arith, e))) }))
+        ∙ omega (arith, ints)
 
 -- what a row of two variables gives, divided by its content
-module _ (n i j : ℕ) (x y : Exponents) (a : List ℤ) (lx : length x ≡ n) (ly : length y ≡ n) (first : i < n) (second : j < n) (apart : i ≡ j → ⊥) (vx : IsVariable i x) (vy : IsVariable j y)
+module _ (n i j : ℕ) (x y : Exponents) (a : List ℤ) (lx : length x ≡ n) (ly : length y ≡ n) (first : i < n) (second : j < n) (apart : i ≡ j → ⊥)
+    (vx : IsVariable i x) (vy : IsVariable j y)
     (part : IsPrimitivePart (differences x y) a) where
   same_length : length x ≡ length y
   same_length = lx ∙ sym ly
@@ -166,7 +172,8 @@ pub record IsNormalBetween (n : ℕ) (f : Terms) (d : IsDifferenceOfVariables n 
   pub of_mark : ((same h d.left ≡ true) × (high ≡ d.first) × (low ≡ d.second)) ⊎ ((same h d.right ≡ true) × (high ≡ d.second) × (low ≡ d.first))
   pub gives : (v : List ℤ) → dot a v ≡ get_or v high (pos 0) -ℤ get_or v low (pos 0)
 
-module _ (n : ℕ) (f : Terms) (d : IsDifferenceOfVariables n f) (b : MarkedPolynomial) (form : IsMonicForm f b) (long : length b.head ≡ n) (y : Exponents) (ly : length y ≡ n) (there : HasMonomial b.poly y)
+module _ (n : ℕ) (f : Terms) (d : IsDifferenceOfVariables n f) (b : MarkedPolynomial) (form : IsMonicForm f b) (long : length b.head ≡ n) (y : Exponents)
+    (ly : length y ≡ n) (there : HasMonomial b.poly y)
     (other : same b.head y ≡ false) (a : List ℤ) (part : IsPrimitivePart (differences b.head y) a) where
   between : IsNormalBetween n f d b.head a
   between = at (either n f d b.head form.there) (either n f d y (monic-monomials f b form y there))
@@ -183,7 +190,8 @@ module _ (n : ℕ) (f : Terms) (d : IsDifferenceOfVariables n f) (b : MarkedPoly
         high_inside = d.first_inside;
         low_inside = d.second_inside;
         of_mark = inl (p, refl, refl);
-        gives = gives n d.first d.second b.head y a long ly d.first_inside d.second_inside d.apart (along d.first b.head d.left p d.is_left) (along d.second y d.right q d.is_right) part;
+        gives = gives n d.first d.second b.head y a long ly d.first_inside d.second_inside d.apart (along d.first b.head d.left p d.is_left)
+            (along d.second y d.right q d.is_right) part;
       }
       at (inr p) (inl q) = record {
         high = d.second;
@@ -191,7 +199,8 @@ module _ (n : ℕ) (f : Terms) (d : IsDifferenceOfVariables n f) (b : MarkedPoly
         high_inside = d.second_inside;
         low_inside = d.first_inside;
         of_mark = inr (p, refl, refl);
-        gives = gives n d.second d.first b.head y a long ly d.second_inside d.first_inside (λ e. d.apart (sym e)) (along d.second b.head d.right p d.is_right) (along d.first y d.left q d.is_left) part;
+        gives = gives n d.second d.first b.head y a long ly d.second_inside d.first_inside (λ e. d.apart (sym e)) (along d.second b.head d.right p d.is_right)
+            (along d.first y d.left q d.is_left) part;
       }
 
 -- two variables are different monomials
@@ -203,11 +212,13 @@ not_both n f d h p q =
     let t = d.is_right.others d.first d.apart in
     omega (arith, l, r, s, t)
 
-places_once : (n : ℕ) (f : Terms) (d : IsDifferenceOfVariables n f) (h : Exponents) (a b : List ℤ) (p : IsNormalBetween n f d h a) (q : IsNormalBetween n f d h b) → (p.high ≡ q.high) × (p.low ≡ q.low)
+places_once : (n : ℕ) (f : Terms) (d : IsDifferenceOfVariables n f) (h : Exponents) (a b : List ℤ) (p : IsNormalBetween n f d h a)
+    (q : IsNormalBetween n f d h b) → (p.high ≡ q.high) × (p.low ≡ q.low)
 places_once n f d h a b p q = at p.of_mark q.of_mark
   where
     at : ((same h d.left ≡ true) × (p.high ≡ d.first) × (p.low ≡ d.second)) ⊎ ((same h d.right ≡ true) × (p.high ≡ d.second) × (p.low ≡ d.first)) →
-        ((same h d.left ≡ true) × (q.high ≡ d.first) × (q.low ≡ d.second)) ⊎ ((same h d.right ≡ true) × (q.high ≡ d.second) × (q.low ≡ d.first)) → (p.high ≡ q.high) × (p.low ≡ q.low)
+        ((same h d.left ≡ true) × (q.high ≡ d.first) × (q.low ≡ d.second)) ⊎ ((same h d.right ≡ true) × (q.high ≡ d.second) × (q.low ≡ d.first)) →
+            (p.high ≡ q.high) × (p.low ≡ q.low)
     at (inl x) (inl y) = (x.1 ∙ sym y.1, x.2 ∙ sym y.2)
     at (inl x) (inr y) = absurd (not_both n f d h x.0 y.0)
     at (inr x) (inl y) = absurd (not_both n f d h y.0 x.0)
@@ -227,7 +238,8 @@ pub record IsNormalOfMember (n : ℕ) (f : Terms) (d : IsDifferenceOfVariables n
   pub contained : Contains bs member
   pub between : IsNormalBetween n f d member.head a
 
-module _ (n : ℕ) (f : Terms) (d : IsDifferenceOfVariables n f) (bs : List MarkedPolynomial) (canonical : AreCanonical n bs) (forms : (b : MarkedPolynomial) → Contains bs b → IsMonicForm f b)
+module _ (n : ℕ) (f : Terms) (d : IsDifferenceOfVariables n f) (bs : List MarkedPolynomial) (canonical : AreCanonical n bs)
+    (forms : (b : MarkedPolynomial) → Contains bs b → IsMonicForm f b)
     (short : length bs ≤ 1) where
   normal_at : (a : List ℤ) → IsNormal bs a → IsNormalOfMember n f d bs a
   normal_at a h =
@@ -235,13 +247,15 @@ module _ (n : ℕ) (f : Terms) (d : IsDifferenceOfVariables n f) (bs : List Mark
       record {
         member = r.member;
         contained = r.contained;
-        between = between n f d r.member (forms r.member r.contained) (canonical r.member r.contained).head r.at r.width r.there r.unmarked a (subst (λ (z : List ℤ). IsPrimitivePart z a) r.row r.part);
+        between = between n f d r.member (forms r.member r.contained) (canonical r.member r.contained).head r.at r.width r.there r.unmarked a
+            (subst (λ (z : List ℤ). IsPrimitivePart z a) r.row r.part);
       }
 
   normal_differs : (a : List ℤ) → IsNormal bs a → IsDifferenceRow n a
   normal_differs a h =
       let r = normal_at a h in
-      record { width = normal-length n bs a canonical h; high = r.between.high; low = r.between.low; high_inside = r.between.high_inside; low_inside = r.between.low_inside; difference = λ v l. r.between.gives v }
+      record { width = normal-length n bs a canonical h; high = r.between.high; low = r.between.low; high_inside = r.between.high_inside;
+          low_inside = r.between.low_inside; difference = λ v l. r.between.gives v }
 
   -- there is one member at most
   one_member : (b c : MarkedPolynomial) → Contains bs b → Contains bs c → b ≡ c
