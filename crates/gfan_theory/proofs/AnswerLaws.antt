@@ -97,8 +97,14 @@ from_request false None (Some basis) o workers input text a =
         inside = read_variables input a.value.1.1 a.read.1.1;
         region = answer.1;
         is_region = subst (λ (k : Region). IsRegion (length a.value.1.1.0) k) (sym answer.1) (all_positive-region (length a.value.1.1.0));
-        before = (a.value.1.0.1, answer.4.basis, answer.4.front,
-            subst (λ (names : List (List ℕ)). IsTextOf ring_marked_set basis.bytes (names, a.value.1.0.1)) answer.2 a.read.1.0, answer.4.taken, refl);
+        before = (
+          a.value.1.0.1,
+          answer.4.basis,
+          answer.4.front,
+          subst (λ (names : List (List ℕ)). IsTextOf ring_marked_set basis.bytes (names, a.value.1.0.1)) answer.2 a.read.1.0,
+          answer.4.taken,
+          refl,
+        );
       };
       list = answer.4.list;
     }
@@ -114,8 +120,14 @@ from_request true None (Some basis) o workers input text a =
         inside = given_variables input a.value.1.1 a.read.1.1;
         region = answer.1;
         is_region = subst (λ (k : Region). IsRegion (length a.value.1.1.0) k) (sym answer.1) (all_positive-region (length a.value.1.1.0));
-        before = (a.value.1.0.1, answer.4.basis, answer.4.front,
-            subst (λ (names : List (List ℕ)). IsTextOf ring_marked_set basis.bytes (names, a.value.1.0.1)) answer.2 a.read.1.0, answer.4.taken, refl);
+        before = (
+          a.value.1.0.1,
+          answer.4.basis,
+          answer.4.front,
+          subst (λ (names : List (List ℕ)). IsTextOf ring_marked_set basis.bytes (names, a.value.1.0.1)) answer.2 a.read.1.0,
+          answer.4.taken,
+          refl,
+        );
       };
       list = answer.4.list;
     }
@@ -131,8 +143,14 @@ from_request false (Some file) (Some basis) o workers input text a =
         inside = read_variables input a.value.1.1 a.read.1.1;
         region = (a.value.0, a.read.0, answer.1);
         is_region = answer.1.region;
-        before = (a.value.1.0.1, answer.4.basis, answer.4.front,
-            subst (λ (names : List (List ℕ)). IsTextOf ring_marked_set basis.bytes (names, a.value.1.0.1)) answer.2 a.read.1.0, answer.4.taken, refl);
+        before = (
+          a.value.1.0.1,
+          answer.4.basis,
+          answer.4.front,
+          subst (λ (names : List (List ℕ)). IsTextOf ring_marked_set basis.bytes (names, a.value.1.0.1)) answer.2 a.read.1.0,
+          answer.4.taken,
+          refl,
+        );
       };
       list = answer.4.list;
     }
@@ -148,8 +166,14 @@ from_request true (Some file) (Some basis) o workers input text a =
         inside = given_variables input a.value.1.1 a.read.1.1;
         region = (a.value.0, a.read.0, answer.1);
         is_region = answer.1.region;
-        before = (a.value.1.0.1, answer.4.basis, answer.4.front,
-            subst (λ (names : List (List ℕ)). IsTextOf ring_marked_set basis.bytes (names, a.value.1.0.1)) answer.2 a.read.1.0, answer.4.taken, refl);
+        before = (
+          a.value.1.0.1,
+          answer.4.basis,
+          answer.4.front,
+          subst (λ (names : List (List ℕ)). IsTextOf ring_marked_set basis.bytes (names, a.value.1.0.1)) answer.2 a.read.1.0,
+          answer.4.taken,
+          refl,
+        );
       };
       list = answer.4.list;
     }
@@ -164,9 +188,11 @@ pub says_once : (from_basis : Bool) (source : List ℕ) (ring other : List (List
     (other ≡ ring) × (gs ≡ fs)
 says_once false source ring other fs gs p q =
     let same : (other, q.0) ≡ (ring, p.0) = (source_once (ring_set_vector false) (ring_and_once a_set (vector_where false ∷ [])) source).once (ring, p.0)
-        (other, q.0) p.1 q.1 in
-    (ap (λ (v : List (List ℕ) × (List Written × Option (List ℤ))). v.0) same, q.2
-        ∙ ap (λ (v : List (List ℕ) × (List Written × Option (List ℤ))). generators_of v.1.0) same ∙ sym p.2)
+    (other, q.0) p.1 q.1 in (
+      ap (λ (v : List (List ℕ) × (List Written × Option (List ℤ))). v.0) same,
+      q.2
+          ∙ ap (λ (v : List (List ℕ) × (List Written × Option (List ℤ))). generators_of v.1.0) same ∙ sym p.2,
+    )
 says_once true source ring other fs gs p q =
     let same : (other, q.0) ≡ (ring, p.0) = (source_once ring_marked_set (ring_and_once a_marked_set []) source).once (ring, p.0) (other, q.0) p.1 q.1 in
     (ap (λ (v : List (List ℕ) × MarkedPolynomials). v.0) same, q.2 ∙ ap (λ (v : List (List ℕ) × MarkedPolynomials). polys v.1.items) same ∙ sym p.2)
@@ -179,7 +205,7 @@ region_once (Some f) None n k j e p q = absurd (cc)
 region_once (Some f) (Some g) n k j e p q =
     let bytes : g.bytes ≡ f.bytes = cc in
     let rows : q.0 ≡ p.0 = (source_once vectors_alone (items_once vector_list [] []) f.bytes).once p.0 q.0 p.1
-        (subst (λ (b : List ℕ). IsTextOf vectors_alone b q.0) bytes q.1) in
+    (subst (λ (b : List ℕ). IsTextOf vectors_alone b q.0) bytes q.1) in
     regions_are_one.one n p.0 j k (subst (λ (z : List (List ℤ)). IsRegionOf n z j) rows q.2) p.2
 
 pub basis_once : (ring : List (List ℕ)) (source : List ℕ) (s t : MarkedPolynomials) → IsTextOf ring_marked_set source (ring, s) →

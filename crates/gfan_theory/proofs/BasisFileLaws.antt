@@ -58,7 +58,7 @@ module _ (ring : List (List ℕ)) (b : MarkedPolynomials) (is : IsRing ring) (ke
   ring_read =
       subst (λ (m : ℕ). IsRingRead (from (basis_file ring b) 0) m ring) (none_more (length (ring_words ring)))
       (subst (λ (source : List ℕ). IsRingRead (from source 0) (0 + length (ring_words ring)) ring) (sym flat)
-          (rings_again ring [] (10 ∷ (basis_text ring b.items ++ 10 ∷ [])) is).read)
+      (rings_again ring [] (10 ∷ (basis_text ring b.items ++ 10 ∷ [])) is).read)
 
   -- at the line end, and behind it
   here : drop (length (ring_words ring)) (basis_file ring b) ≡ 10 ∷ (basis_text ring b.items ++ 10 ∷ [])
@@ -85,7 +85,7 @@ module _ (ring : List (List ℕ)) (b : MarkedPolynomials) (is : IsRing ring) (ke
   left : drop (length (ring_text ring) + length (basis_text ring b.items)) (basis_file ring b) ≡ 10 ∷ []
   left =
       ap₂ (λ (n : ℕ) (l : List ℕ). drop n l) (sym (length-append (ring_text ring) (basis_text ring b.items)))
-          (sym (append_assoc (ring_text ring) (basis_text ring b.items) (10 ∷ [])))
+      (sym (append_assoc (ring_text ring) (basis_text ring b.items) (10 ∷ [])))
       ∙ drop-append_seam (ring_text ring ++ basis_text ring b.items) (10 ∷ [])
 
   pub read_again : IsTextOf ring_marked_set (basis_file ring b) (ring, record { variables = length ring; items = b.items })
@@ -103,10 +103,10 @@ reciprocal_one = sym (one-*ℚ (reciprocal_ℚ one_ℚ)) ∙ *ℚ-reciprocal_ℚ
 monic_itself : (b : MarkedPolynomial) → coefficient b.poly b.head ≡ one_ℚ → monic_of b ≡ b
 monic_itself b e =
     ap (λ (f : Terms). record { poly = f; head = b.head }) (ap (λ (c : Fraction). times (reciprocal_ℚ c) [] b.poly) e
-        ∙ ap (λ (c : Fraction). times c [] b.poly) reciprocal_one ∙ times-plain b.poly)
+    ∙ ap (λ (c : Fraction). times c [] b.poly) reciprocal_one ∙ times-plain b.poly)
 
 pub monic_again : (bs : List MarkedPolynomial) → ((b : MarkedPolynomial) → Contains bs b → coefficient b.poly b.head ≡ one_ℚ) → map monic_of bs ≡ bs
 monic_again [] h = refl
 monic_again (b ∷ bs) h =
     ap₂ (λ (c : MarkedPolynomial) (cs : List MarkedPolynomial). c ∷ cs) (monic_itself b (h b (Contains-here b bs)))
-        (monic_again bs (λ c k. h c (Contains-there b c bs k)))
+    (monic_again bs (λ c k. h c (Contains-there b c bs k)))

@@ -1,7 +1,41 @@
 -- The rays of a cone that differences of two entries cut out of the non-negative vectors have entries 0 and 1; so they are few, and their sums small.
 -- To cite: IsOrderRow, AreBits, by_entry, doubled, rays_bits, few_rays, bits_up, no_wide_sums, sum_up_of. The rest are steps.
-use Rattle.std.proofs.Common.{◌≡◌, ℕ, zero, suc, ◌+◌, ◌<◌, ◌≤◌, ◌^◌, List, [], ◌∷◌, ◌++◌, length, replicate, get_or, ℤ, pos, negsuc, ◌+ℤ◌, ◌-ℤ◌, ◌*ℤ◌, ◌<ℤ◌,
-    ◌≤ℤ◌, unsigned_abs, arith, refl, sym, ap, ap₂, ◌∙◌, subst, inl, inr, Contains}
+use Rattle.std.proofs.Common.{
+  ◌≡◌,
+  ℕ,
+  zero,
+  suc,
+  ◌+◌,
+  ◌<◌,
+  ◌≤◌,
+  ◌^◌,
+  List,
+  [],
+  ◌∷◌,
+  ◌++◌,
+  length,
+  replicate,
+  get_or,
+  ℤ,
+  pos,
+  negsuc,
+  ◌+ℤ◌,
+  ◌-ℤ◌,
+  ◌*ℤ◌,
+  ◌<ℤ◌,
+  ◌≤ℤ◌,
+  unsigned_abs,
+  arith,
+  refl,
+  sym,
+  ap,
+  ap₂,
+  ◌∙◌,
+  subst,
+  inl,
+  inr,
+  Contains,
+}
 use Rattle.std.specs.Prelude.{AllPairs}
 use Rattle.std.specs.Int.{◌∣◌}
 use Rattle.std.specs.List.{AllByRecursion}
@@ -112,21 +146,21 @@ module _ (n : ℕ) (hs rays : List (List ℤ)) (h : IsRays n hs [] [] rays) (ord
   up_at t (IsOrderRow.difference d) l =
       subst (λ (z : ℤ). pos 0 ≤ℤ z) (sym (d.difference (indicator x) long_too ∙ ap₂ (λ (p q : ℤ). p -ℤ q) (entry-indicator x d.high) (entry-indicator x d.low)))
       (step_up (get_or x d.high (pos 0)) (get_or x d.low (pos 0)) (one_of (get_or x d.high (pos 0))) (one_of (get_or x d.low (pos 0)))
-          (fits d.high d.high_inside) (fits d.low d.low_inside)
+      (fits d.high d.high_inside) (fits d.low d.low_inside)
       (subst (λ (z : ℤ). pos 0 ≤ℤ z) (d.difference x long) l))
   up_at t (IsOrderRow.entry place i e) l =
       subst (λ (z : ℤ). pos 0 ≤ℤ z) (sym (e (indicator x) long_too ∙ entry-indicator x place))
-          (bit_up (get_or x place (pos 0)) (one_of (get_or x place (pos 0))) (fits place i))
+      (bit_up (get_or x place (pos 0)) (one_of (get_or x place (pos 0))) (fits place i))
 
   flat_at : (t : List ℤ) → IsOrderRow n t → dot t x ≡ pos 0 → dot t (indicator x) ≡ pos 0
   flat_at t (IsOrderRow.difference d) e =
       d.difference (indicator x) long_too ∙ ap₂ (λ (p q : ℤ). p -ℤ q) (entry-indicator x d.high) (entry-indicator x d.low)
       ∙ step_flat (get_or x d.high (pos 0)) (get_or x d.low (pos 0)) (one_of (get_or x d.high (pos 0))) (one_of (get_or x d.low (pos 0)))
-          (fits d.high d.high_inside) (fits d.low d.low_inside)
+      (fits d.high d.high_inside) (fits d.low d.low_inside)
       (sym (d.difference x long) ∙ e)
   flat_at t (IsOrderRow.entry place i f) e =
       f (indicator x) long_too ∙ entry-indicator x place
-          ∙ bit_flat (get_or x place (pos 0)) (one_of (get_or x place (pos 0))) (fits place i) (sym (f x long) ∙ e)
+      ∙ bit_flat (get_or x place (pos 0)) (one_of (get_or x place (pos 0))) (fits place i) (sym (f x long) ∙ e)
 
   made : Made n rays [] (indicator x)
   made = (described_of n hs [] [] rays h).complete (indicator x) long_too (λ t k. up_at t (order t k) ((described_of n hs [] [] rays h).valid.up t x k c))
@@ -171,7 +205,7 @@ module _ (n : ℕ) (hs rays : List (List ℤ)) (h : IsRays n hs [] [] rays) (ord
   indicator_primitive : IsPrimitive (indicator x)
   indicator_primitive d a =
       inl (eq-one_of_dvd-one (subst (λ (z : ℤ). d ∣ unsigned_abs z) one_there
-          (by_entry (λ (z : ℤ). d ∣ unsigned_abs z) (indicator x) some.0 a (let l = some.1 in let m = long_too in omega arith))))
+      (by_entry (λ (z : ℤ). d ∣ unsigned_abs z) (indicator x) some.0 a (let l = some.1 in let m = long_too in omega arith))))
 
   not_zero : AllZero x → ⊥
   not_zero a = let z = by_entry (λ (y : ℤ). y ≡ pos 0) x some.0 a (let l = some.1 in let m = long in omega arith) in let l = some.2 in omega (arith, ints, z, l)
@@ -296,4 +330,4 @@ sum_up_of n [] each = up_zeros 0 n
 sum_up_of n (x ∷ xs) each =
     up_weaker (1 + length xs) (length (x ∷ xs)) (vector_sum (scaled (pos 1) x) (combined n (replicate (length xs) (pos 1)) xs)) (omega arith)
     (up_sum 1 (length xs) (scaled (pos 1) x) (combined n (replicate (length xs) (pos 1)) xs)
-        (up_times (pos 1) 1 1 x (omega arith) (each x (Contains-here x xs))) (sum_up_of n xs (λ y i. each y (in_tail x xs y i))))
+    (up_times (pos 1) 1 1 x (omega arith) (each x (Contains-here x xs))) (sum_up_of n xs (λ y i. each y (in_tail x xs y i))))

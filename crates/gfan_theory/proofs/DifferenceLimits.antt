@@ -1,7 +1,41 @@
 -- Regions and certificates of few rows that are differences of two entries, in at most three variables, stay within their limits.
 -- To cite: rows_small, regions_of_differences_fit, certificates_of_differences_fit. The rest are steps.
-use Rattle.std.proofs.Common.{◌≡◌, ◌⊎◌, ℕ, zero, suc, ◌+◌, ◌-◌, ◌<◌, ◌≤◌, ◌^◌, List, [], ◌∷◌, ◌++◌, length, get_or, append_assoc, length-append, ℤ, pos, ◌-ℤ◌,
-    ◌≤ℤ◌, unsigned_abs, arith, refl, sym, ap, ◌∙◌, subst, inl, inr, All, Contains, Err}
+use Rattle.std.proofs.Common.{
+  ◌≡◌,
+  ◌⊎◌,
+  ℕ,
+  zero,
+  suc,
+  ◌+◌,
+  ◌-◌,
+  ◌<◌,
+  ◌≤◌,
+  ◌^◌,
+  List,
+  [],
+  ◌∷◌,
+  ◌++◌,
+  length,
+  get_or,
+  append_assoc,
+  length-append,
+  ℤ,
+  pos,
+  ◌-ℤ◌,
+  ◌≤ℤ◌,
+  unsigned_abs,
+  arith,
+  refl,
+  sym,
+  ap,
+  ◌∙◌,
+  subst,
+  inl,
+  inr,
+  All,
+  Contains,
+  Err,
+}
 use Rattle.std.specs.Prelude.{not}
 use Rattle.std.specs.Ordering.{int_eq}
 use Rattle.std.proofs.lemmas.Int.{ints}
@@ -72,7 +106,7 @@ row_small n row d i l =
 pub rows_small : (n : ℕ) (rows : List (List ℤ)) (b : ℕ) → 1 ≤ b → AreDifferenceRows n rows → HaveEntriesUpTo b rows
 rows_small n rows b h differ = all_by (All (λ x. unsigned_abs x ≤ b)) rows (λ t c i d l.
     let p : unsigned_abs (get_or t i (pos 0)) ≤ b =
-        (let q = row_small n t (differ t c) i (let w = (differ t c).width in omega (arith, l, w)) in omega (arith, q, h)) in
+    (let q = row_small n t (differ t c) i (let w = (differ t c).width in omega (arith, l, w)) in omega (arith, q, h)) in
     subst (λ (z : ℤ). unsigned_abs z ≤ b) (get_or_default t i (pos 0) d l) p)
 
 -- ---- bounds
@@ -150,10 +184,10 @@ module _ (n : ℕ) (rows : List (List ℤ)) (some : 1 ≤ n) (small : n ≤ 3) (
   no_step s k =
       let long : length (rows ++ units n n) ≤ 5 = (let p = length-append rows (units n n) in let q = length_units n n in omega (arith, p, q, few, small)) in
       let up : reached_bound n 1 (length (rows ++ units n n) - 0) ≤ reached_bound n 1 5 =
-          mono (reached_bound n 1) (reached_rises n some) (length (rows ++ units n n) - 0) 5 (omega (arith, long)) in
+      mono (reached_bound n 1) (reached_rises n some) (length (rows ++ units n n) - 0) 5 (omega (arith, long)) in
       let room = reached_room n some small in
       small_systems_stay_within_limits n 1 0 (rows ++ units n n) some (omega arith) all_wide (all_small 1 (omega arith)) pointed
-          (λ i h m. absurd (omega (arith, h))) (omega (arith, up, room)) (turned_room n small) s k
+      (λ i h m. absurd (omega (arith, h))) (omega (arith, up, room)) (turned_room n small) s k
 
   module _ (rays : List (List ℤ)) (h : IsRays n (rows ++ units n n) [] [] rays) where
     bits : (x : List ℤ) → Contains rays x → AreBits x
@@ -172,8 +206,8 @@ module _ (n : ℕ) (rows : List (List ℤ)) (some : 1 ≤ n) (small : n ≤ 3) (
     no_part : (a : List ℤ) (w : WideVector) → IsFirstWide w (adding_steps (zeros n) (zeros_of a rays)) → ⊥
     no_part a w f =
         let p : length (zeros_of a rays) ≤ length rays =
-            (let q = length-filter_both (λ (r : List ℤ). int_eq (dot a r) (pos 0)) (λ (r : List ℤ). not (int_eq (dot a r) (pos 0))) (λ r. refl) rays in
-            omega (arith, q)) in
+        (let q = length-filter_both (λ (r : List ℤ). int_eq (dot a r) (pos 0)) (λ (r : List ℤ). not (int_eq (dot a r) (pos 0))) (λ r. refl) rays in
+        omega (arith, q)) in
         no_wide_sums 0 (zeros n) (zeros_of a rays) w (up_zeros 0 n) (λ x c. up x ((zeros_part a rays).each x c).0) (let q = eight in omega (arith, p, q)) f
 
     low_root : (i : ℕ) → unsigned_abs (get_or (sum_of n rays) i (pos 0)) ≤ 8
@@ -195,10 +229,10 @@ regions_of_differences_fit n rows v some small few differ inside = at
     at (region_errors.WideRoot i x) h =
         let r = h.1 in
         absurd (not_past (get_or r.0 i (pos 0)) (subst (λ (z : List ℤ). unsigned_abs (get_or z i (pos 0)) ≤ 8) (sym r.1.sum)
-            (low_root n rows some small few differ r.1.rays r.1.are_rays i)) r.2.past)
+        (low_root n rows some small few differ r.1.rays r.1.are_rays i)) r.2.past)
     at (region_errors.Cone s) (inl h) =
         absurd (let m = not_refused (Err (gordan_errors.Cone s)) (length (rows ++ units n n) + 0) n (rows ++ units n n) []
-            (all_wide n rows some small few differ) (All-nil _) h small (all_small n rows some small few differ 500 (omega arith)) (All-nil _) in cc)
+        (all_wide n rows some small few differ) (All-nil _) h small (all_small n rows some small few differ 500 (omega arith)) (All-nil _) in cc)
     at (region_errors.Cone s) (inr h) = absurd (no_step n rows some small few differ s h.1)
     at (region_errors.Wide w) h = absurd (no_sum n rows some small few differ h.1.0 h.1.1 w h.1.2)
     at region_errors.Memory h = refl

@@ -90,8 +90,11 @@ cut_request false (Some file) None o workers input text refusal a = record {
     before = refl;
   };
   begun = a.begun.begun;
-  whole = λ joined t. record { value = a.value; read = a.read;
-      answer = record { formed = a.formed; is_answer = record { region = a.begun.region; is_region = a.begun.is_region; list = t } } };
+  whole = λ joined t. record {
+    value = a.value;
+    read = a.read;
+    answer = record { formed = a.formed; is_answer = record { region = a.begun.region; is_region = a.begun.is_region; list = t } };
+  };
 }
 cut_request true (Some file) None o workers input text refusal a = record {
   ring = a.value.1.0;
@@ -109,8 +112,11 @@ cut_request true (Some file) None o workers input text refusal a = record {
   whole = λ joined t. record {
     value = a.value;
     read = a.read;
-    answer = record { formed = a.formed; is_answer =
-        record { basis = a.begun.basis; within = record { region = a.begun.within.region; is_region = a.begun.within.is_region; list = t } } };
+    answer = record {
+      formed = a.formed;
+      is_answer =
+          record { basis = a.begun.basis; within = record { region = a.begun.within.region; is_region = a.begun.within.is_region; list = t } };
+    };
   };
 }
 cut_request false None (Some basis) o workers input text refusal a = record {
@@ -123,15 +129,24 @@ cut_request false None (Some basis) o workers input text refusal a = record {
     inside = read_variables input a.value.1.1 a.read.1.1;
     region = a.begun.1;
     is_region = subst (λ (k : Region). IsRegion (length a.value.1.1.0) k) (sym a.begun.1) (all_positive-region (length a.value.1.1.0));
-    before = (a.value.1.0.1, a.begun.4.basis, a.begun.4.front,
-        subst (λ (names : List (List ℕ)). IsTextOf ring_marked_set basis.bytes (names, a.value.1.0.1)) a.begun.2 a.read.1.0, a.begun.4.taken, refl);
+    before = (
+      a.value.1.0.1,
+      a.begun.4.basis,
+      a.begun.4.front,
+      subst (λ (names : List (List ℕ)). IsTextOf ring_marked_set basis.bytes (names, a.value.1.0.1)) a.begun.2 a.read.1.0,
+      a.begun.4.taken,
+      refl,
+    );
   };
   begun = a.begun.4.begun;
   whole = λ joined t. record {
     value = a.value;
     read = a.read;
-    answer = record { formed = a.formed; is_answer =
-        (a.begun.0, a.begun.1, a.begun.2, a.begun.3, record { basis = a.begun.4.basis; taken = a.begun.4.taken; front = a.begun.4.front; list = t }) };
+    answer = record {
+      formed = a.formed;
+      is_answer =
+          (a.begun.0, a.begun.1, a.begun.2, a.begun.3, record { basis = a.begun.4.basis; taken = a.begun.4.taken; front = a.begun.4.front; list = t });
+    };
   };
 }
 cut_request true None (Some basis) o workers input text refusal a = record {
@@ -144,15 +159,24 @@ cut_request true None (Some basis) o workers input text refusal a = record {
     inside = given_variables input a.value.1.1 a.read.1.1;
     region = a.begun.1;
     is_region = subst (λ (k : Region). IsRegion (length a.value.1.1.0) k) (sym a.begun.1) (all_positive-region (length a.value.1.1.0));
-    before = (a.value.1.0.1, a.begun.4.basis, a.begun.4.front,
-        subst (λ (names : List (List ℕ)). IsTextOf ring_marked_set basis.bytes (names, a.value.1.0.1)) a.begun.2 a.read.1.0, a.begun.4.taken, refl);
+    before = (
+      a.value.1.0.1,
+      a.begun.4.basis,
+      a.begun.4.front,
+      subst (λ (names : List (List ℕ)). IsTextOf ring_marked_set basis.bytes (names, a.value.1.0.1)) a.begun.2 a.read.1.0,
+      a.begun.4.taken,
+      refl,
+    );
   };
   begun = a.begun.4.begun;
   whole = λ joined t. record {
     value = a.value;
     read = a.read;
-    answer = record { formed = a.formed; is_answer =
-        (a.begun.0, a.begun.1, a.begun.2, a.begun.3, record { basis = a.begun.4.basis; taken = a.begun.4.taken; front = a.begun.4.front; list = t }) };
+    answer = record {
+      formed = a.formed;
+      is_answer =
+          (a.begun.0, a.begun.1, a.begun.2, a.begun.3, record { basis = a.begun.4.basis; taken = a.begun.4.taken; front = a.begun.4.front; list = t });
+    };
   };
 }
 cut_request false (Some file) (Some basis) o workers input text refusal a = record {
@@ -165,15 +189,24 @@ cut_request false (Some file) (Some basis) o workers input text refusal a = reco
     inside = read_variables input a.value.1.1 a.read.1.1;
     region = (a.value.0, a.read.0, a.begun.1);
     is_region = a.begun.1.region;
-    before = (a.value.1.0.1, a.begun.4.basis, a.begun.4.front,
-        subst (λ (names : List (List ℕ)). IsTextOf ring_marked_set basis.bytes (names, a.value.1.0.1)) a.begun.2 a.read.1.0, a.begun.4.taken, refl);
+    before = (
+      a.value.1.0.1,
+      a.begun.4.basis,
+      a.begun.4.front,
+      subst (λ (names : List (List ℕ)). IsTextOf ring_marked_set basis.bytes (names, a.value.1.0.1)) a.begun.2 a.read.1.0,
+      a.begun.4.taken,
+      refl,
+    );
   };
   begun = a.begun.4.begun;
   whole = λ joined t. record {
     value = a.value;
     read = a.read;
-    answer = record { formed = a.formed; is_answer =
-        (a.begun.0, a.begun.1, a.begun.2, a.begun.3, record { basis = a.begun.4.basis; taken = a.begun.4.taken; front = a.begun.4.front; list = t }) };
+    answer = record {
+      formed = a.formed;
+      is_answer =
+          (a.begun.0, a.begun.1, a.begun.2, a.begun.3, record { basis = a.begun.4.basis; taken = a.begun.4.taken; front = a.begun.4.front; list = t });
+    };
   };
 }
 cut_request true (Some file) (Some basis) o workers input text refusal a = record {
@@ -186,15 +219,24 @@ cut_request true (Some file) (Some basis) o workers input text refusal a = recor
     inside = given_variables input a.value.1.1 a.read.1.1;
     region = (a.value.0, a.read.0, a.begun.1);
     is_region = a.begun.1.region;
-    before = (a.value.1.0.1, a.begun.4.basis, a.begun.4.front,
-        subst (λ (names : List (List ℕ)). IsTextOf ring_marked_set basis.bytes (names, a.value.1.0.1)) a.begun.2 a.read.1.0, a.begun.4.taken, refl);
+    before = (
+      a.value.1.0.1,
+      a.begun.4.basis,
+      a.begun.4.front,
+      subst (λ (names : List (List ℕ)). IsTextOf ring_marked_set basis.bytes (names, a.value.1.0.1)) a.begun.2 a.read.1.0,
+      a.begun.4.taken,
+      refl,
+    );
   };
   begun = a.begun.4.begun;
   whole = λ joined t. record {
     value = a.value;
     read = a.read;
-    answer = record { formed = a.formed; is_answer =
-        (a.begun.0, a.begun.1, a.begun.2, a.begun.3, record { basis = a.begun.4.basis; taken = a.begun.4.taken; front = a.begun.4.front; list = t }) };
+    answer = record {
+      formed = a.formed;
+      is_answer =
+          (a.begun.0, a.begun.1, a.begun.2, a.begun.3, record { basis = a.begun.4.basis; taken = a.begun.4.taken; front = a.begun.4.front; list = t });
+    };
   };
 }
 
@@ -271,11 +313,18 @@ taken_itself n k fs last basis g t = ap₂ (λ (m : ℕ) (bs : List MarkedPolyno
 
     same : basis.items ≡ last.items
     same = arranged_equal n basis.items last.items first g.arranged (record {
-      there = λ x h. (x, subst (λ (bs : List MarkedPolynomial). Contains bs x) monic
-          (Contains-permutation basis.items (map monic_of last.items) x (IsPermutation-sym (map monic_of last.items) basis.items t.arranged.members) h),
-          record { head = same-refl x.head; poly = λ e. refl });
-      back = λ x h. (x, Contains-permutation (map monic_of last.items) basis.items x t.arranged.members
-          (subst (λ (bs : List MarkedPolynomial). Contains bs x) (sym monic) h), record { head = same-refl x.head; poly = λ e. refl });
+      there = λ x h. (
+        x,
+        subst (λ (bs : List MarkedPolynomial). Contains bs x) monic
+            (Contains-permutation basis.items (map monic_of last.items) x (IsPermutation-sym (map monic_of last.items) basis.items t.arranged.members) h),
+        record { head = same-refl x.head; poly = λ e. refl },
+      );
+      back = λ x h. (
+        x,
+        Contains-permutation (map monic_of last.items) basis.items x t.arranged.members
+            (subst (λ (bs : List MarkedPolynomial). Contains bs x) (sym monic) h),
+        record { head = same-refl x.head; poly = λ e. refl },
+      );
     })
 
 -- ---- the runs
@@ -289,7 +338,7 @@ module _ (q : Request) (input text : List ℕ) (ring : List (List ℕ)) (fs : Li
     (last : MarkedPolynomials)
     (some : text ≢ []) (said : IsSaid q input ring fs k early) (begun : IsBegunListBehind early q.options.certified ring k fs (front ++ last ∷ []) rest text)
     (file : NamedFile) (options : ListOptions) (workers : ℕ) (behind : List ℕ) (kept : AreKept (length ring) last.items)
-        (bytes : file.bytes ≡ basis_file ring last)
+    (bytes : file.bytes ≡ basis_file ring last)
     (alike : options.certified ≡ q.options.certified) (second : AnswerAt (continued q file options workers) input behind ring fs) where
   region : second.region ≡ k
   region = region_once q.within q.within (length ring) k second.region refl said.region second.said.region
@@ -308,7 +357,7 @@ module _ (q : Request) (input text : List ℕ) (ring : List (List ℕ)) (fs : Li
   taken : before.1 ≡ last
   taken = taken_itself (length ring) k fs last before.1 given
       (subst (λ (s : MarkedPolynomials). IsBasisTaken k s before.1)
-          (basis_once ring file.bytes (record { variables = length ring; items = last.items }) before.0 again before.3) before.4)
+      (basis_once ring file.bytes (record { variables = length ring; items = last.items }) before.0 again before.3) before.4)
 
   early_is : second.early ≡ before.2 ++ last ∷ []
   early_is = before.5 ∙ ap (λ (b : MarkedPolynomials). before.2 ++ b ∷ []) taken
@@ -322,7 +371,7 @@ module _ (q : Request) (input text : List ℕ) (ring : List (List ℕ)) (fs : Li
   parts : Parts ring k fs early q.options.certified text behind
   parts =
       let p = parts_are_joined q.options.certified options.limit ring k fs early front before.2 rest last text behind said.inside said.is_region begun
-          second_list in
+      second_list in
       record {
         joined = list_text ring (p.0 ++ p.1);
         is_joined = record { others = p.1; second = p.3; is_joined = text_joined ring p.0 p.1 text some p.2 };

@@ -1,7 +1,32 @@
 -- The members of reduced Gröbner bases of ideals that linear polynomials generate are linear, and so are their flips within limits.
 -- To cite: ones_positive, linear_members, region_members, flips_of_linear_fit. The rest are steps.
-use Rattle.std.proofs.Common.{◌≡◌, ◌⊎◌, ℕ, zero, suc, ◌+◌, ◌<◌, ◌≤◌, ◌^◌, true, false, List, [], ◌∷◌, length, replicate, Contains, ℤ, arith, sym, ap, ◌∙◌,
-    subst, inl, inr}
+use Rattle.std.proofs.Common.{
+  ◌≡◌,
+  ◌⊎◌,
+  ℕ,
+  zero,
+  suc,
+  ◌+◌,
+  ◌<◌,
+  ◌≤◌,
+  ◌^◌,
+  true,
+  false,
+  List,
+  [],
+  ◌∷◌,
+  length,
+  replicate,
+  Contains,
+  ℤ,
+  arith,
+  sym,
+  ap,
+  ◌∙◌,
+  subst,
+  inl,
+  inr,
+}
 use Rattle.gf_frac.specs.Fraction.{◌*ℚ◌, neg_ℚ, one_ℚ}
 use Rattle.gf_frac.proofs.FractionLaws.{*ℚ-zero}
 use Rattle.gf_int.proofs.ListLaws.{Contains-here}
@@ -44,8 +69,21 @@ use Rattle.gf_flip.specs.Along.{AreAlong, IsBasisOfParts}
 use Rattle.gf_flip.specs.Operations.{IsFlipExponents, IsFlipWithinLimits}
 use Rattle.gf_binomial_calls.proofs.FlipLaws.{flip_fits}
 use Rattle.gfan_theory.specs.Linear.{IsLinear, AreLinearForms, AreLinearDifferences}
-use Rattle.gfan_theory.proofs.LinearRuns.{same_or_not, weight_ones, homogeneous, IsOfDegree, AreLinearMembers, plain, closed-degree, step_short, tail_linear,
-    linear_basis, few, run_short, pairs_mono}
+use Rattle.gfan_theory.proofs.LinearRuns.{
+  same_or_not,
+  weight_ones,
+  homogeneous,
+  IsOfDegree,
+  AreLinearMembers,
+  plain,
+  closed-degree,
+  step_short,
+  tail_linear,
+  linear_basis,
+  few,
+  run_short,
+  pairs_mono,
+}
 
 -- ---- the grade of all ones
 
@@ -71,11 +109,11 @@ apart_at (d ∷ bs) a zero (suc j) b c l p q s =
     let first : d ≡ b = p.is in
     let k : j < length bs = (let m = q.within in omega (arith, m)) in
     let other : NoMultiple d.head c.head = (contained_each (λ (x : MarkedPolynomial). NoMultiple d.head x.head × NoMultiple x.head d.head) bs a.0 c
-        (j, k, q.is)).0 in
+    (j, k, q.is)).0 in
     not_twice b.head c.head (subst (λ (x : MarkedPolynomial). NoMultiple x.head c.head) first other) (same_flip b.head c.head s)
 apart_at (d ∷ bs) a (suc i) (suc j) b c l p q s =
     apart_at bs a.1 i j b c (omega (arith, l)) (record { within = (let m = p.within in omega (arith, m)); is = p.is })
-        (record { within = (let m = q.within in omega (arith, m)); is = q.is }) s
+    (record { within = (let m = q.within in omega (arith, m)); is = q.is }) s
 
 -- ---- the members whose marks are variables
 
@@ -100,8 +138,11 @@ linear_part (b ∷ bs) a =
             | inl q ↦ (subst (Contains (b ∷ bs)) (sym q) (Contains-here b bs), ap (λ (z : MarkedPolynomial). degree z.head) q ∙ e)
             | inr q ↦ let t = r.1.from c q in (Contains-there b c bs t.0, t.1)
           ];
-          to = λ c k f. elim (cons_cases b c bs k) [ inl q ↦ subst (Contains (b ∷ r.0)) (sym q) (Contains-here b r.0) | inr q ↦
-              Contains-there b c r.0 (r.1.to c q f) ];
+          to = λ c k f. elim (cons_cases b c bs k) [
+            | inl q ↦ subst (Contains (b ∷ r.0)) (sym q) (Contains-here b r.0)
+            | inr q ↦
+                Contains-there b c r.0 (r.1.to c q f)
+          ];
           apart = (
             each_contained (λ (x : MarkedPolynomial). NoMultiple b.head x.head × NoMultiple x.head b.head) r.0
                 (λ x k. contained_each (λ (y : MarkedPolynomial). NoMultiple b.head y.head × NoMultiple y.head b.head) bs a.0 x (r.1.from x k).0),
@@ -148,7 +189,7 @@ module _ (order : MonomialOrder) (n : ℕ) (fs : List Terms) (a : IsAdmissible o
   alike : (b : MarkedPolynomial) → Contains bs b → (x : Exponents) → HasMonomial b.poly x → degree x ≡ degree b.head
   alike b c x m =
       let g = basis-graded n fs (IsOfGrade n (replicate n 1)) bs b (grading n (replicate n 1)) d.variables
-          (λ f k. homogeneous n f (d.variables f k) (d.linear f k)) basis.members basis.decides tails c x m in
+      (λ f k. homogeneous n f (d.variables f k) (d.linear f k)) basis.members basis.decides tails c x m in
       sym (weight_ones n x (vars b c x m)) ∙ g.0 ∙ weight_ones n b.head (vars b c b.head (there b c))
 
   closed : (e : ℕ) → IsClosed (Contains bs) (IsOfDegree e)
@@ -211,7 +252,7 @@ module _ (order : MonomialOrder) (n : ℕ) (fs : List Terms) (a : IsAdmissible o
 pub region_members : (n : ℕ) (fs : List Terms) (k : Region) (bs : List MarkedPolynomial) → AreLinearForms n fs → IsBasisInRegion n fs k bs → AreLinearMembers bs
 region_members n fs k bs d b = linear_members (MonomialOrder.weighted (gains b.weight)) n fs tt d bs b.reduced.basis
     (λ c i. record { monic = (b.marked c i).monic; tail = λ x m. elim ((b.marked c i).tail x m) [ inl e ↦ inl e | inr l ↦ inr (inl l) ] }) b.reduced.tails
-        b.reduced.heads
+    b.reduced.heads
 
 -- ---- flips
 
@@ -254,7 +295,7 @@ module _ (n : ℕ) (fs : List Terms) (k : Region) (bs : List MarkedPolynomial) (
   parts_members : (hs : List MarkedPolynomial) → IsBasisOfParts n bs a hs → AreLinearMembers hs
   parts_members hs p =
       linear_members (MonomialOrder.facet (negated_row_of a)) n (polys p.along.parts) admissible
-          (subst (AreLinearForms n) p.along.polynomials (parts_linear p.generators p.along)) hs
+      (subst (AreLinearForms n) p.along.polynomials (parts_linear p.generators p.along)) hs
       (part_facts n fs k bs p.along.parts hs a q.point d.forms.variables b q.region q.inside p.along.each
       (subst (λ (z : List Terms). IsReducedBasisFor n z (IsFacetBelow (negated_row_of a)) hs) p.along.polynomials p.reduced)).basis
       p.reduced.basis.marked p.reduced.tails p.reduced.heads
@@ -286,7 +327,7 @@ module _ (n : ℕ) (fs : List Terms) (k : Region) (bs : List MarkedPolynomial) (
   exponents left right (IsFlipExponents.lift hs p r) =
       step_short bs 1 r.sum.from r.sum.at left right (plain bs members) (omega arith)
       (taken (Contains bs) (IsOfDegree 1) r.member.poly r.sum.from (closed-degree 1 bs (plain bs members)) ((parts_members hs p).within r.member r.contained)
-          r.sum.reached).within r.sum.sum
+      r.sum.reached).within r.sum.sum
   exponents left right (IsFlipExponents.tail hs ls ks p l m r) =
       let i = plain ks (forms_members hs ls ks p l m) in step_short ks 1 r.from.poly r.at left right i (omega arith) (tail_linear ks r.from i r.tail) r.sum
 

@@ -1,7 +1,33 @@
 -- The checks of a marked set of variables and differences of variables stay within their limits, and so does its printed weight.
 -- To cite: linear_checks, set_differences, linear_weight, linear_weights. The rest are steps.
-use Rattle.std.proofs.Common.{◌≡◌, ◌⊎◌, ℕ, ◌+◌, ◌<◌, ◌≤◌, ◌^◌, List, [], ◌∷◌, ◌++◌, length, map, All, Contains, Err, ℤ, unsigned_abs, arith, refl, sym, ap,
-    ◌∙◌, subst, inl, inr}
+use Rattle.std.proofs.Common.{
+  ◌≡◌,
+  ◌⊎◌,
+  ℕ,
+  ◌+◌,
+  ◌<◌,
+  ◌≤◌,
+  ◌^◌,
+  List,
+  [],
+  ◌∷◌,
+  ◌++◌,
+  length,
+  map,
+  All,
+  Contains,
+  Err,
+  ℤ,
+  unsigned_abs,
+  arith,
+  refl,
+  sym,
+  ap,
+  ◌∙◌,
+  subst,
+  inl,
+  inr,
+}
 use Rattle.std.proofs.lemmas.List.Elements.{All-nil, All-contains, Contains-append_cases}
 use Rattle.gf_exponents.specs.Exponents.{Exponents, entry, plus, join, degree}
 use Rattle.gf_exponents.proofs.WeightLaws.{degree-plus, degree-same}
@@ -53,7 +79,7 @@ module _ (s : MarkedPolynomials) (l : IsLinearSet s) where
       within d c =
           let b = form_of s.items d c in
           subst (λ (z : MarkedPolynomial). IsLinear z.poly) b.2
-              (λ x m. l.linear b.0 b.1 x (monic-monomials b.0.poly (monic_of b.0) (is_form b.0 (head_there s l.binomials b.0 b.1)) x m))
+          (λ x m. l.linear b.0 b.1 x (monic-monomials b.0.poly (monic_of b.0) (is_form b.0 (head_there s l.binomials b.0 b.1)) x m))
 
   forms_memory : (e : PolyError) → IsFormRefusal s.items e → e ≡ errors.Memory
   forms_memory (errors.Overflow o) f = absurd (member_fits s l.binomials f.member o f.contained f.cause)
@@ -88,7 +114,7 @@ module _ (s : MarkedPolynomials) (l : IsLinearSet s) where
       let e = s_polynomial_degree (map monic_of s.items) c d h forms_marked hc hd q in
       let k = step_short (map monic_of s.items) e.0 r.0.from r.0.at o.left o.right forms_marked e.1
       (taken (Contains (map monic_of s.items)) (IsOfDegree e.0) h r.0.from (closed-degree e.0 (map monic_of s.items) forms_marked) e.2 r.0.reached).within
-          r.0.sum in
+      r.0.sum in
       absurd (let w = r.1 in omega (arith, k, w))
   pairs_memory errors.Memory q = refl
 
@@ -117,7 +143,7 @@ module _ (s : MarkedPolynomials) (l : IsLinearSet s) where
     node =
         let r = reduced_of s t l.binomials.variables (each_contained HasMarkedTerm s.items l.binomials.marked) a terms basis in
         let here : IsMarkedReducedBasis s.variables (polys t.items) t.items = subst (λ (m : ℕ). IsMarkedReducedBasis m (polys t.items) t.items) a.variables
-            r.reduced in
+        r.reduced in
         let own : IsMarkedReducedBasis s.variables (polys s.items) t.items =
         only_ideals_count.same s.variables (polys t.items) (polys s.items) t.items (record { inside = r.basis.ideal.back; back = r.basis.ideal.inside }) here in
         (marked_bases_are_reduced.everywhere s.variables (polys s.items) t.items set_differences.forms.variables).1 own
@@ -128,7 +154,7 @@ module _ (s : MarkedPolynomials) (l : IsLinearSet s) where
         all : AreCertificatesFittingIn s.variables (all_positive s.variables) t.items
         all = certificates_of_differences_fit s.variables (all_positive s.variables) t.items some small (λ row k. absurd (none_in row k))
             (λ normals m. let p = linear_normals s.variables (polys s.items) (all_positive s.variables) t.items set_differences node normals m small in
-                (let k = p.0 in omega (arith, k), p.1))
+            (let k = p.0 in omega (arith, k), p.1))
 
         fits : IsWeightWithinLimits s.variables t.items
         fits (weight_errors.Cone o) h = all (weight_errors.Cone o) h

@@ -1,7 +1,34 @@
 -- The search over the bases of an ideal that differences of variables generate, in at most three variables, stays within its limits, and so does `_bases`.
 -- To cite: linear_ideals. The rest are steps.
-use Rattle.std.proofs.Common.{◌≡◌, ℕ, zero, suc, ◌+◌, ◌≤◌, true, false, List, [], ◌∷◌, ◌++◌, length, All, Contains, Err, None, ℤ, pos, ◌-ℤ◌, unsigned_abs,
-    arith, sym, ◌∙◌, subst, inl, inr}
+use Rattle.std.proofs.Common.{
+  ◌≡◌,
+  ℕ,
+  zero,
+  suc,
+  ◌+◌,
+  ◌≤◌,
+  true,
+  false,
+  List,
+  [],
+  ◌∷◌,
+  ◌++◌,
+  length,
+  All,
+  Contains,
+  Err,
+  None,
+  ℤ,
+  pos,
+  ◌-ℤ◌,
+  unsigned_abs,
+  arith,
+  sym,
+  ◌∙◌,
+  subst,
+  inl,
+  inr,
+}
 use Rattle.std.proofs.lemmas.Int.{ints}
 use Rattle.std.proofs.lemmas.List.{get_or_default}
 use Rattle.std.proofs.lemmas.List.Elements.{All-nil, All-contains, Contains-get_or, Contains-append_cases}
@@ -72,7 +99,7 @@ systems_within : (F : Fan) → AreLinearForms F.variables F.ideal → F.variable
     (v : MarkedPolynomials) (s : ConeOverflow) → IsNodeIn F v → IsConeStep F v s → ⊥
 systems_within F d few low v s node step =
     let q : Cone s ≡ Memory = not_refused (Err (Cone s)) (length rows + 1) c.variables rows (a ∷ []) rows_wide equation_wide step.step
-        (omega (arith, few, node.variables, step.is_cone.variables)) rows_low equation_low in
+    (omega (arith, few, node.variables, step.is_cone.variables)) rows_low equation_low in
     absurd (cc)
   where
     n : ℕ
@@ -104,7 +131,7 @@ systems_within F d few low v s node step =
             (differences_up 500 m.0.head t.mono
             (λ i. let p = entry_low m.0.head i in let q = members.heads m.0 m.1 in omega (arith, p, q))
             (λ i. let p = entry_low t.mono i in let q = members.within m.0 m.1 t.mono (term_there n m.0.poly t w.variables w.descending m.2.inside) in
-                omega (arith, p, q))))
+            omega (arith, p, q))))
 
     normal_long : (b : List ℤ) → IsNormal v.items b → length b ≡ c.variables
     normal_long b k = normal-length n v.items b canonical k ∙ sym step.is_cone.variables
@@ -149,7 +176,7 @@ search_within F budget d few low room = record {
   flips = λ v a node q.
       flips_of_linear_fit v.variables F.ideal F.region v.items a (subst (λ (m : ℕ). AreLinearDifferences m F.ideal) (sym node.variables) d)
       (subst (λ (m : ℕ). IsBasisInRegion m F.ideal F.region v.items) (sym node.variables) node.basis) q budget
-          (subst (λ (m : ℕ). pairs_below m ≤ budget) (sym node.variables) room);
+      (subst (λ (m : ℕ). pairs_below m ≤ budget) (sym node.variables) room);
   systems = systems_within F d.forms few low;
 }
 
@@ -176,7 +203,7 @@ lists o n fs unlimited some small d room = record {
 
 regions : (o : ListOptions) (n : ℕ) (rows : List (List ℤ)) (v : List ℤ) (fs : List Terms) → o.limit ≡ None → o.certified ≡ false → 1 ≤ n → n ≤ 3 →
     length rows ≤ 2 → AreDifferenceRows n rows → IsInRegion n (record { rows = rows; root = v }) v → AreLinearDifferences n fs → pairs_below n ≤ o.pairs →
-        IsWithinRegion o n rows fs
+    IsWithinRegion o n rows fs
 regions o n rows v fs unlimited plain some small few differ inside d room = record {
   region = regions_of_differences_fit n rows v some small few differ inside;
   root = λ k i. linear_runs (MonomialOrder.weighted (gains k.root)) n fs o.pairs tt d room;

@@ -1,7 +1,39 @@
 -- The normals of a reduced basis of an ideal that differences of variables generate are differences of two entries, and in three variables there are at most
 -- two. To cite: linear_normals. The rest are steps.
-use Rattle.std.proofs.Common.{◌≡◌, ◌≢◌, ◌⊎◌, ℕ, zero, suc, ◌+◌, ◌<◌, ◌≤◌, true, false, List, [], ◌∷◌, length, get_or, Some, None, Option, ℤ, pos, ◌-ℤ◌,
-    Contains, arith, refl, sym, ap, ap₂, ◌∙◌, subst, inl, inr}
+use Rattle.std.proofs.Common.{
+  ◌≡◌,
+  ◌≢◌,
+  ◌⊎◌,
+  ℕ,
+  zero,
+  suc,
+  ◌+◌,
+  ◌<◌,
+  ◌≤◌,
+  true,
+  false,
+  List,
+  [],
+  ◌∷◌,
+  length,
+  get_or,
+  Some,
+  None,
+  Option,
+  ℤ,
+  pos,
+  ◌-ℤ◌,
+  Contains,
+  arith,
+  refl,
+  sym,
+  ap,
+  ap₂,
+  ◌∙◌,
+  subst,
+  inl,
+  inr,
+}
 use Rattle.std.proofs.lemmas.Bool.{cases_lt}
 use Rattle.gf_frac.specs.Fraction.{zero_ℚ, one_ℚ}
 use Rattle.gf_int.proofs.ListLaws.{Contains-here}
@@ -41,8 +73,10 @@ use Rattle.gfan_theory.proofs.LinearBases.{region_members}
 -- ---- variables
 
 variable_at : (x : Exponents) → degree x ≡ 1 → IsVariable (place_of x) x
-variable_at x d = record { one = (let p = place_there x d in let q = entry_low x (place_of x) in omega (arith, p, q, d));
-    others = λ k n. alone x (place_of x) k d (place_there x d) n }
+variable_at x d = record {
+  one = (let p = place_there x d in let q = entry_low x (place_of x) in omega (arith, p, q, d));
+  others = λ k n. alone x (place_of x) k d (place_there x d) n;
+}
 
 place_inside : (n : ℕ) (x : Exponents) → degree x ≡ 1 → IsInRing n x → place_of x < n
 place_inside n x d r = elim (cases_lt (place_of x) n) [
@@ -117,7 +151,7 @@ module _ (n : ℕ) (fs : List Terms) (k : Region) (bs : List MarkedPolynomial) (
       apart : place_of r.member.head ≡ place_of r.at → ⊥
       apart e =
           let s = same_places r.member.head r.at (place_of r.at) dx dy (subst (λ (z : ℕ). 1 ≤ entry r.member.head z) e (place_there r.member.head dx))
-              (place_there r.at dy) in
+          (place_there r.at dy) in
           let t : true ≡ false = sym s ∙ r.unmarked in
           absurd (cc)
 
@@ -189,7 +223,7 @@ module _ (n : ℕ) (fs : List Terms) (k : Region) (bs : List MarkedPolynomial) (
   few (a ∷ (c ∷ [])) m l = omega arith
   few (a ∷ (c ∷ (e ∷ ns))) m l =
       absurd (four_places n (place_of r.member.head) (place_of s.member.head) (place_of t.member.head) (place_of r.at) l r.high_inside s.high_inside
-          t.high_inside r.low_inside
+      t.high_inside r.low_inside
       (λ q. before_strict.irreflexive a (subst (IsBefore a) (sym (one_normal a c first second r s q)) (m.rises.0 c (Contains-here c (e ∷ ns)))))
       (λ q. before_strict.irreflexive a (subst (IsBefore a) (sym (one_normal a e first third r t q)) (m.rises.0 e (in_tail c (e ∷ ns) e (Contains-here e ns)))))
       (λ q. no_mark a r r.member r.contained (sym q))
@@ -218,8 +252,14 @@ module _ (n : ℕ) (fs : List Terms) (k : Region) (bs : List MarkedPolynomial) (
   differ : (a : List ℤ) → IsNormal bs a → IsDifferenceRow n a
   differ a h =
       let r = normal_at a h in
-      record { width = normal-length n bs a b.arranged.canonical h; high = place_of r.member.head; low = place_of r.at; high_inside = r.high_inside;
-          low_inside = r.low_inside; difference = λ v l. r.value v }
+      record {
+        width = normal-length n bs a b.arranged.canonical h;
+        high = place_of r.member.head;
+        low = place_of r.at;
+        high_inside = r.high_inside;
+        low_inside = r.low_inside;
+        difference = λ v l. r.value v;
+      }
 
   pub linear_normals : (ns : List (List ℤ)) → AreNormals bs ns → n ≤ 3 → (length ns ≤ 2) × AreDifferenceRows n ns
   linear_normals ns m l = (few ns m l, λ row c. differ row (m.only row c))

@@ -3,8 +3,35 @@
 -- To cite: same_or_not, entry_low, alone, place_of, place_there, same_places, weight_ones, homogeneous, IsOfDegree, AreLinearMembers, AreLinearMarked, plain,
 -- join_low, closed-degree, shift_short, s_polynomial_degree, at_contained, step_short, tail_linear, linear_basis, few, run_short, pairs_mono, linear_runs.
 -- The rest are steps.
-use Rattle.std.proofs.Common.{◌≡◌, ◌⊎◌, ℕ, zero, suc, ◌+◌, ◌<◌, ◌≤◌, ◌^◌, true, List, [], ◌∷◌, ◌++◌, length, replicate, get_or, Contains, arith, refl, sym,
-    ap, ◌∙◌, subst, inl, inr, length-append}
+use Rattle.std.proofs.Common.{
+  ◌≡◌,
+  ◌⊎◌,
+  ℕ,
+  zero,
+  suc,
+  ◌+◌,
+  ◌<◌,
+  ◌≤◌,
+  ◌^◌,
+  true,
+  List,
+  [],
+  ◌∷◌,
+  ◌++◌,
+  length,
+  replicate,
+  get_or,
+  Contains,
+  arith,
+  refl,
+  sym,
+  ap,
+  ◌∙◌,
+  subst,
+  inl,
+  inr,
+  length-append,
+}
 use Rattle.std.proofs.lemmas.Bool.{cases_lt}
 use Rattle.std.proofs.lemmas.List.{get_or_default, get_or_append_left}
 use Rattle.gf_frac.specs.Fraction.{neg_ℚ, one_ℚ}
@@ -70,7 +97,7 @@ pigeons (suc n) (suc m) p low apart =
     let q : m ≤ n = pigeons n m (λ i. turned n (p m) (p i) (same_or_not (p i) n))
     (λ i l. turned_low n (p m) (p i) (same_or_not (p i) n) (low m (omega arith)) (low i (omega (arith, l))) (other i l))
     (λ i j l k. turned_apart n (p m) (p i) (p j) (same_or_not (p i) n) (same_or_not (p j) n) (apart i j l (omega (arith, k))) (other i (omega (arith, l, k)))
-        (other j k)) in
+    (other j k)) in
     omega (arith, q)
 
 -- ---- degrees
@@ -188,8 +215,11 @@ shift_short u b left right l m o = at o.operands
         let p = entry_low u o.variable in
         let q = entry_low o.monomial o.variable in
         let r = m o.monomial o.there in
-        elim t [ inl x ↦ (let y = x.0 in let z = x.1 in omega (arith, p, q, r, l, y, z)) | inr x ↦
-            (let y = x.0 in let z = x.1 in omega (arith, p, q, r, l, y, z)) ]
+        elim t [
+          | inl x ↦ (let y = x.0 in let z = x.1 in omega (arith, p, q, r, l, y, z))
+          | inr x ↦
+              (let y = x.0 in let z = x.1 in omega (arith, p, q, r, l, y, z))
+        ]
 
 pub step_short : (bs : List MarkedPolynomial) (e : ℕ) (f : Terms) (at : Exponents) (left right : ℕ) → AreLinearMarked bs → e ≤ 2 → IsWithin (IsOfDegree e) f →
     IsStepExponents (Contains bs) f at left right → left + right < 2 ^ 31
@@ -213,9 +243,9 @@ s_polynomial_degree bs b c f m k l s = (
   (let p = join_low b.head c.head in let q = m.heads b k in let r = m.heads c l in omega (arith, p, q, r)),
   sum_within (IsOfDegree (degree (join b.head c.head))) (times one_ℚ s.left b.poly) (times (neg_ℚ one_ℚ) s.right c.poly) f
       (multiple_within (Contains bs) (IsOfDegree (degree (join b.head c.head))) b one_ℚ s.left (closed-degree (degree (join b.head c.head)) bs m) k
-          (degree-same (plus s.left b.head) (join b.head c.head) s.of_left))
+      (degree-same (plus s.left b.head) (join b.head c.head) s.of_left))
       (multiple_within (Contains bs) (IsOfDegree (degree (join b.head c.head))) c (neg_ℚ one_ℚ) s.right (closed-degree (degree (join b.head c.head)) bs m) l
-          (degree-same (plus s.right c.head) (join b.head c.head) s.of_right)) s.equal,
+      (degree-same (plus s.right c.head) (join b.head c.head) s.of_right)) s.equal,
 )
 
 -- such a list is a Gröbner basis of the ideal that it generates, by each order that marks it so
@@ -243,7 +273,7 @@ module _ (order : MonomialOrder) (n : ℕ) (fs : List Terms) (a : IsAdmissible o
   -- so what an S-polynomial of it leaves has a greatest monomial that a mark divides
   none_new : (bs : List MarkedPolynomial) (f g : Terms) (b : MarkedPolynomial) → IsWorkList fs (below_of order) bs → AreLinearMembers bs →
       ((e : MarkedPolynomial) × (c : MarkedPolynomial) × Contains bs e × Contains bs c × IsSPolynomial e c f) → Reached (Contains bs) f g → IsMonicForm g b →
-          IsMarked (below_of order) b → IsDivisible (Contains bs) b.head
+      IsMarked (below_of order) b → IsDivisible (Contains bs) b.head
   none_new bs f g b w m (e, c, k, l, s) r q h = (basis bs w m).initial g member b.head
       (record { there = q.there; greatest = λ y t. h.tail y (form_to g b y q t) })
     where
@@ -262,8 +292,11 @@ module _ (order : MonomialOrder) (n : ℕ) (fs : List Terms) (a : IsAdmissible o
       (IsDivisible (Contains bs) b.head → ⊥) → AreLinearMembers (bs ++ b ∷ [])
   more bs g b m l q new = record {
     heads = λ c k. elim (Contains-last bs b c k) [ inl i ↦ m.heads c i | inr e ↦ ap (λ (z : MarkedPolynomial). degree z.head) e ∙ l b.head q.there ];
-    within = λ c k. elim (Contains-last bs b c k) [ inl i ↦ m.within c i | inr e ↦
-        subst (λ (z : MarkedPolynomial). IsLinear z.poly) (sym e) (λ x h. l x (monic-monomials g b q x h)) ];
+    within = λ c k. elim (Contains-last bs b c k) [
+      | inl i ↦ m.within c i
+      | inr e ↦
+          subst (λ (z : MarkedPolynomial). IsLinear z.poly) (sym e) (λ x h. l x (monic-monomials g b q x h))
+    ];
     apart = λ i j c e less p o s. at i j c e less p o s (cases_lt j (length bs));
   }
     where
@@ -280,12 +313,19 @@ module _ (order : MonomialOrder) (n : ℕ) (fs : List Terms) (a : IsAdmissible o
           let end : j ≡ length bs = omega (arith, long, inside, k) in
           let is : e ≡ b = sym o.is ∙ ap (λ (z : ℕ). get_or (bs ++ b ∷ []) z e) end ∙ last_at bs b e in
           let first : IsAt bs i c = before i c (omega (arith, less, end)) p in
-          new (record { member = c; contained = at_contained bs i c first; rest = [];
-              divides = same_flip c.head b.head (subst (λ (z : MarkedPolynomial). same c.head z.head ≡ true) is s) })
+          new (record {
+            member = c;
+            contained = at_contained bs i c first;
+            rest = [];
+            divides = same_flip c.head b.head (subst (λ (z : MarkedPolynomial). same c.head z.head ≡ true) is s);
+          })
 
   work_linear : (bs : List MarkedPolynomial) → IsWorkList fs (below_of order) bs → AreLinearMembers bs
-  work_linear bs IsWorkList.start = record { heads = λ b c. absurd (omega (arith, c.1)); within = λ b c. absurd (omega (arith, c.1));
-      apart = λ i j b c l p q s. absurd (let k = p.within in omega (arith, k)) }
+  work_linear bs IsWorkList.start = record {
+    heads = λ b c. absurd (omega (arith, c.1));
+    within = λ b c. absurd (omega (arith, c.1));
+    apart = λ i j b c l p q s. absurd (let k = p.within in omega (arith, k));
+  }
   work_linear cs (IsWorkList.more bs f g b w o r q m new) = at (work_linear bs w) o
     where
       at : AreLinearMembers bs → IsOrigin fs bs f → AreLinearMembers (bs ++ b ∷ [])
@@ -322,7 +362,7 @@ module _ (order : MonomialOrder) (n : ℕ) (fs : List Terms) (a : IsAdmissible o
               let z : entry (head_at i) (place_of (head_at i)) ≡ 0 =
               variables_of_member n fs (get_or bs i none).poly d.variables (work-members n fs (below_of order) bs d.variables w (get_or bs i none) c)
               (head_at i) (mark-there (below_of order) (get_or bs i none) (work-marked fs (below_of order) bs w (get_or bs i none) c)) (place_of (head_at i))
-                  k in
+              k in
               let s = place_there (head_at i) (one i l) in
               absurd (omega (arith, z, s))
 

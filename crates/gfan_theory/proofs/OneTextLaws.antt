@@ -33,7 +33,7 @@ answer_at q input text ring fs p a =
     let same : (ring ≡ l.ring) × (fs ≡ l.ideal) = says_once q.from_basis input l.ring ring l.ideal fs l.said.read p in
     let here : AnswerAt q input text l.ring l.ideal = record { region = l.region; early = l.early; said = l.said; list = l.list } in
     subst (λ (gs : List Terms). AnswerAt q input text ring gs) (sym same.1)
-        (subst (λ (names : List (List ℕ)). AnswerAt q input text names l.ideal) (sym same.0) here)
+    (subst (λ (names : List (List ℕ)). AnswerAt q input text names l.ideal) (sym same.0) here)
 
 -- ---- lists depend on the ideal alone
 

@@ -1,7 +1,40 @@
 -- The normals of the bases of the ideal that the difference of two variables generates.
 -- To cite: is_monomial, plain_of_variables, short_of_variables, in_variables, gives, vectors_equal, normals_differ. The rest are steps.
-use Rattle.std.proofs.Common.{◌≡◌, ◌⊎◌, ℕ, zero, suc, ◌<◌, ◌≤◌, Bool, true, false, if◌then◌else◌, List, [], ◌∷◌, length, get_or, Some, ℤ, pos, ◌+ℤ◌, ◌-ℤ◌,
-    ◌*ℤ◌, unsigned_abs, arith, refl, sym, ap, ap₂, ◌∙◌, subst, inl, inr, Contains}
+use Rattle.std.proofs.Common.{
+  ◌≡◌,
+  ◌⊎◌,
+  ℕ,
+  zero,
+  suc,
+  ◌<◌,
+  ◌≤◌,
+  Bool,
+  true,
+  false,
+  if◌then◌else◌,
+  List,
+  [],
+  ◌∷◌,
+  length,
+  get_or,
+  Some,
+  ℤ,
+  pos,
+  ◌+ℤ◌,
+  ◌-ℤ◌,
+  ◌*ℤ◌,
+  unsigned_abs,
+  arith,
+  refl,
+  sym,
+  ap,
+  ap₂,
+  ◌∙◌,
+  subst,
+  inl,
+  inr,
+  Contains,
+}
 use Rattle.std.specs.Int.{◌∣◌}
 use Rattle.std.proofs.Math.Nat.{eq-one_of_dvd-one}
 use Rattle.std.proofs.lemmas.Int.{ints}
@@ -63,8 +96,11 @@ small_entry i x v k = at (same_place k i)
 module _ (n : ℕ) (f : Terms) (d : IsDifferenceOfVariables n f) where
   -- a monomial of it is one of the two variables
   either : (x : Exponents) → HasMonomial f x → (same x d.left ≡ true) ⊎ (same x d.right ≡ true)
-  either x h = elim (one_of_two (Some d.left) (Some d.right) f x d.binomial h) [ inl k ↦ inl (is_monomial d.left x k.there) | inr k ↦
-      inr (is_monomial d.right x k.there) ]
+  either x h = elim (one_of_two (Some d.left) (Some d.right) f x d.binomial h) [
+    | inl k ↦ inl (is_monomial d.left x k.there)
+    | inr k ↦
+        inr (is_monomial d.right x k.there)
+  ]
 
   small : (x : Exponents) → HasMonomial f x → (k : ℕ) → entry x k ≤ 1
   small x h k = at (either x h)
@@ -122,12 +158,12 @@ variable_weight (w ∷ v) [] i h = absurd (let p = h.one in omega (arith, p))
 variable_weight (w ∷ v) (a ∷ x) zero h =
     let p : a ≡ 1 = h.one in
     ap (λ (b : ℕ). w *ℤ pos b +ℤ whole_weight v x) p ∙ ap (λ (y : ℤ). w *ℤ pos 1 +ℤ y) (none_weight v x (λ k. h.others (suc k) (λ e. omega (arith, e))))
-        ∙ omega (arith, ints)
+    ∙ omega (arith, ints)
 variable_weight (w ∷ v) (a ∷ x) (suc i) h =
     let p : a ≡ 0 = h.others 0 (λ e. omega (arith, e)) in
     ap (λ (b : ℕ). w *ℤ pos b +ℤ whole_weight v x) p
-        ∙ ap (λ (y : ℤ). w *ℤ pos 0 +ℤ y) (variable_weight v x i (record { one = h.one; others = λ k m. h.others (suc k) (λ e. m (omega (arith, e))) }))
-        ∙ omega (arith, ints)
+    ∙ ap (λ (y : ℤ). w *ℤ pos 0 +ℤ y) (variable_weight v x i (record { one = h.one; others = λ k m. h.others (suc k) (λ e. m (omega (arith, e))) }))
+    ∙ omega (arith, ints)
 
 -- what a row of two variables gives, divided by its content
 module _ (n i j : ℕ) (x y : Exponents) (a : List ℤ) (lx : length x ≡ n) (ly : length y ≡ n) (first : i < n) (second : j < n) (apart : i ≡ j → ⊥)
@@ -218,7 +254,7 @@ places_once n f d h a b p q = at p.of_mark q.of_mark
   where
     at : ((same h d.left ≡ true) × (p.high ≡ d.first) × (p.low ≡ d.second)) ⊎ ((same h d.right ≡ true) × (p.high ≡ d.second) × (p.low ≡ d.first)) →
         ((same h d.left ≡ true) × (q.high ≡ d.first) × (q.low ≡ d.second)) ⊎ ((same h d.right ≡ true) × (q.high ≡ d.second) × (q.low ≡ d.first)) →
-            (p.high ≡ q.high) × (p.low ≡ q.low)
+        (p.high ≡ q.high) × (p.low ≡ q.low)
     at (inl x) (inl y) = (x.1 ∙ sym y.1, x.2 ∙ sym y.2)
     at (inl x) (inr y) = absurd (not_both n f d h x.0 y.0)
     at (inr x) (inl y) = absurd (not_both n f d h y.0 x.0)
@@ -254,8 +290,14 @@ module _ (n : ℕ) (f : Terms) (d : IsDifferenceOfVariables n f) (bs : List Mark
   normal_differs : (a : List ℤ) → IsNormal bs a → IsDifferenceRow n a
   normal_differs a h =
       let r = normal_at a h in
-      record { width = normal-length n bs a canonical h; high = r.between.high; low = r.between.low; high_inside = r.between.high_inside;
-          low_inside = r.between.low_inside; difference = λ v l. r.between.gives v }
+      record {
+        width = normal-length n bs a canonical h;
+        high = r.between.high;
+        low = r.between.low;
+        high_inside = r.between.high_inside;
+        low_inside = r.between.low_inside;
+        difference = λ v l. r.between.gives v;
+      }
 
   -- there is one member at most
   one_member : (b c : MarkedPolynomial) → Contains bs b → Contains bs c → b ≡ c
