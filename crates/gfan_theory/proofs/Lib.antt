@@ -1,0 +1,15 @@
+pub mod AnswerLaws  -- each answer is the text of a list, and what is read determines it
+pub mod OneTextLaws  -- two answers for one ideal are one text
+pub mod ServedLaws  -- the list of an answer serves each weight of its region
+pub mod CertifiedLaws  -- what is printed after each basis
+pub mod BasisFileLaws  -- a basis that is printed behind its ring is read again
+pub mod JoinedLaws  -- a list that was cut and then continued
+pub mod BinaryRays  -- the rays of cones that compare entries have entries 0 and 1
+pub mod DifferenceLimits  -- few such rows, in few variables, stay within their limits
+pub mod VariableLaws  -- the normals of the difference of two variables
+pub mod EverydayLaws  -- everyday inputs meet the premise of completeness
+pub mod LinearRuns  -- runs on variables and differences of variables
+pub mod LinearBases  -- the members of their bases are linear, and their flips within limits
+pub mod LinearNormals  -- their normals, in three variables two at most
+pub mod LinearLimits  -- searches over their bases, in at most three variables
+pub mod LinearChecks  -- the checks of marked sets of such polynomials, and their weights

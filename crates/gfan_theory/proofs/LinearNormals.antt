@@ -1,0 +1,265 @@
+-- The normals of a reduced basis of an ideal that differences of variables generate are differences of two entries, and in three variables there are at most
+-- two. To cite: linear_normals. The rest are steps.
+use Rattle.std.proofs.Common.{
+  ◌≡◌,
+  ◌≢◌,
+  ◌⊎◌,
+  ℕ,
+  zero,
+  suc,
+  ◌+◌,
+  ◌<◌,
+  ◌≤◌,
+  true,
+  false,
+  List,
+  [],
+  ◌∷◌,
+  length,
+  get_or,
+  Some,
+  None,
+  Option,
+  ℤ,
+  pos,
+  ◌-ℤ◌,
+  Contains,
+  arith,
+  refl,
+  sym,
+  ap,
+  ap₂,
+  ◌∙◌,
+  subst,
+  inl,
+  inr,
+}
+use Rattle.std.proofs.lemmas.Bool.{cases_lt}
+use Rattle.gf_frac.specs.Fraction.{zero_ℚ, one_ℚ}
+use Rattle.gf_int.proofs.ListLaws.{Contains-here}
+use Rattle.gf_vec.specs.Vector.{dot}
+use Rattle.gf_vec.specs.Primitive.{IsPrimitivePart}
+use Rattle.gf_vec.proofs.VectorLaws.{dot_comm}
+use Rattle.gf_duality.proofs.ListLaws.{in_tail}
+use Rattle.gf_exponents.specs.Exponents.{Exponents, entry, same, degree, IsInRing}
+use Rattle.gf_exponents.proofs.ExponentsLaws.{same_flip, same_trans, entries_same}
+use Rattle.gf_poly.specs.Polynomial.{Terms}
+use Rattle.gf_poly.specs.Marking.{MarkedPolynomial}
+use Rattle.gf_ideal.specs.Membership.{HasMonomial}
+use Rattle.gf_ideal.proofs.Identities.{one_not_zero}
+use Rattle.gf_ideal.proofs.MarkWeights.{mark-there}
+use Rattle.gf_ideal.proofs.MembershipLaws.{variables_of_member}
+use Rattle.gf_ideal.proofs.UniquenessLaws.{apart_same}
+use Rattle.gf_exponents.specs.Orders.{gains, lighter}
+use Rattle.gf_facets.specs.Rows.{differences, IsNormal}
+use Rattle.gf_facets.specs.Systems.{unit}
+use Rattle.gf_facets.specs.LexPositive.{IsBefore}
+use Rattle.gf_facets.specs.Normals.{AreNormals}
+use Rattle.gf_facets.specs.Regions.{Region}
+use Rattle.gf_facets.specs.MarkedBases.{AreCanonical, IsBasisInRegion}
+use Rattle.gf_facets.proofs.NormalLaws.{IsNormalOf, normal_of, normal-length}
+use Rattle.gf_facets.proofs.UnitLaws.{dot-unit}
+use Rattle.gf_facets.proofs.VectorOrder.{before_strict}
+use Rattle.gf_binomials.specs.Binomials.{indicator, IsMarkedBinomial, AreMarkedBinomials}
+use Rattle.gf_binomials.proofs.MonomialLaws.{IsTheMonomial, IsFirst, one_of_two}
+use Rattle.gf_binomial_bases.proofs.LawsHold.{bases_of_binomials}
+use Rattle.gfan_theory.specs.Differences.{IsDifferenceRow, AreDifferenceRows}
+use Rattle.gfan_theory.specs.Everyday.{IsVariable}
+use Rattle.gfan_theory.specs.Linear.{AreLinearDifferences}
+use Rattle.gfan_theory.proofs.VariableLaws.{is_monomial, gives, vectors_equal}
+use Rattle.gfan_theory.proofs.LinearRuns.{same_or_not, entry_low, alone, place_of, place_there, same_places, AreLinearMembers}
+use Rattle.gfan_theory.proofs.LinearBases.{region_members}
+
+-- ---- variables
+
+variable_at : (x : Exponents) → degree x ≡ 1 → IsVariable (place_of x) x
+variable_at x d = record {
+  one = (let p = place_there x d in let q = entry_low x (place_of x) in omega (arith, p, q, d));
+  others = λ k n. alone x (place_of x) k d (place_there x d) n;
+}
+
+place_inside : (n : ℕ) (x : Exponents) → degree x ≡ 1 → IsInRing n x → place_of x < n
+place_inside n x d r = elim (cases_lt (place_of x) n) [
+  | inl l ↦ l
+  | inr g ↦ absurd (let p = place_there x d in let q = r (place_of x) g in omega (arith, p, q))
+]
+
+-- monomials that are the same variable stand at one place
+place_same : (x y : Exponents) → degree x ≡ 1 → degree y ≡ 1 → same x y ≡ true → place_of x ≡ place_of y
+place_same x y d e s = elim (same_or_not (place_of x) (place_of y)) [
+  | inl q ↦ q
+  | inr n ↦ absurd (let z = alone y (place_of y) (place_of x) e (place_there y e) n in let t = entries_same x y s (place_of x) in let p = place_there x d in
+      omega (arith, z, t, p))
+]
+
+four_places : (n p q r s : ℕ) → n ≤ 3 → p < n → q < n → r < n → s < n → p ≢ q → p ≢ r → p ≢ s → q ≢ r → q ≢ s → r ≢ s → ⊥
+four_places n p q r s l a b c d e f g h i j = omega arith
+
+-- ---- normals
+
+module _ (n : ℕ) (fs : List Terms) (k : Region) (bs : List MarkedPolynomial) (d : AreLinearDifferences n fs) (b : IsBasisInRegion n fs k bs) where
+  members : AreLinearMembers bs
+  members = region_members n fs k bs d.forms b
+
+  binomials : AreMarkedBinomials (Contains bs)
+  binomials = bases_of_binomials n fs bs d.forms.variables d.binomials b.reduced
+
+  pub record IsLinearNormal (a : List ℤ) : Type 0 where
+    pub member : MarkedPolynomial
+    pub contained : Contains bs member
+    pub at : Exponents
+    pub there : HasMonomial member.poly at
+    pub unmarked : same member.head at ≡ false
+    pub high_inside : place_of member.head < n
+    pub low_inside : place_of at < n
+    pub value : (v : List ℤ) → dot a v ≡ get_or v (place_of member.head) (pos 0) -ℤ get_or v (place_of at) (pos 0)
+
+  at_degree : (a : List ℤ) (r : IsLinearNormal a) → degree r.at ≡ 1
+  at_degree a r = members.within r.member r.contained r.at r.there
+
+  normal_at : (a : List ℤ) → IsNormal bs a → IsLinearNormal a
+  normal_at a h = record {
+    member = r.member;
+    contained = r.contained;
+    at = r.at;
+    there = r.there;
+    unmarked = r.unmarked;
+    high_inside = high;
+    low_inside = low;
+    value = gives n (place_of r.member.head) (place_of r.at) r.member.head r.at a (b.arranged.canonical r.member r.contained).head r.width high low apart
+        (variable_at r.member.head dx) (variable_at r.at dy) (subst (λ (z : List ℤ). IsPrimitivePart z a) r.row r.part);
+  }
+    where
+      r : IsNormalOf n bs a
+      r = normal_of n bs a b.arranged.canonical h
+
+      dx : degree r.member.head ≡ 1
+      dx = members.heads r.member r.contained
+
+      dy : degree r.at ≡ 1
+      dy = members.within r.member r.contained r.at r.there
+
+      inside : (x : Exponents) → HasMonomial r.member.poly x → IsInRing n x
+      inside x m = variables_of_member n fs r.member.poly d.forms.variables (b.reduced.basis.members r.member r.contained) x m
+
+      high : place_of r.member.head < n
+      high = place_inside n r.member.head dx (inside r.member.head (mark-there (lighter (gains b.weight)) r.member (b.marked r.member r.contained)))
+
+      low : place_of r.at < n
+      low = place_inside n r.at dy (inside r.at r.there)
+
+      apart : place_of r.member.head ≡ place_of r.at → ⊥
+      apart e =
+          let s = same_places r.member.head r.at (place_of r.at) dx dy (subst (λ (z : ℕ). 1 ≤ entry r.member.head z) e (place_there r.member.head dx))
+          (place_there r.at dy) in
+          let t : true ≡ false = sym s ∙ r.unmarked in
+          absurd (cc)
+
+  -- the unmarked monomial of a member is the same for each of its normals
+  tail_once : (m : MarkedPolynomial) → Contains bs m → (x y : Exponents) → HasMonomial m.poly x → HasMonomial m.poly y → same m.head x ≡ false →
+      same m.head y ≡ false → same x y ≡ true
+  tail_once m c x y h i p q = at (binomials m c).tail (one_of_two (Some m.head) (binomials m c).tail m.poly x (binomials m c).binomial h)
+      (one_of_two (Some m.head) (binomials m c).tail m.poly y (binomials m c).binomial i)
+    where
+      no_mark : (z : Exponents) → IsTheMonomial (Some m.head) z → same m.head z ≡ false → ⊥
+      no_mark z t o = let s = same_flip z m.head (is_monomial m.head z t) in let e : true ≡ false = sym s ∙ o in absurd (cc)
+
+      both : (s : Option Exponents) → IsTheMonomial s x → IsTheMonomial s y → same x y ≡ true
+      both None t u = absurd (one_not_zero (sym t.one))
+      both (Some z) t u = same_trans x z y (is_monomial z x t) (same_flip y z (is_monomial z y u))
+
+      at : (s : Option Exponents) → IsFirst (Some m.head) s x ⊎ IsFirst s (Some m.head) x → IsFirst (Some m.head) s y ⊎ IsFirst s (Some m.head) y →
+          same x y ≡ true
+      at s (inl t) u = absurd (no_mark x t.there p)
+      at s (inr t) (inl u) = absurd (no_mark y u.there q)
+      at s (inr t) (inr u) = both s t.there u.there
+
+  -- so a normal is known by the place of the mark
+  one_normal : (a c : List ℤ) → IsNormal bs a → IsNormal bs c → (r : IsLinearNormal a) (s : IsLinearNormal c) →
+      place_of r.member.head ≡ place_of s.member.head → a ≡ c
+  one_normal a c h i r s e = vectors_equal a c (wide ∙ sym wide_too) (λ j l.
+      let inside : j < n = omega (arith, l, wide) in
+      sym (dot-unit n j a inside wide) ∙ dot_comm (unit n j) a ∙ r.value (unit n j)
+      ∙ ap₂ (λ (p q : ℕ). get_or (unit n j) p (pos 0) -ℤ get_or (unit n j) q (pos 0)) e lows
+      ∙ sym (s.value (unit n j)) ∙ dot_comm c (unit n j) ∙ dot-unit n j c inside wide_too)
+    where
+      wide : length a ≡ n
+      wide = normal-length n bs a b.arranged.canonical h
+
+      wide_too : length c ≡ n
+      wide_too = normal-length n bs c b.arranged.canonical i
+
+      dr : degree r.member.head ≡ 1
+      dr = members.heads r.member r.contained
+
+      ds : degree s.member.head ≡ 1
+      ds = members.heads s.member s.contained
+
+      marks : same s.member.head r.member.head ≡ true
+      marks = same_places s.member.head r.member.head (place_of s.member.head) ds dr (place_there s.member.head ds)
+          (subst (λ (z : ℕ). 1 ≤ entry r.member.head z) e (place_there r.member.head dr))
+
+      same_member : r.member ≡ s.member
+      same_member = apart_same bs r.member s.member b.reduced.heads r.contained s.contained [] marks
+
+      lows : place_of r.at ≡ place_of s.at
+      lows = place_same r.at s.at (at_degree a r) (at_degree c s)
+          (tail_once s.member s.contained r.at s.at (subst (λ (z : MarkedPolynomial). HasMonomial z.poly r.at) same_member r.there) s.there
+          (subst (λ (z : MarkedPolynomial). same z.head r.at ≡ false) same_member r.unmarked) s.unmarked)
+
+  -- and its unmarked monomial isn't a mark
+  no_mark : (a : List ℤ) (r : IsLinearNormal a) (m : MarkedPolynomial) → Contains bs m → place_of r.at ≡ place_of m.head → ⊥
+  no_mark a r m c e =
+      let dm = members.heads m c in
+      let dr = at_degree a r in
+      let s = same_places r.at m.head (place_of m.head) dr dm (subst (λ (z : ℕ). 1 ≤ entry r.at z) e (place_there r.at dr)) (place_there m.head dm) in
+      let t = b.reduced.tails r.member r.contained r.at r.there (record { member = m; contained = c; rest = []; divides = s }) in
+      let u : true ≡ false = sym (same_flip r.at r.member.head t) ∙ r.unmarked in
+      absurd (cc)
+
+  few : (ns : List (List ℤ)) → AreNormals bs ns → n ≤ 3 → length ns ≤ 2
+  few [] m l = omega arith
+  few (a ∷ []) m l = omega arith
+  few (a ∷ (c ∷ [])) m l = omega arith
+  few (a ∷ (c ∷ (e ∷ ns))) m l =
+      absurd (four_places n (place_of r.member.head) (place_of s.member.head) (place_of t.member.head) (place_of r.at) l r.high_inside s.high_inside
+      t.high_inside r.low_inside
+      (λ q. before_strict.irreflexive a (subst (IsBefore a) (sym (one_normal a c first second r s q)) (m.rises.0 c (Contains-here c (e ∷ ns)))))
+      (λ q. before_strict.irreflexive a (subst (IsBefore a) (sym (one_normal a e first third r t q)) (m.rises.0 e (in_tail c (e ∷ ns) e (Contains-here e ns)))))
+      (λ q. no_mark a r r.member r.contained (sym q))
+      (λ q. before_strict.irreflexive c (subst (IsBefore c) (sym (one_normal c e second third s t q)) (m.rises.1.0 e (Contains-here e ns))))
+      (λ q. no_mark a r s.member s.contained (sym q))
+      (λ q. no_mark a r t.member t.contained (sym q)))
+    where
+      first : IsNormal bs a
+      first = m.only a (Contains-here a (c ∷ (e ∷ ns)))
+
+      second : IsNormal bs c
+      second = m.only c (in_tail a (c ∷ (e ∷ ns)) c (Contains-here c (e ∷ ns)))
+
+      third : IsNormal bs e
+      third = m.only e (in_tail a (c ∷ (e ∷ ns)) e (in_tail c (e ∷ ns) e (Contains-here e ns)))
+
+      r : IsLinearNormal a
+      r = normal_at a first
+
+      s : IsLinearNormal c
+      s = normal_at c second
+
+      t : IsLinearNormal e
+      t = normal_at e third
+
+  differ : (a : List ℤ) → IsNormal bs a → IsDifferenceRow n a
+  differ a h =
+      let r = normal_at a h in
+      record {
+        width = normal-length n bs a b.arranged.canonical h;
+        high = place_of r.member.head;
+        low = place_of r.at;
+        high_inside = r.high_inside;
+        low_inside = r.low_inside;
+        difference = λ v l. r.value v;
+      }
+
+  pub linear_normals : (ns : List (List ℤ)) → AreNormals bs ns → n ≤ 3 → (length ns ≤ 2) × AreDifferenceRows n ns
+  linear_normals ns m l = (few ns m l, λ row c. differ row (m.only row c))

@@ -1,0 +1,46 @@
+-- Everyday inputs that meet the premises of completeness of `_bases --within` and `_bases --certificates`. Laws: proofs/VariableLaws.antt,
+-- proofs/EverydayLaws.antt.
+use Rattle.std.specs.Prelude.{◌≡◌, ℕ, ◌<◌, ◌≤◌, false, List, [], ◌∷◌, length, None, Some, ℤ}
+use Rattle.gf_exponents.specs.Exponents.{Exponents, entry}
+use Rattle.gf_poly.specs.Polynomial.{Terms}
+use Rattle.gf_facets.specs.Regions.{IsInRegion}
+use Rattle.gf_binomials.specs.Binomials.{IsBinomialOf}
+use Rattle.gf_binomial_calls.specs.Limits.{IsPlainGenerator, HasExponentsUpTo}
+use Rattle.gfan_lists.specs.declared.bases.ListOptions.{ListOptions}
+use Rattle.gfan_lists.specs.Bases.{IsListWithin}
+use Rattle.gfan_lists.specs.Within.{IsWithinRegion}
+use Rattle.gfan_theory.specs.Differences.{AreDifferenceRows}
+
+-- The ideal of x^p - x^q in at most three variables, neither monomial dividing the other and with exponents up to 500, without certificates and without a
+-- limit, in the region of at most two rows that are differences of two entries: nothing that `_bases --within` may do leaves its limits, whatever
+-- the budget of pairs is.
+abbrev pub RegionsOfBinomialsStayWithinLimits : Type 0
+RegionsOfBinomialsStayWithinLimits = (o : ListOptions) (n : ℕ) (rows : List (List ℤ)) (v : List ℤ) (f : Terms) → o.limit ≡ None → o.certified ≡ false →
+    1 ≤ n → n ≤ 3 → length rows ≤ 2 → AreDifferenceRows n rows → IsInRegion n (record { rows = rows; root = v }) v →
+    IsPlainGenerator f → HasExponentsUpTo 500 f → IsWithinRegion o n rows (f ∷ [])
+
+-- the monomial is the variable at this place
+pub record IsVariable (place : ℕ) (x : Exponents) : Type 0 where
+  pub one : entry x place ≡ 1
+  pub others : (k : ℕ) → (k ≡ place → ⊥) → entry x k ≡ 0
+
+-- f is the difference of two of the first n variables
+pub record IsDifferenceOfVariables (n : ℕ) (f : Terms) : Type 0 where
+  pub first : ℕ
+  pub second : ℕ
+  pub first_inside : first < n
+  pub second_inside : second < n
+  pub apart : first ≡ second → ⊥
+  pub left : Exponents
+  pub right : Exponents
+  pub is_left : IsVariable first left
+  pub is_right : IsVariable second right
+  pub binomial : IsBinomialOf (Some left) (Some right) f
+
+-- The ideal of the difference of two of at most three variables, with certificates or without, without a limit, and whatever the budget of pairs is: nothing
+-- that `_bases` may do leaves its limits; nor anything that `_bases --within` may do in the region of at most one row that is a difference of two entries.
+pub record CertificatesOfVariablesStayWithinLimits : Type 0 where
+  pub everywhere : (o : ListOptions) (n : ℕ) (f : Terms) → o.limit ≡ None → n ≤ 3 → IsDifferenceOfVariables n f → IsListWithin o n (f ∷ [])
+  pub regions : (o : ListOptions) (n : ℕ) (rows : List (List ℤ)) (v : List ℤ) (f : Terms) → o.limit ≡ None → n ≤ 3 → length rows ≤ 1 →
+      AreDifferenceRows n rows →
+      IsInRegion n (record { rows = rows; root = v }) v → IsDifferenceOfVariables n f → IsWithinRegion o n rows (f ∷ [])

@@ -1,0 +1,8 @@
+pub mod Answers  -- the jobs of `_bases`, what they read, and what an answer consists of
+pub mod OneText  -- what is written is determined by what is read, and depends on the ideal alone
+pub mod Served  -- what the list of an answer has for each weight of its region
+pub mod Certified  -- what the certificates of an answer show
+pub mod Joined  -- a list that was cut and then continued
+pub mod Differences  -- rows that compare two entries of a vector
+pub mod Everyday  -- everyday inputs that meet the premise of completeness
+pub mod Linear  -- ideals that differences of variables generate

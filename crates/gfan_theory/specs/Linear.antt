@@ -1,0 +1,73 @@
+-- Ideals that differences of variables generate: their runs, flips and searches stay within their limits.
+-- Laws: proofs/LinearRuns.antt, proofs/LinearBases.antt, proofs/LinearLimits.antt.
+use Rattle.std.specs.Prelude.{◌≡◌, ℕ, ◌≤◌, false, List, length, None, replicate, Contains, ℤ}
+use Rattle.gf_exponents.specs.Exponents.{Exponents, degree}
+use Rattle.gf_poly.specs.Polynomial.{Terms}
+use Rattle.gf_ideal.specs.Membership.{HasMonomial, AreInVariables}
+use Rattle.gf_ideal.specs.MonomialOrders.{MonomialOrder, IsAdmissible}
+use Rattle.gf_binomials.specs.Binomials.{AreBinomials}
+use Rattle.gf_buchberger.specs.Pairs.{pairs_below}
+use Rattle.gf_buchberger.specs.Bases.{AreRunsWithinLimits}
+use Rattle.gf_poly.specs.Marking.{MarkedPolynomial, MarkedPolynomials}
+use Rattle.gf_reduced.specs.Markings.{IsMarkedGroebnerBasis}
+use Rattle.gf_reduced.specs.Terms.{AreReduced}
+use Rattle.gf_reduced.specs.Refusals.{AreChecksWithinLimits}
+use Rattle.gf_binomial_calls.specs.Sets.{IsBinomialSet}
+use Rattle.gfan_sets.specs.WeightVector.{IsWeighedWithin}
+use Rattle.gf_gordan.specs.Sizes.{HaveEntriesUpTo}
+use Rattle.gf_facets.specs.Regions.{Region, IsInRegion}
+use Rattle.gf_facets.specs.Facets.{IsFlippable}
+use Rattle.gf_facets.specs.MarkedBases.{IsBasisInRegion}
+use Rattle.gf_flip.specs.Operations.{IsFlipWithinLimits}
+use Rattle.gf_reverse.specs.Upward.{Fan}
+use Rattle.gf_tree.specs.Refusals.{IsTreeWithinLimits}
+use Rattle.gfan_lists.specs.declared.bases.ListOptions.{ListOptions}
+use Rattle.gfan_lists.specs.Bases.{IsListWithin}
+use Rattle.gfan_lists.specs.Within.{IsWithinRegion}
+use Rattle.gfan_theory.specs.Differences.{AreDifferenceRows}
+
+-- each monomial of f is a variable
+abbrev pub IsLinear : Terms → Type 0
+IsLinear f = (x : Exponents) → HasMonomial f x → degree x ≡ 1
+
+-- the polynomials are linear, in the first n variables
+pub record AreLinearForms (n : ℕ) (fs : List Terms) : Type 0 where
+  pub variables : AreInVariables n fs
+  pub linear : (f : Terms) → Contains fs f → IsLinear f
+
+-- variables and differences of two variables, among the first n, as a-b, b-c
+pub record AreLinearDifferences (n : ℕ) (fs : List Terms) : Type 0 where
+  pub forms : AreLinearForms n fs
+  pub binomials : AreBinomials fs
+
+-- No run on such generators, by an order that is good on homogeneous polynomials, has an operation whose operands don't fit, nor a list with more pairs
+-- than n members have.
+abbrev pub LinearRunsStayWithinLimits : Type 0
+LinearRunsStayWithinLimits = (order : MonomialOrder) (n : ℕ) (fs : List Terms) (budget : ℕ) → IsAdmissible order n (replicate n 1) →
+    AreLinearDifferences n fs → pairs_below n ≤ budget → AreRunsWithinLimits order fs budget
+
+-- So it is with the flips of their ideal, in each region; with the search over its bases, in at most three variables and for rows of the region up to 500;
+-- and with all that `_bases` may do without a limit: for all positive weights, with certificates or without; and without certificates in the region of at
+-- most two rows that are differences of two entries.
+pub record LinearIdealsStayWithinLimits : Type 0 where
+  pub flips : (n : ℕ) (fs : List Terms) (k : Region) (bs : List MarkedPolynomial) (a : List ℤ) (budget : ℕ) → AreLinearDifferences n fs →
+      IsBasisInRegion n fs k bs → IsFlippable n k bs a → pairs_below n ≤ budget → IsFlipWithinLimits n bs a budget
+  pub searches : (F : Fan) (budget : ℕ) → AreLinearDifferences F.variables F.ideal → F.variables ≤ 3 → HaveEntriesUpTo 500 F.region.rows →
+      pairs_below F.variables ≤ budget → IsTreeWithinLimits F budget
+  pub lists : (o : ListOptions) (n : ℕ) (fs : List Terms) → o.limit ≡ None → 1 ≤ n → n ≤ 3 → AreLinearDifferences n fs →
+      pairs_below n ≤ o.pairs → IsListWithin o n fs
+  pub regions : (o : ListOptions) (n : ℕ) (rows : List (List ℤ)) (v : List ℤ) (fs : List Terms) → o.limit ≡ None → o.certified ≡ false → 1 ≤ n → n ≤ 3 →
+      length rows ≤ 2 → AreDifferenceRows n rows → IsInRegion n (record { rows = rows; root = v }) v → AreLinearDifferences n fs →
+      pairs_below n ≤ o.pairs → IsWithinRegion o n rows fs
+
+-- a marked set of variables and differences of two variables, marked at either term, as it is read
+pub record IsLinearSet (s : MarkedPolynomials) : Type 0 where
+  pub binomials : IsBinomialSet s
+  pub linear : (b : MarkedPolynomial) → Contains s.items b → IsLinear b.poly
+
+-- In at most three variables, nothing that may be done in the checks of such a set leaves its limits; nor, if it is a reduced Gröbner basis for its
+-- marking, anything that `_weightvector` may do.
+pub record LinearWeightsStayWithinLimits : Type 0 where
+  pub checks : (s : MarkedPolynomials) → IsLinearSet s → s.variables ≤ 3 → AreChecksWithinLimits s
+  pub weights : (s : MarkedPolynomials) → IsLinearSet s → 1 ≤ s.variables → s.variables ≤ 3 → IsMarkedGroebnerBasis s.variables s.items → AreReduced s.items →
+      IsWeighedWithin s

@@ -1,0 +1,86 @@
+//! What holds of the answers of `gfan _bases`, whatever way the list is asked for: definitions and laws.
+//!
+//! Start at `specs/Answers.antt`, which says what the jobs of `_bases` are, what they read, and what an answer is. The functions
+//! compute nothing: each one's contract is a theorem, so that the check proves it.
+#![tactic(auto)]
+
+ghost use Rattle.gfan_theory.specs.Answers.{AnswersAreLists};
+ghost use Rattle.gfan_theory.specs.OneText.{AllTextsAreOne, OneIdealHasOneText};
+ghost use Rattle.gfan_theory.specs.Served.{AnswersServe};
+ghost use Rattle.gfan_theory.specs.Certified.{AnswersAreCertified};
+ghost use Rattle.gfan_theory.specs.Joined.{RunsAreJoined};
+ghost use Rattle.gfan_theory.specs.Differences.{RegionsOfDifferencesFit, CertificatesOfDifferencesFit};
+ghost use Rattle.gfan_theory.specs.Linear.{LinearRunsStayWithinLimits, LinearIdealsStayWithinLimits, LinearWeightsStayWithinLimits};
+ghost use Rattle.gfan_theory.specs.Everyday.{RegionsOfBinomialsStayWithinLimits, CertificatesOfVariablesStayWithinLimits};
+
+/// Each answer of `_bases` is the text of the list of all bases of an ideal in a region, or of the part of that list that follows a basis: the ideal
+/// and the ring are those of the input, the region is that of the file of `--within`, and the basis is that of the file of `--after`.
+pub fn answers_are_lists()
+    ensures { AnswersAreLists }
+{}
+
+/// Two runs of `_bases` that succeed on the same bytes, both with or both without `--within`, `--after`, `-g` and `--certificates`, write the same
+/// bytes, whatever their files are called, and whatever their limits, budgets and numbers of workers are.
+pub fn all_texts_are_one()
+    ensures { AllTextsAreOne }
+{}
+
+/// Two runs of `_bases` on rings with the same names and generators of one ideal write the same bytes, also if one of them reads generators and
+/// the other a marked Gröbner basis with `-g`.
+pub fn one_ideal_has_one_text()
+    ensures { OneIdealHasOneText }
+{}
+
+/// For each weight of the region for which monomials generate the initial ideal, its reduced basis is among the bases that an answer consists of
+/// and those up to the basis of the file of `--after`, once; and each weight of the region lies in the closed cone of one of them (Fukuda, Jensen, Thomas,
+/// *Computing Gröbner fans*, 2).
+pub fn answers_serve()
+    ensures { AnswersServe }
+{}
+
+/// In each answer with certificates, also in a region or after a basis, each basis is the reduced one for the weight that is printed after it; and
+/// exactly the facets that a flip may cross are printed, each with a vector of the region inside it (Fukuda, Jensen, Thomas,
+/// *Computing Gröbner fans*, 2 and 4).
+pub fn answers_are_certified()
+    ensures { AnswersAreCertified }
+{}
+
+/// A list that was cut and then continued is the list of one run: if one run stops at its limit, and another continues after the last basis that the
+/// first one wrote, read from its printed form, then the two texts, joined, are the answer of a run without a limit.
+pub fn runs_are_joined()
+    ensures { RunsAreJoined }
+{}
+
+/// In at most three variables, at most two rows that are differences of two entries, such as (1,-1,0), cut out a region whose root is worked out within all
+/// limits, if some positive vector makes them positive; and the certificates of a marked list whose normals, with the rows of the region, are at most two
+/// such rows, are worked out within all limits.
+pub fn differences_fit()
+    ensures regions { RegionsOfDifferencesFit }
+    ensures certificates { CertificatesOfDifferencesFit }
+{}
+
+/// The premise of completeness of `_bases --within` is met by the difference of two monomials, neither of which divides the other, in at most three variables
+/// and with exponents up to 500, in the region of at most two rows that are differences of two entries.
+pub fn regions_of_binomials_stay_within_limits()
+    ensures { RegionsOfBinomialsStayWithinLimits }
+{}
+
+/// The premises of completeness of `_bases` and `_bases --within` are met, with certificates too, by the difference of two of at most three variables, in the
+/// region of at most one row that is a difference of two entries.
+pub fn certificates_of_variables_stay_within_limits()
+    ensures { CertificatesOfVariablesStayWithinLimits }
+{}
+
+/// The premises of completeness of `_buchberger`, of `_bases`, with certificates too, and of `_bases --within` are met by variables and differences of
+/// variables, as `a-b, b-c`: that of `_buchberger` in any number of variables, by each order but a weight that isn't positive before reverse lex, and the
+/// others in at most three. The budget of pairs is at least that of a list with as many members as there are variables.
+pub fn linear_ideals_stay_within_limits()
+    ensures runs { LinearRunsStayWithinLimits }
+    ensures ideals { LinearIdealsStayWithinLimits }
+{}
+
+/// In at most three variables, the checks of a marked set of variables and differences of variables stay within their limits, and the premise of completeness
+/// of `_weightvector` is met if such a set is a reduced Gröbner basis for its marking.
+pub fn linear_weights_stay_within_limits()
+    ensures { LinearWeightsStayWithinLimits }
+{}
