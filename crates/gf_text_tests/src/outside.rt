@@ -1,177 +1,110 @@
-//! Reads and writes over memory and over std, with faults at each call in turn.
-use gf_outside::*;
+//! Reads and writes over memory and over std, with faults at given calls; a file of the system.
+ghost use Rattle.std.specs.Prelude.{◌≡◌, OnOk};
+
+use gf_outside::{
+    Failed, Files, InputError, MAX_INPUT, MemFile, MemFiles, MemSink, MemSource, RealFiles, Source,
+    StdSink, StdSource, SureFiles, SureSink, SureSource, WriteFault, load, read_all, write_all,
+};
 use std::alloc::{AllocError, Global};
 use std::fs;
-use std::test::Fail;
+use std::io::{self, Read};
 
-/// The number of the call that fails, what is answered, by hand: three reads of a byte, and one that
-/// finds the end.
-#[test]
-fn each_read_fails_in_turn(rt: HostRuntime) -> Result<(), Fail> {
-    let alloc = rt.alloc();
-    for failing in 0u64..5 {
-        let mut source = MemSource::new(b"abc".to_vec(alloc)?, 1, vec![in alloc; failing]?);
-        let read = read_all(alloc, &mut source);
-        if failing < 4 {
-            assert_eq!(rt; read.err(), Some(InputError::ReadFault), "at {failing}");
-        } else {
-            let all = read.map_err(|_| "no call of this number")?;
-            assert_eq!(rt; all.as_slice(), b"abc".as_slice());
-        }
+/// All bytes, or why they weren't read.
+fn read_answer(alloc: Global, read: Result<Vec<u8>, InputError>) -> Result<Vec<u8>, AllocError> {
+    match read {
+        Ok(all) => Ok(all),
+        Err(error) => Ok(format!(in alloc; "{error:?}")?.into_bytes()),
     }
-    Ok(())
 }
 
-/// A write that fails leaves what was written before it.
-#[test]
-fn each_write_fails_in_turn(rt: HostRuntime) -> Result<(), Fail> {
-    let alloc = rt.alloc();
-    let held = [b"".as_slice(), b"a", b"ab", b"abc"];
-    for failing in 0usize..4 {
-        let mut sink = MemSink::new(alloc, 1, vec![in alloc; failing as u64]?);
-        let written = write_all(&mut sink, b"abc");
-        assert_eq!(rt; written.is_ok(), failing == 3, "at {failing}");
-        assert_eq!(rt; sink.bytes(), held[failing], "at {failing}");
-    }
-    Ok(())
+/// Whether a piece was written, and what the sink holds.
+fn write_answer(
+    alloc: Global,
+    written: Result<(), WriteFault>,
+    held: &[u8],
+) -> Result<Vec<u8>, AllocError> {
+    let mut out = format!(in alloc; "{written:?} ")?.into_bytes();
+    out.extend_from_slice(held)?;
+    Ok(out)
 }
 
-#[test]
-fn a_sink_that_takes_nothing_is_a_fault(rt: HostRuntime) -> Result<(), Fail> {
-    let alloc = rt.alloc();
-    let mut sink = MemSink::new(alloc, 0, vec![in alloc]?);
-    assert_eq!(rt; write_all(&mut sink, b""), Ok(()));
-    assert_eq!(rt; write_all(&mut sink, b"a"), Err(WriteFault));
-    Ok(())
-}
-
-#[test]
-fn a_reader_is_read_to_its_end(rt: HostRuntime) -> Result<(), Fail> {
-    let mut source = StdSource::new(b"Q[a] {a}".as_slice());
-    let all = read_all(rt.alloc(), &mut source).map_err(|_| "a fault")?;
-    assert_eq!(rt; all.as_slice(), b"Q[a] {a}".as_slice());
-    Ok(())
-}
-
-#[test]
-fn a_writer_gains_the_piece(rt: HostRuntime) -> Result<(), Fail> {
-    let mut written = Vec::new(rt.alloc());
-    let mut sink = StdSink::new(&mut written);
-    assert_eq!(rt; write_all(&mut sink, b"{a}"), Ok(()));
-    assert_eq!(rt; written.as_slice(), b"{a}".as_slice());
-    Ok(())
-}
-
-/// A slice of two bytes takes two of the three, and then none.
-#[test]
-fn a_full_writer_is_a_fault(rt: HostRuntime) -> Result<(), Fail> {
-    let mut room = [0u8; 2];
-    let mut sink = StdSink::new(room.as_mut_slice());
-    assert_eq!(rt; write_all(&mut sink, b"abc"), Err(WriteFault));
-    assert_eq!(rt; room, *b"ab");
-    Ok(())
-}
-
-#[test]
-fn sure_objects_never_fail(rt: HostRuntime) -> Result<(), Fail> {
-    let alloc = rt.alloc();
-    let mut source = SureSource::new(b"abc".to_vec(alloc)?);
-    let all = read_all(alloc, &mut source).map_err(|_| "a fault")?;
-    assert_eq!(rt; all.as_slice(), b"abc".as_slice());
-    assert_eq!(rt; write_all(&mut SureSink, &all), Ok(()));
-    Ok(())
-}
-
-#[test]
-fn the_longest_input_is_read(rt: HostRuntime) -> Result<(), Fail> {
-    let alloc = rt.alloc();
-    let mut source = SureSource::new(vec![in alloc; b' '; MAX_INPUT]?);
-    let all = read_all(alloc, &mut source).map_err(|_| "refused")?;
-    assert_eq!(rt; all.len(), MAX_INPUT);
-    Ok(())
-}
-
-#[test]
-fn one_byte_more_is_too_long(rt: HostRuntime) -> Result<(), Fail> {
-    let alloc = rt.alloc();
-    let mut source = SureSource::new(vec![in alloc; b' '; MAX_INPUT + 1]?);
+/// What comes of a read of a source in memory that gives a byte a call, and of which this call fails.
+fn source(alloc: Global, text: &[u8], failing: u64) -> Result<Vec<u8>, AllocError> {
+    let mut source = MemSource::new(text.to_vec(alloc)?, 1, vec![in alloc; failing]?);
     let read = read_all(alloc, &mut source);
-    assert_eq!(rt; read.err(), Some(InputError::InputTooLong));
-    Ok(())
+    read_answer(alloc, read)
 }
 
-/// Two files, by hand: an opening, and three reads of a byte and one that finds the end.
-#[test]
-fn each_call_of_a_load_fails_in_turn(rt: HostRuntime) -> Result<(), Fail> {
-    let alloc = rt.alloc();
-    for failing in 0u64..6 {
-        let files = vec![in alloc; file(alloc, "a", b"xy")?, file(alloc, "b", b"abc")?]?;
-        let mut files = MemFiles::new(files, 1, vec![in alloc; failing]?);
-        let read = load(alloc, &mut files, "b");
-        if failing == 0 {
-            assert_eq!(rt; read.err(), Some(InputError::OpenFault));
-        } else if failing < 5 {
-            assert_eq!(rt; read.err(), Some(InputError::ReadFault), "at {failing}");
-        } else {
-            let all = read.map_err(|_| "no call of this number")?;
-            assert_eq!(rt; all.as_slice(), b"abc".as_slice());
+/// What comes of a piece that is written to a sink in memory that takes so many bytes a call, and of which this call fails.
+fn sink(alloc: Global, text: &[u8], most: usize, failing: u64) -> Result<Vec<u8>, AllocError> {
+    let mut sink = MemSink::new(alloc, most, vec![in alloc; failing]?);
+    let written = write_all(&mut sink, text);
+    write_answer(alloc, written, sink.bytes())
+}
+
+/// What comes of a piece that is written to a vector of std, and to a slice of two bytes.
+fn writers(alloc: Global, text: &[u8]) -> Result<Vec<u8>, AllocError> {
+    let mut all = Vec::new(alloc);
+    let mut sink = StdSink::new(&mut all);
+    let written = write_all(&mut sink, text);
+    let mut out = write_answer(alloc, written, &all)?;
+    let mut room = [0u8; 2];
+    let mut full = StdSink::new(room.as_mut_slice());
+    let written = write_all(&mut full, text);
+    out.push(b';')?;
+    out.extend_from_slice(&write_answer(alloc, written, &room)?)?;
+    Ok(out)
+}
+
+/// A read of a source over a reader, with what it counts as a clause of a caller.
+fn read_once<R: Read>(source: &mut StdSource<R>, into: &mut [u8]) -> Result<usize, Failed>
+    ensures calm { OnOk result (⟦<StdSource<R> as Source>⟧.faults source.new ≡ ⟦<StdSource<R> as Source>⟧.faults source.old) }
+{
+    source.read(into)
+}
+
+/// What comes of a text from a reader of std, all at once; and how many bytes come from another, two at a time, up to the end.
+fn readers(alloc: Global, text: &[u8]) -> Result<Vec<u8>, AllocError> {
+    let mut source = StdSource::new(text);
+    let read = read_all(alloc, &mut source);
+    let mut out = read_answer(alloc, read)?;
+    let mut other = StdSource::new(text);
+    let mut into = [0u8; 2];
+    for _ in 0..=text.len() {
+        match read_once(&mut other, &mut into) {
+            Ok(count) => {
+                out.extend_from_slice(format!(in alloc; ";{count}")?.as_bytes())?;
+                if count == 0 {
+                    break;
+                }
+            }
+            Err(_) => out.push(b'!')?,
         }
     }
-    Ok(())
+    Ok(out)
 }
 
-#[test]
-fn a_name_that_is_not_there_is_not_opened(rt: HostRuntime) -> Result<(), Fail> {
-    let alloc = rt.alloc();
-    let files = vec![in alloc; file(alloc, "a", b"xy")?, file(alloc, "", b"abc")?]?;
-    let mut files = MemFiles::new(files, 1, vec![in alloc]?);
-    assert_eq!(rt;
-        load(alloc, &mut files, "b").err(),
-        Some(InputError::OpenFault)
-    );
-    assert_eq!(rt;
-        load(alloc, &mut files, "").err(),
-        Some(InputError::OpenFault)
-    );
-    assert_eq!(rt; files.read(&mut [0u8; 4]), Ok(0));
-    Ok(())
+/// What comes of a text from a source that never fails, written to a sink that never does.
+fn sure(alloc: Global, text: &[u8]) -> Result<Vec<u8>, AllocError> {
+    let mut source = SureSource::new(text.to_vec(alloc)?);
+    let read = read_all(alloc, &mut source);
+    let mut out = read_answer(alloc, read)?;
+    let written = write_all(&mut SureSink, &out);
+    out.extend_from_slice(format!(in alloc; ";{written:?}")?.as_bytes())?;
+    Ok(out)
 }
 
-#[test]
-fn sure_files_never_fail(rt: HostRuntime) -> Result<(), Fail> {
-    let alloc = rt.alloc();
-    let mut files = SureFiles::new(vec![in alloc;
-        file(alloc, "a", b"xy")?,
-        file(alloc, "a", b"z")?,
-    ]?);
-    for (name, bytes) in [("a", b"xy".as_slice()), ("b", b""), ("a", b"xy")] {
-        let all = load(alloc, &mut files, name).map_err(|_| "a fault")?;
-        assert_eq!(rt; all.as_slice(), bytes);
+/// What comes of the longest input, or of one with a byte more: how many bytes, or why they aren't read.
+fn long(alloc: Global, is_longer: bool) -> Result<Vec<u8>, AllocError> {
+    let length = if is_longer { MAX_INPUT + 1 } else { MAX_INPUT };
+    let mut source = SureSource::new(vec![in alloc; b' '; length]?);
+    match read_all(alloc, &mut source) {
+        Ok(all) => {
+            let length = all.len();
+            Ok(format!(in alloc; "{length}")?.into_bytes())
+        }
+        Err(error) => Ok(format!(in alloc; "{error:?}")?.into_bytes()),
     }
-    Ok(())
-}
-
-#[test]
-fn a_file_of_the_system_is_read(rt: HostRuntime) -> Result<(), Fail> {
-    let alloc = rt.alloc();
-    let path = "gf_outside_test.txt";
-    fs::write(&rt, path, "AMBIENT_DIM\n2\n")?;
-    let mut files = RealFiles::new(&rt);
-    let all = load(alloc, &mut files, path);
-    fs::remove_file(&rt, path)?;
-    assert_eq!(rt;
-        all.map_err(|_| "a fault")?.as_slice(),
-        b"AMBIENT_DIM\n2\n".as_slice()
-    );
-    assert_eq!(rt;
-        load(alloc, &mut files, path).err(),
-        Some(InputError::OpenFault)
-    );
-    assert_eq!(rt;
-        load(alloc, &mut files, "").err(),
-        Some(InputError::OpenFault)
-    );
-    Ok(())
 }
 
 /// A file in memory.
@@ -180,4 +113,80 @@ fn file(alloc: Global, name: &str, bytes: &[u8]) -> Result<MemFile, AllocError> 
         name: String::from_str(alloc, name)?,
         bytes: bytes.to_vec(alloc)?,
     })
+}
+
+/// What comes of the file of a name among `a`, of `xy`, and another name, of `abc`, by a byte a call, of which this one fails; and of a read after that.
+fn loaded(alloc: Global, name: &str, other: &str, failing: u64) -> Result<Vec<u8>, AllocError> {
+    let files = vec![in alloc; file(alloc, "a", b"xy")?, file(alloc, other, b"abc")?]?;
+    let mut files = MemFiles::new(files, 1, vec![in alloc; failing]?);
+    let read = load(alloc, &mut files, name);
+    let mut out = read_answer(alloc, read)?;
+    let more = files.read(&mut [0u8; 4]);
+    out.extend_from_slice(format!(in alloc; " {more:?}")?.as_bytes())?;
+    Ok(out)
+}
+
+/// What comes of the files of names, one after the other, among two of the name `a` that never fail; a semicolon after each.
+fn sure_files(alloc: Global, names: &str) -> Result<Vec<u8>, AllocError> {
+    let mut files = SureFiles::new(vec![in alloc;
+        file(alloc, "a", b"xy")?,
+        file(alloc, "a", b"z")?,
+    ]?);
+    let mut out = Vec::new(alloc);
+    for name in names.split(' ') {
+        let read = load(alloc, &mut files, name);
+        out.extend_from_slice(&read_answer(alloc, read)?)?;
+        out.push(b';')?;
+    }
+    Ok(out)
+}
+
+/// What comes of a file of the system that is written with this text, read, and removed; then of its name, and of an empty one.
+fn system<R: fs::Files>(rt: &R, alloc: Global, text: &[u8]) -> io::Result<Vec<u8>> {
+    let path = "gf_text_tests.txt";
+    fs::write(rt, path, text)?;
+    let mut files = RealFiles::new(rt);
+    let read = load(alloc, &mut files, path);
+    fs::remove_file(rt, path)?;
+    let mut out = read_answer(alloc, read)?;
+    let gone = load(alloc, &mut files, path);
+    let unnamed = load(alloc, &mut files, "");
+    for read in [gone, unnamed] {
+        out.push(b';')?;
+        out.extend_from_slice(&read_answer(alloc, read)?)?;
+    }
+    Ok(out)
+}
+
+/// What comes of a text by a kind of this module, or none where the kind is unknown: its name, and after it the number of the call that fails, before
+/// it, of a sink, how many bytes a call takes, and after it, of files, the name of the second.
+pub fn answer<R: fs::Files>(
+    rt: &R,
+    alloc: Global,
+    kind: &str,
+    text: &str,
+    bytes: &[u8],
+) -> io::Result<Option<Vec<u8>>> {
+    let mut words = kind.split(' ');
+    let name = words.next().unwrap_or("");
+    let number = words.next().unwrap_or("").parse::<u64>().unwrap_or(0);
+    let word = words.next().unwrap_or("");
+    let answer = match name {
+        "source" => source(alloc, bytes, number)?,
+        "sink" => sink(
+            alloc,
+            bytes,
+            number as usize,
+            word.parse::<u64>().unwrap_or(0),
+        )?,
+        "writers" => writers(alloc, bytes)?,
+        "readers" => readers(alloc, bytes)?,
+        "sure" => sure(alloc, bytes)?,
+        "long" => long(alloc, number > 0)?,
+        "load" => loaded(alloc, text, word, number)?,
+        "sure-files" => sure_files(alloc, text)?,
+        "system" => system(rt, alloc, bytes)?,
+        _ => return Ok(None),
+    };
+    Ok(Some(answer))
 }
