@@ -22,7 +22,7 @@ use Rattle.gf_facets.specs.Normals.{AreNormals}
 use Rattle.gf_facets.specs.MarkedBases.{AreCanonical, IsMarkedReducedBasis}
 use Rattle.gf_facets.proofs.ConeLaws.{normals_closed, closed_by_normals}
 use Rattle.gf_saturation.specs.Saturations.{HasOneTermMember}
-use Rattle.gf_tropical_bases.specs.Tests.{IsClosedConeBy, IsFacePassed, IsBasisPassed, IsFailedAt}
+use Rattle.gf_basis_test.specs.Tests.{IsClosedConeBy, IsFacePassed, IsBasisPassed, IsFailedAt}
 use Rattle.gf_initial_monomials.specs.Outcomes.{HasMonomialAt, HasNoMonomialAt, PassesAt, FailsAt, IsCutBy, HasOutcome, vector_of}
 use Rattle.gf_initial_monomials.proofs.OutcomeLaws.{reached_in}
 use Rattle.gf_basis_test.specs.Verdicts.{HasBasisOutcome}

@@ -1,3 +1,5 @@
+pub mod TestLaws  -- initial forms decide, one vector of the relative interior serves a face, and the test of all faces decides
+pub mod InsideLaws  -- tropical varieties are contained in prevarieties
 pub mod MaximalConeLaws  -- the maximal cones of a prevariety are its cones
 pub mod PlaceLaws  -- the maximal cones of a fan by their places
 pub mod FaceTestLaws  -- what a basis and a cone say of the test of all faces

@@ -17,9 +17,9 @@ use Rattle.gf_bases.proofs.FiniteLaws.{basis_everywhere}
 use Rattle.gf_reverse.specs.Upward.{IsNodeIn}
 use Rattle.gf_reverse.proofs.FanLaws.{of_among, among_of}
 use Rattle.gf_tree.specs.Ideals.{ideal_by}
-use Rattle.gf_tropical_bases.specs.Tests.{IsFailedAt}
-use Rattle.gf_tropical_bases.specs.Laws.{IsBasisTest}
-use Rattle.gf_tropical_bases.proofs.TestLaws.{tropical_bases_are_tested}
+use Rattle.gf_basis_test.specs.Tests.{IsFailedAt}
+use Rattle.gf_basis_test.specs.TropicalBases.{IsBasisTest}
+use Rattle.gf_basis_test.proofs.TestLaws.{tropical_bases_are_tested}
 use Rattle.gf_initial_monomials.proofs.OutcomeLaws.{reached_in}
 use Rattle.gf_basis_test.specs.declared.verdict.Verdict.{Verdict}
 use Rattle.gf_basis_test.specs.declared.verdict.Verdict.TheVariants.{Yes, No}

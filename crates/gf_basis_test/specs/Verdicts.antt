@@ -12,7 +12,7 @@ use Rattle.gf_tropical.specs.TropicalFans.{IsPrevarietyFan}
 use Rattle.gf_facets.specs.Normals.{AreNormals}
 use Rattle.gf_reverse.specs.Lists.{IsListFor}
 use Rattle.gf_tree.specs.Ideals.{ideal_by}
-use Rattle.gf_tropical_bases.specs.Tests.{IsMonomialFree}
+use Rattle.gf_basis_test.specs.Tests.{IsMonomialFree}
 use Rattle.gf_initial_monomials.specs.Outcomes.{IsFirstThatFails, HasOutcome}
 use Rattle.gf_basis_test.specs.declared.verdict.Verdict.{Verdict}
 use Rattle.gf_basis_test.specs.declared.verdict.Verdict.TheVariants.{Yes, No}

@@ -8,9 +8,13 @@ mod basis;
 mod error;
 mod laws;
 mod test;
+mod tropical_bases;
 mod verdict;
 
 pub use error::BasisTestError;
 pub use laws::tests_of_monomials_stay_within_limits;
 pub use test::tropical_basis;
+pub use tropical_bases::{
+    monomials_decide, tropical_bases_are_tested, tropical_varieties_are_inside,
+};
 pub use verdict::Verdict;

@@ -39,7 +39,8 @@ pub record IsFacePassed (n : ℕ) (bs : List MarkedPolynomial) (f : Rows) : Type
 pub record IsBasisPassed (n : ℕ) (cones : List Rows) (bs : List MarkedPolynomial) : Type 0 where
   pub rows : Rows
   pub closed : IsClosedConeBy n bs rows
-  pub faces : (c : Rows) → Contains cones c → (zero : List (List ℤ)) → ((t : List ℤ) → Contains zero t → Contains (meet c rows).inequalities t) → IsFacePassed n bs (part (meet c rows) zero)
+  pub faces : (c : Rows) → Contains cones c → (zero : List (List ℤ)) → ((t : List ℤ) → Contains zero t → Contains (meet c rows).inequalities t) →
+      IsFacePassed n bs (part (meet c rows) zero)
 
 -- v is in a cone of the list and in the closed cone of a basis, and the ideal of the initial forms there has a polynomial of one term
 pub record IsFailedAt (n : ℕ) (fs : List Terms) (cones : List Rows) (v : List ℤ) : Type 0 where

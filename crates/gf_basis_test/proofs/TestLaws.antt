@@ -1,6 +1,31 @@
 -- One vector of the relative interior of a face tells of all of it, and the test of all faces is right.
 -- To cite: decided, one_for_all, around, passed, failed.
-use Rattle.std.proofs.Common.{◌≡◌, ◌≢◌, ◌⊎◌, ◌↔◌, ℕ, List, [], map, ℤ, pos, negsuc, ◌+ℤ◌, ◌-ℤ◌, ◌*ℤ◌, ◌<ℤ◌, ◌≤ℤ◌, length, Contains, arith, sym, ap, ◌∙◌, inl, inr}
+use Rattle.std.proofs.Common.{
+  ◌≡◌,
+  ◌≢◌,
+  ◌⊎◌,
+  ◌↔◌,
+  ℕ,
+  List,
+  [],
+  map,
+  ℤ,
+  pos,
+  negsuc,
+  ◌+ℤ◌,
+  ◌-ℤ◌,
+  ◌*ℤ◌,
+  ◌<ℤ◌,
+  ◌≤ℤ◌,
+  length,
+  Contains,
+  arith,
+  sym,
+  ap,
+  ◌∙◌,
+  inl,
+  inr,
+}
 use Rattle.std.proofs.lemmas.Int.{ints}
 use Rattle.gf_frac.specs.Fraction.{zero_ℚ}
 use Rattle.gf_frac.proofs.FractionLaws.{zero_or_not}
@@ -37,8 +62,8 @@ use Rattle.gf_initial.proofs.MatchingLaws.{matched-map}
 use Rattle.gf_initial.proofs.PartLaws.{IsLevelPart, level_of_initial, initial_of_level}
 use Rattle.gf_initial.proofs.LawsHold.{initial_forms_of_bases}
 use Rattle.gf_saturation.specs.Saturations.{HasOneTermMember}
-use Rattle.gf_tropical_bases.specs.Tests.{IsMonomialFree, IsFacePassed, IsBasisPassed, IsFailedAt}
-use Rattle.gf_tropical_bases.specs.Laws.{MonomialsDecide, IsBasisTest, TropicalBasesAreTested}
+use Rattle.gf_basis_test.specs.Tests.{IsMonomialFree, IsFacePassed, IsBasisPassed, IsFailedAt}
+use Rattle.gf_basis_test.specs.TropicalBases.{MonomialsDecide, IsBasisTest, TropicalBasesAreTested}
 
 -- ---- initial forms decide
 
@@ -77,17 +102,24 @@ level_moved : (v w : List ℤ) (b p : MarkedPolynomial) →
     ((x : Exponents) → HasMonomial b.poly x → whole_weight v x ≡ whole_weight v b.head → whole_weight w x ≡ whole_weight w b.head) →
     ((x : Exponents) → HasMonomial b.poly x → whole_weight w x ≡ whole_weight w b.head → whole_weight v x ≡ whole_weight v b.head) →
     IsLevelPart v b p → IsLevelPart w b p
-level_moved v w b p to from i = record { head = i.head; level = λ x e. up x e (zero_or_not (coefficient b.poly x)); off = λ x n. out x n (equal_or_not (whole_weight v x) (whole_weight v b.head)) }
+level_moved v w b p to from i = record {
+  head = i.head;
+  level = λ x e. up x e (zero_or_not (coefficient b.poly x));
+  off = λ x n. out x n (equal_or_not (whole_weight v x) (whole_weight v b.head));
+}
   where
-    nothing : (x : Exponents) → coefficient b.poly x ≡ zero_ℚ → (whole_weight v x ≡ whole_weight v b.head) ⊎ (whole_weight v x ≡ whole_weight v b.head → ⊥) → coefficient p.poly x ≡ zero_ℚ
+    nothing : (x : Exponents) → coefficient b.poly x ≡ zero_ℚ →
+        (whole_weight v x ≡ whole_weight v b.head) ⊎ (whole_weight v x ≡ whole_weight v b.head → ⊥) → coefficient p.poly x ≡ zero_ℚ
     nothing x z (inl e) = i.level x e ∙ z
     nothing x z (inr n) = i.off x n
 
-    up : (x : Exponents) → whole_weight w x ≡ whole_weight w b.head → (coefficient b.poly x ≡ zero_ℚ) ⊎ (coefficient b.poly x ≢ zero_ℚ) → coefficient p.poly x ≡ coefficient b.poly x
+    up : (x : Exponents) → whole_weight w x ≡ whole_weight w b.head → (coefficient b.poly x ≡ zero_ℚ) ⊎ (coefficient b.poly x ≢ zero_ℚ) →
+        coefficient p.poly x ≡ coefficient b.poly x
     up x e (inl z) = nothing x z (equal_or_not (whole_weight v x) (whole_weight v b.head)) ∙ sym z
     up x e (inr m) = i.level x (from x m e)
 
-    out : (x : Exponents) → (whole_weight w x ≡ whole_weight w b.head → ⊥) → (whole_weight v x ≡ whole_weight v b.head) ⊎ (whole_weight v x ≡ whole_weight v b.head → ⊥) → coefficient p.poly x ≡ zero_ℚ
+    out : (x : Exponents) → (whole_weight w x ≡ whole_weight w b.head → ⊥) →
+        (whole_weight v x ≡ whole_weight v b.head) ⊎ (whole_weight v x ≡ whole_weight v b.head → ⊥) → coefficient p.poly x ≡ zero_ℚ
     out x n (inr o) = i.off x o
     out x n (inl e) = i.level x e ∙ none (zero_or_not (coefficient b.poly x))
       where
@@ -109,7 +141,11 @@ one_for_all n fs bs ps f v w r inside i j h = matched-map (IsInitialPart v) (IsI
         (level_of_initial v b p (inside v i.width i.inside b c) (there b c) q))
 
 pub monomials_decide : MonomialsDecide
-monomials_decide = record { by_forms = decided; at_once = λ n ps p x c s. (p.poly, x, member-generator n (polys ps) p.poly (Contains-polys ps p c), s); one_for_all = one_for_all }
+monomials_decide = record {
+  by_forms = decided;
+  at_once = λ n ps p x c s. (p.poly, x, member-generator n (polys ps) p.poly (Contains-polys ps p c), s);
+  one_for_all = one_for_all;
+}
 
 -- ---- a vector of a cone is in the relative interior of the face on which the rows that are zero there are zero
 
@@ -125,7 +161,8 @@ around n c w lw i = record {
   interior = interior_relative n (part c z.rows) w (record {
     width = lw;
     inside = part_in c z.rows w i z.zero;
-    positive = all_by (λ h. (pos 0 <ℤ dot h w) ⊎ ((x : List ℤ) → length x ≡ n → IsInCone (part c z.rows) x → dot h x ≡ pos 0)) c.inequalities (λ h k. at h k (three (pos 0) (dot h w)));
+    positive = all_by (λ h. (pos 0 <ℤ dot h w) ⊎ ((x : List ℤ) → length x ≡ n → IsInCone (part c z.rows) x → dot h x ≡ pos 0)) c.inequalities
+        (λ h k. at h k (three (pos 0) (dot h w)));
   });
 }
   where
@@ -143,10 +180,18 @@ around n c w lw i = record {
 -- a cone of the list has vectors of the prevariety only
 on_cone : (n : ℕ) (As : List (List (List ℤ))) (cones : List Rows) (c : Rows) (v : List ℤ) → ArePatternCones IsOnPrevariety n As cones →
     Contains cones c → length v ≡ n → IsInCone c v → IsOnPrevariety As v
-on_cone n As cones c v p k lv i = let a = p.each c (record { cone = c; listed = k; face = whole }) in on_prevariety.kept As a.vector v a.admitted ((a.closed v lv).0 i)
+on_cone n As cones c v p k lv i =
+    let a = p.each c (record { cone = c; listed = k; face = whole }) in
+    on_prevariety.kept As a.vector v a.admitted ((a.closed v lv).0 i)
   where
     whole : IsFaceOf n c c
-    whole = ([], (all_by (Contains c.inequalities) [] (λ t k. absurd (none_in t k)), λ x lx. (λ ix. part_in c [] x ix (λ t k. absurd (none_in t k)), λ ix. of_part c [] x ix)))
+    whole = (
+      [],
+      (
+        all_by (Contains c.inequalities) [] (λ t k. absurd (none_in t k)),
+        λ x lx. (λ ix. part_in c [] x ix (λ t k. absurd (none_in t k)), λ ix. of_part c [] x ix),
+      ),
+    )
 
 passed : (n : ℕ) (grade : List ℕ) (fs : List Terms) (cones : List Rows) → IsBasisTest n grade fs cones →
     ((bs : List MarkedPolynomial) → IsMarkedReducedBasis n fs bs → IsBasisPassed n cones bs) →

@@ -13,7 +13,7 @@ use Rattle.gf_facets.specs.Facets.{IsInClosedCone}
 use Rattle.gf_facets.specs.MarkedBases.{IsMarkedReduced, IsMarkedReducedBasis}
 use Rattle.gf_initial.specs.Parts.{AreInitialParts}
 use Rattle.gf_saturation.specs.Saturations.{IsOfOneTerm, HasOneTermMember}
-use Rattle.gf_tropical_bases.specs.Tests.{IsMonomialFree, AreKeptNonzero, IsBasisPassed, IsFailedAt}
+use Rattle.gf_basis_test.specs.Tests.{IsMonomialFree, AreKeptNonzero, IsBasisPassed, IsFailedAt}
 
 -- the initial forms of a basis at a vector of its closed cone decide whether the initial ideal there has a polynomial of one term,
 -- and one of one term among them does so at once; the same initial forms serve all vectors of the relative interior of a cone

@@ -1,11 +1,6 @@
-//! Tropical bases: at which vectors of a prevariety the initial ideal has no polynomial of one term, and how a test of finitely many
-//! vectors tells of all of them. Definitions and laws.
-//!
-//! Start at `specs/Tests.antt`; `specs/Laws.antt` has the theorems. The functions compute nothing: each one's contract is a
-//! theorem, so that the check proves it.
-#![tactic(auto)]
-
-ghost use Rattle.gf_tropical_bases.specs.Laws.{MonomialsDecide, TropicalBasesAreTested, TropicalVarietiesAreInside};
+//! Theorems on tropical bases: at which vectors of a prevariety the initial ideal has no polynomial with a single term, and why a test
+//! of finitely many vectors decides for all of them. The functions compute nothing: the contract of each is the theorem.
+ghost use Rattle.gf_basis_test.specs.TropicalBases.{MonomialsDecide, TropicalBasesAreTested, TropicalVarietiesAreInside};
 
 /// The initial forms of a Gröbner basis decide whether an initial ideal has a polynomial of one term, and one vector of the relative
 /// interior of a face tells of all of them.
