@@ -1,4 +1,4 @@
--- Where only memory may be wanting. Laws: proofs/LimitLaws.antt.
+-- When the only possible error is that memory runs out. Laws: proofs/LimitLaws.antt.
 use Rattle.std.specs.Prelude.{◌≡◌, ℕ, List, ℤ, map, Contains}
 use Rattle.gf_exponents.specs.SixOrders.{MonomialOrder}
 use Rattle.gf_poly.specs.Polynomial.{Terms}
@@ -21,7 +21,7 @@ use Rattle.gf_basis_test.specs.declared.error.BasisTestError.{BasisTestError}
 use Rattle.gf_basis_test.specs.declared.error.BasisTestError.TheVariants.{Prevariety, Root, Search, Initial, Memory}
 use Rattle.gf_basis_test.specs.Verdicts.{maximal_rows}
 
--- there was no memory, whatever it was wanted for
+-- memory ran out, in whichever part of the test
 abbrev pub HasNoMemory : BasisTestError → Type 0
 HasNoMemory (Prevariety r) = r ≡ tropical.Memory
 HasNoMemory (Root r) = IsWantOfMemory r
@@ -29,8 +29,8 @@ HasNoMemory (Search r) = r ≡ tree.Memory
 HasNoMemory (Initial r) = IsMemoryWanted r
 HasNoMemory Memory = Unit {0}
 
--- within their limits are: the prevariety, none of the polynomials zero; the runs by degree and then lex; the search over the bases; and
--- for each basis and each maximal cone of the prevariety the faces of what the closed cones share
+-- each part of the test is within its limits: the prevariety, with no polynomial zero; the runs by deglex; the search over the bases; and for
+-- each basis and each maximal cone of the prevariety the faces of the intersection of the closed cones
 pub record IsTestWithinLimits (n : ℕ) (fs : List Terms) (pairs : ℕ) : Type 0 where
   pub prevariety : IsTropicalWithinLimits IsPairSystem n fs
   pub root : AreRunsWithinLimits MonomialOrder.deglex fs pairs

@@ -1,4 +1,4 @@
--- From where the bases of an ideal are gone through.
+-- The basis at which the search over the bases of an ideal starts.
 use Rattle.std.specs.Prelude.{◌≡◌, List}
 use Rattle.gf_poly.specs.Polynomial.{Terms}
 use Rattle.gf_poly.specs.Marking.{MarkedPolynomials}
@@ -7,7 +7,7 @@ use Rattle.gf_reverse.specs.Upward.{IsNodeIn}
 use Rattle.gf_tree.specs.Ideals.{ideal_by}
 use Rattle.gf_tree.specs.Parents.{IsRootFor}
 
--- start is a basis of the ideal of fs, and root is the root above it, for all positive weights
+-- start is a basis of the ideal of fs, and root is the root of its tree; the region consists of all positive weights
 pub record IsStartOf (fs : List Terms) (start : MarkedPolynomials) (region : Region) (root : MarkedPolynomials) : Type 0 where
   pub region_is : region ≡ all_positive start.variables
   pub node : IsNodeIn (ideal_by start.variables fs) start

@@ -1,5 +1,5 @@
--- Vectors at which the initial ideal has no polynomial of one term, and how one vector tells of a whole face.
--- A set of polynomials is a tropical basis where the initial ideal at each vector of their prevariety has none.
+-- Vectors at which the initial ideal has no polynomial with a single term, and the test of one vector for each face.
+-- A set of polynomials is a tropical basis if the initial ideal at each vector of their prevariety has no polynomial with a single term.
 -- Laws: proofs/TestLaws.antt.
 -- Source: Maclagan, Sturmfels, Introduction to Tropical Geometry, 2.6 and 3.2.
 use Rattle.std.specs.Prelude.{◌≡◌, ◌≢◌, ◌↔◌, ℕ, List, [], ℤ, length, Contains}
@@ -15,11 +15,11 @@ use Rattle.gf_facets.specs.MarkedBases.{IsMarkedReducedBasis}
 use Rattle.gf_initial.specs.Parts.{AreInitialParts}
 use Rattle.gf_saturation.specs.Saturations.{IsOfOneTerm, HasOneTermMember}
 
--- the initial ideal at w has no polynomial of one term
+-- the initial ideal at w has no polynomial with a single term
 abbrev pub IsMonomialFree : ℕ → List Terms → List ℤ → Type 0
 IsMonomialFree n fs w = (q : Terms) (x : Exponents) → IsInInitialIdeal n fs w q → IsOfOneTerm q x → ⊥
 
--- d gives the closed cone of bs by rows
+-- the cone of the rows d is the closed cone of bs
 abbrev pub IsClosedConeBy : ℕ → List MarkedPolynomial → Rows → Type 0
 IsClosedConeBy n bs d = (u : List ℤ) → length u ≡ n → IsInCone d u ↔ IsInClosedCone u bs
 
@@ -30,19 +30,19 @@ pub record IsSampled (n : ℕ) (bs : List MarkedPolynomial) (f : Rows) : Type 0 
   pub parts : List MarkedPolynomial
   pub are_parts : AreInitialParts vector bs parts
 
--- f is sampled so, and the ideal of the initial forms has no polynomial of one term
+-- at some vector of the relative interior of f the ideal of the initial forms of bs has no polynomial with a single term
 pub record IsFacePassed (n : ℕ) (bs : List MarkedPolynomial) (f : Rows) : Type 0 where
   pub sample : IsSampled n bs f
   pub free : HasOneTermMember n (polys sample.parts) → ⊥
 
--- each face of each meet of a cone of the list with the closed cone of bs passes
+-- each face of each intersection of a cone of the list with the closed cone of bs passes
 pub record IsBasisPassed (n : ℕ) (cones : List Rows) (bs : List MarkedPolynomial) : Type 0 where
   pub rows : Rows
   pub closed : IsClosedConeBy n bs rows
   pub faces : (c : Rows) → Contains cones c → (zero : List (List ℤ)) → ((t : List ℤ) → Contains zero t → Contains (meet c rows).inequalities t) →
       IsFacePassed n bs (part (meet c rows) zero)
 
--- v is in a cone of the list and in the closed cone of a basis, and the ideal of the initial forms there has a polynomial of one term
+-- v is in a cone of the list and in the closed cone of a basis, and the ideal of the initial forms there has a polynomial with a single term
 pub record IsFailedAt (n : ℕ) (fs : List Terms) (cones : List Rows) (v : List ℤ) : Type 0 where
   pub basis : List MarkedPolynomial
   pub is_basis : IsMarkedReducedBasis n fs basis
@@ -54,6 +54,6 @@ pub record IsFailedAt (n : ℕ) (fs : List Terms) (cones : List Rows) (v : List 
   pub are_parts : AreInitialParts v basis parts
   pub single : HasOneTermMember n (polys parts)
 
--- each of fs is kept in n variables, its terms descend, and it isn't zero
+-- each polynomial of fs is in n variables, its terms descend, and it isn't zero
 pub record AreKeptNonzero (n : ℕ) (fs : List Terms) : Type 0 where
   pub each : (f : Terms) → Contains fs f → HasVariables n f × IsDescending f × (f ≢ [])

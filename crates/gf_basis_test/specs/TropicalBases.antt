@@ -1,4 +1,4 @@
--- The theorems on the test of tropical bases that functions of this crate name.
+-- The theorems on tropical bases that functions of this crate name.
 use Rattle.std.specs.Prelude.{◌≡◌, ◌↔◌, ℕ, List, ℤ, map, length, Contains}
 use Rattle.gf_exponents.specs.Exponents.{Exponents}
 use Rattle.gf_poly.specs.Polynomial.{Terms}
@@ -15,8 +15,8 @@ use Rattle.gf_initial.specs.Parts.{AreInitialParts}
 use Rattle.gf_saturation.specs.Saturations.{IsOfOneTerm, HasOneTermMember}
 use Rattle.gf_basis_test.specs.Tests.{IsMonomialFree, AreKeptNonzero, IsBasisPassed, IsFailedAt}
 
--- the initial forms of a basis at a vector of its closed cone decide whether the initial ideal there has a polynomial of one term,
--- and one of one term among them does so at once; the same initial forms serve all vectors of the relative interior of a cone
+-- the initial forms of a basis at a vector of its closed cone decide whether the initial ideal there has a polynomial with a single term. An
+-- initial form with a single term shows it at once. The members have the same initial forms at all vectors of the relative interior of a cone
 -- inside the closed cone
 pub record MonomialsDecide : Type 0 where
   pub by_forms : (n : ℕ) (fs : List Terms) (w : List ℤ) (bs ps : List MarkedPolynomial) → AreInVariables n fs → IsMarkedReduced n fs bs →
@@ -27,14 +27,14 @@ pub record MonomialsDecide : Type 0 where
       ((u : List ℤ) → length u ≡ n → IsInCone f u → IsInClosedCone u bs) → IsRelativeInterior n f v → IsRelativeInterior n f w →
       AreInitialParts v bs ps → AreInitialParts w bs ps
 
--- generators that are homogeneous by a positive grade, and cones whose faces are their prevariety
+-- the generators fs are homogeneous by a positive grade, and the faces of the cones form their prevariety
 pub record IsBasisTest (n : ℕ) (grade : List ℕ) (fs : List Terms) (cones : List Rows) : Type 0 where
   pub variables : AreInVariables n fs
   pub positive : IsPositive n grade
   pub homogeneous : AreHomogeneous n grade fs
   pub cones_are : ArePatternCones IsOnPrevariety n (map points fs) cones
 
--- where all bases pass, the initial ideal at no vector of the prevariety has a polynomial of one term; a vector that fails is on the
+-- if all bases pass, the initial ideal at no vector of the prevariety has a polynomial with a single term. A vector that fails is on the
 -- prevariety, and the initial ideal there has one
 pub record TropicalBasesAreTested : Type 0 where
   pub yes : (n : ℕ) (grade : List ℕ) (fs : List Terms) (cones : List Rows) → IsBasisTest n grade fs cones →
@@ -43,7 +43,7 @@ pub record TropicalBasesAreTested : Type 0 where
   pub no : (n : ℕ) (grade : List ℕ) (fs : List Terms) (cones : List Rows) (v : List ℤ) → IsBasisTest n grade fs cones → length v ≡ n →
       IsFailedAt n fs cones v → IsOnPrevariety (map points fs) v × (IsMonomialFree n fs v → ⊥)
 
--- where the initial ideal has no polynomial of one term, the vector is on the prevariety of any nonzero polynomials of the ideal that
--- generate it; so of a tropical basis the prevariety is just the tropical variety
+-- if the initial ideal at w has no polynomial with a single term, w is on the prevariety of the generators, none of which is zero. So the
+-- prevariety of a tropical basis is the tropical variety
 abbrev pub TropicalVarietiesAreInside : Type 0
 TropicalVarietiesAreInside = (n : ℕ) (fs : List Terms) (w : List ℤ) → AreKeptNonzero n fs → IsMonomialFree n fs w → IsOnPrevariety (map points fs) w

@@ -19,35 +19,36 @@ use Rattle.gf_basis_test.specs.declared.verdict.Verdict.TheVariants.{Yes, No}
 
 -- ---- the theorem
 
--- yes: the initial ideal at no vector of the prevariety has a polynomial of one term; no: it has one at this vector, which is on the prevariety
+-- yes: at no vector of the prevariety the initial ideal has a polynomial with a single term. No: v is on the prevariety, and the initial ideal
+-- at v has one
 abbrev pub IsVerdict : ℕ → List Terms → Verdict → Type 0
 IsVerdict n fs Yes = (w : List ℤ) → length w ≡ n → IsOnPrevariety (map points fs) w → IsMonomialFree n fs w
 IsVerdict n fs (No v) = (length v ≡ n) × IsOnPrevariety (map points fs) v × (IsMonomialFree n fs v → ⊥)
 
 -- ---- the first vector that fails
 
--- the maximal cones of a fan by rows, in order
+-- the rows of the maximal cones of a fan, in order
 abbrev pub maximal_rows : FanLists → List Rows
 maximal_rows h = cone_rows (maximal_of h)
 
--- the cones one after another with the closed cone of the basis bs
+-- the outcome of the test of the cones, one after another, with the closed cone of the basis bs
 pub record HasBasisOutcome (n : ℕ) (cones : List Rows) (bs : List MarkedPolynomial) (v : Option (List ℤ)) : Type 0 where
   pub normals : List (List ℤ)
   pub are_normals : AreNormals bs normals
   pub outcome : IsFirstThatFails (λ (c : Rows). HasOutcome n bs normals c None) (λ (u : List ℤ) (c : Rows). HasOutcome n bs normals c (Some u)) cones v
 
--- the bases of the ideal of fs one after another, in the order of their paths
+-- the outcome of the test of the bases of the ideal of fs, one after another, in the order of their paths
 pub record HaveBasesOutcome (n : ℕ) (fs : List Terms) (cones : List Rows) (v : Option (List ℤ)) : Type 0 where
   pub bases : List MarkedPolynomials
   pub are_bases : IsListFor (ideal_by n fs) bases
   pub outcome : IsFirstThatFails (λ (b : MarkedPolynomials). HasBasisOutcome n cones b.items None) (λ (u : List ℤ) (b : MarkedPolynomials). HasBasisOutcome n cones b.items (Some u)) bases v
 
--- the vector that a verdict of no tells
+-- the vector of a verdict of no
 abbrev pub outcome_of : Verdict → Option (List ℤ)
 outcome_of Yes = None
 outcome_of (No v) = Some v
 
--- by the maximal cones of the prevariety: where it is no, the vector is the first that fails
+-- the verdict by the maximal cones of the prevariety: if it is no, its vector is the first that fails
 pub record IsFirstVerdict (n : ℕ) (fs : List Terms) (verdict : Verdict) : Type 0 where
   pub fan : FanLists
   pub is_fan : IsPrevarietyFan n (map points fs) fan

@@ -21,7 +21,7 @@ use std::alloc::Global;
 /// The verdict on the bases of an ideal, from the root of their tree.
 ///
 /// # Errors
-/// A refusal of the search, or one at a basis; all bases before that pass.
+/// `Search`: a refusal of the search. `Initial`: one at a basis; all bases before it pass. `Memory`: memory runs out.
 fn from_root(
     alloc: Global,
     root: MarkedSet,
@@ -48,7 +48,7 @@ fn from_root(
 /// The verdict on the bases of an ideal, from any of them.
 ///
 /// # Errors
-/// A refusal of the search, or one at a basis; all bases before that pass.
+/// `Search`: a refusal of the search. `Initial`: one at a basis; all bases before it pass. `Memory`: memory runs out.
 pub(crate) fn at_bases(
     alloc: Global,
     start: MarkedSet,

@@ -14,7 +14,7 @@ use gf_rays::Rays;
 use gf_vec::IntVec;
 use std::alloc::Global;
 
-/// The maximal cone with a number, counted from 0.
+/// The maximal cone of a fan with this index, counted from 0.
 fn maximal_cone(fan: &Fan, i: usize) -> &Rays
     requires { i < length fan.now.maximal }
     ensures value { rows_of result.now ≡ slice_index_or (maximal_rows fan.now) i (rows_of result.now) }
@@ -24,11 +24,11 @@ fn maximal_cone(fan: &Fan, i: usize) -> &Rays
     &fan.cones()[place].cone
 }
 
-/// The first vector that fails of the maximal cones of a fan and the closed cone of a basis, which is given; none where each passes. Initial forms that
-/// passed at one cone are not tried again at another.
+/// The first vector that fails of the maximal cones of a fan and the closed cone of a basis, which is given; none if each passes. Initial
+/// forms that passed at one cone are not tried again at another.
 ///
 /// # Errors
-/// What is refused at a cone, all before which pass.
+/// Those of `at_cone` of `gf_initial_monomials`, at the first cone that has one; all cones before it pass.
 fn at_cones(
     alloc: Global,
     basis: &MarkedSet,
@@ -54,10 +54,10 @@ fn at_cones(
     Ok(None)
 }
 
-/// The first vector that fails of the maximal cones of a fan and the closed cone of a basis; none where each passes.
+/// The first vector that fails of the maximal cones of a fan and the closed cone of a basis; none if each passes.
 ///
 /// # Errors
-/// What is refused at a cone, all before which pass; want of memory.
+/// Those of `at_cone` of `gf_initial_monomials`, at the first cone that has one; all cones before it pass. `Memory`: memory runs out.
 pub(crate) fn at_basis(
     alloc: Global,
     basis: &MarkedSet,

@@ -11,15 +11,15 @@ use std::alloc::AllocError;
 /// Why there is no verdict.
 #[derive(Drop)]
 pub enum BasisTestError {
-    /// There is no fan of the prevariety.
+    /// The fan of the prevariety isn't computed: a polynomial is zero, a number doesn't fit, or memory runs out.
     Prevariety(TropicalError),
-    /// There is no first basis.
+    /// The first basis isn't computed: a number doesn't fit, the budget of pairs is spent, or memory runs out.
     Root(BasisError),
-    /// The search over the bases is refused.
+    /// The search over the bases stops: a number doesn't fit, the budget of pairs of a flip is spent, or memory runs out.
     Search(TreeError),
-    /// Of some basis and a cone of the prevariety it isn't known whether all vectors pass.
+    /// At a basis and a maximal cone of the prevariety the test stops: a number doesn't fit, the budget of pairs is spent, or memory runs out.
     Initial(InitialError),
-    /// There is no memory.
+    /// Memory runs out.
     Memory,
 }
 

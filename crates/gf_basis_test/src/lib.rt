@@ -1,6 +1,6 @@
-//! Whether polynomials are a tropical basis: whether at each vector of their prevariety the initial ideal has no polynomial of one term.
+//! Whether polynomials are a tropical basis: whether at each vector of their prevariety the initial ideal has no polynomial with a single term.
 //!
-//! Start at `tropical_basis`. What a verdict says stands in `specs/Verdicts.antt`, why it decides in `gf_tropical_bases`.
+//! Start at `tropical_basis`. `specs/Verdicts.antt` has the meaning of a verdict, `specs/TropicalBases.antt` the theorems by which it is right.
 #![tactic(auto)]
 
 mod bases;

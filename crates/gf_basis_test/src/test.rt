@@ -22,7 +22,7 @@ use gf_tropical::prevariety;
 use std::alloc::Global;
 use std::thread::Threads;
 
-/// Each of the polynomials is in `n` variables. Nothing is worked out.
+/// Each of the polynomials is in `n` variables. Nothing is computed.
 fn are_in(n: u32, set: &[Poly])
     requires { HaveRingVariables n set.now }
     ensures { All (HasVariables n) set.now }
@@ -53,20 +53,25 @@ fn tested<R: Threads + Sync>(
     at_bases(alloc, start, &region, &fan, pairs)
 }
 
-/// Whether polynomials in `n` variables, each homogeneous by the total degree, are a tropical basis: whether at each vector of their tropical
-/// prevariety the initial ideal has no polynomial of one term (Maclagan, Sturmfels, *Introduction to Tropical Geometry*, 2.6). `n` is at
-/// most 24. If they aren't, such a vector is told. That of no polynomial is the whole space, and they are one; so are they where the
-/// prevariety is empty.
+/// Whether polynomials in `n` variables, each homogeneous by the total degree, are a tropical basis of their ideal: whether at each vector of
+/// their tropical prevariety the initial ideal has no polynomial with a single term (Maclagan, Sturmfels, *Introduction to Tropical
+/// Geometry*, 2.6). If they are not, the verdict has such a vector, with `n` entries. The prevariety of the empty set is the whole space, and
+/// the empty set is a tropical basis; so is any set whose prevariety is empty. `n` is at most 24.
 ///
-/// All bases of the ideal are gone through in the order of their paths, for each the maximal cones of the prevariety, for each of these the faces of
-/// what it shares with the closed cone of the basis, by dimension and then by the numbers of their rays. The sum of the rays of a
-/// face is tried by `has_monomial`, and the first that fails is told. Each flip and each run settles at most `pairs` pairs.
+/// The bases of the ideal are visited in the order of their paths; for each basis the maximal cones of the prevariety in their order; for each
+/// of these the faces of its intersection with the closed cone of the basis, by dimension and then by the numbers of their rays. The sum of the
+/// rays of a face is tried by `has_monomial`, and the verdict has the first vector that fails. Each flip and each run of Buchberger's algorithm
+/// settles at most `pairs` pairs.
 ///
 /// # Errors
 ///
-/// `Prevariety`: those of `prevariety`; before all else, of a zero polynomial, the first one. `Root`: those of `basis` of `gf_buchberger` by
-/// degree and then lex. `Search`: a refusal of the search over the bases. `Initial`: what `at_cone` of `gf_initial_monomials` is refused for,
-/// at a basis and a cone all before which pass. `Memory`: want of memory.
+/// - `Prevariety`, before anything else: a polynomial is zero, the first one being reported; else an operation of finding the rays of a cone of
+///   the prevariety leaves its range, or memory runs out.
+/// - `Root`: a run of Buchberger's algorithm by deglex is refused, for operands that don't fit, for the budget of pairs, or for memory.
+/// - `Search`: a flip, or the system that decides whether a flip may cross a facet, is refused, for operands that don't fit, for the budget of
+///   pairs, or for memory.
+/// - `Initial`: `at_cone` of `gf_initial_monomials` is refused at a basis and a cone. All bases and cones before them pass.
+/// - `Memory`: memory runs out.
 pub fn tropical_basis<R: Threads + Sync>(
     rt: &R,
     alloc: Global,

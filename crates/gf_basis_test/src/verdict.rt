@@ -1,9 +1,11 @@
-//! What is answered.
+//! The verdict of the test.
 use gf_vec::IntVec;
 
-/// Whether polynomials are a tropical basis, or a vector of their prevariety at which the initial ideal has a polynomial of one term.
+/// Whether polynomials are a tropical basis of their ideal.
 #[derive(Drop)]
 pub enum Verdict {
+    /// They are: at each vector of their prevariety the initial ideal has no polynomial with a single term.
     Yes,
+    /// They are not: this vector of the prevariety, with an entry for each variable, is one at which the initial ideal has such a polynomial.
     No(IntVec),
 }
