@@ -12,8 +12,8 @@ use Rattle.gf_weights.specs.declared.certificates.Certificates.{Certificates}
 use Rattle.gf_weights.specs.declared.certificates.FacetWitness.{FacetWitness}
 use Rattle.gf_weights.specs.Weights.{IsPrintedWeight, IsWeightIn, IsWitnessIn, AreWitnessedIn, AreCertificatesIn}
 
--- the printed weight is in the region and sets each mark above the rest, where any vector of the region does; and the marked reduced
--- basis of an ideal is its reduced Gröbner basis for this weight
+-- if some vector of the region sets each mark above the rest, so does the printed weight, which then is in the region. A marked reduced
+-- basis of an ideal is its reduced Gröbner basis for the printed weight
 pub record WeightsGiveBases : Type 0 where
   pub marks : (n : ℕ) (k : Region) (bs : List MarkedPolynomial) (v w : List ℤ) → AreCanonical n bs → IsWeightIn n k bs v →
       IsInRegion n k w → IsInOpenCone w bs → IsInRegion n k v × IsInOpenCone v bs
@@ -27,14 +27,14 @@ abbrev pub WitnessesAreInside : Type 0
 WitnessesAreInside = (n : ℕ) (k : Region) (bs : List MarkedPolynomial) (a v : List ℤ) → AreCanonical n bs → IsFlippable n k bs a →
     IsWitnessIn n k bs a v → IsInRegion n k v × IsInsideFacet bs a v
 
--- there is one printed weight, and one witness of each facet; so two lists of certificates are one
+-- a marked list has at most one printed weight, each facet at most one witness, and so the list at most one list of certificates
 pub record CertificatesAreUnique : Type 0 where
   pub weight : (n : ℕ) (k : Region) (bs : List MarkedPolynomial) (v w : List ℤ) → IsWeightIn n k bs v → IsWeightIn n k bs w → v ≡ w
   pub witness : (n : ℕ) (k : Region) (bs : List MarkedPolynomial) (a v w : List ℤ) → IsWitnessIn n k bs a v → IsWitnessIn n k bs a w → v ≡ w
   pub all : (n : ℕ) (k : Region) (bs : List MarkedPolynomial) (c d : Certificates) → AreCertificatesIn n k bs c → AreCertificatesIn n k bs d →
       (c.weight ≡ d.weight) × (c.facets.items ≡ d.facets.items)
 
--- a marked list has its printed weight, and its facets that a flip may cross, each with its printed witness
+-- a marked list has a printed weight, and a list of the facets that a flip may cross, each with its printed witness
 pub record CertificatesExist : Type 0 where
   pub weight : (n : ℕ) (k : Region) (bs : List MarkedPolynomial) → AreCanonical n bs → (v : List ℤ) × IsWeightIn n k bs v
   pub facets : (n : ℕ) (k : Region) (bs : List MarkedPolynomial) → AreCanonical n bs → (fs : List FacetWitness) × AreWitnessedIn n k bs fs

@@ -1,4 +1,4 @@
--- Why weights and witnesses aren't told. Laws: proofs/RefusalLaws.antt.
+-- Why a weight or witnesses can't be computed. Laws: proofs/RefusalLaws.antt.
 use Rattle.std.specs.Prelude.{◌≡◌, ◌⊎◌, ℕ, List, [], ℤ}
 use Rattle.gf_poly.specs.Marking.{MarkedPolynomial}
 use Rattle.gf_vec.specs.Vector.{zeros}
@@ -20,61 +20,61 @@ use Rattle.gf_weights.specs.Weights.{AreCutRows, AreCutRays}
 
 -- ---- refusals of other crates
 
--- that of a system or of a double description
+-- the refusal of a system, or of a double description, as one of a weight
 abbrev pub weight_of_gordan : GordanError → WeightError
 weight_of_gordan (gordan_errors.Cone o) = Cone o
 weight_of_gordan gordan_errors.Memory = Memory
 
--- that of a sum of vectors
+-- the refusal of a sum of vectors, as one of a weight
 abbrev pub of_vector : VecError → WeightError
 of_vector (vec_errors.Wide w) = Wide w
 of_vector vec_errors.Memory = Memory
 
 -- ---- causes, in a region k
 
--- an operation of finding the rays of the cut cone leaves the range
+-- s is an operation of finding the rays of the cut cone, and it leaves its range
 abbrev pub IsCutStep : ℕ → Region → List MarkedPolynomial → ConeOverflow → Type 0
 IsCutStep n k bs s = (rows : List (List ℤ)) × AreCutRows n k bs rows × IsRaysStep n rows [] s
 
--- the first sum, from the left, of an entry of a partial sum of its rays and one of the next ray, that leaves the range
+-- e is the first sum, from the left, of an entry of a partial sum of the rays of the cut cone and one of the next ray that leaves the range
 abbrev pub IsWideWeight : ℕ → Region → List MarkedPolynomial → WideVector → Type 0
 IsWideWeight n k bs e = (rays : List (List ℤ)) × AreCutRays n k bs rays × IsFirstWide e (adding_steps (zeros n) rays)
 
--- the same of those on which the normal of a facet is zero that a flip may cross
+-- e is the first such sum that leaves the range, among the rays on which the normal of some facet that a flip may cross is zero
 abbrev pub IsWideWitness : ℕ → Region → List MarkedPolynomial → WideVector → Type 0
 IsWideWitness n k bs e = (a : List ℤ) × IsFlippable n k bs a ×
     ((rays : List (List ℤ)) × AreCutRays n k bs rays × IsFirstWide e (adding_steps (zeros n) (zeros_of a rays)))
 
--- why the weight isn't told
+-- why the weight in the region can't be computed
 abbrev pub IsWeightCauseIn : ℕ → Region → List MarkedPolynomial → WeightError → Type 0
 IsWeightCauseIn n k bs (Cone s) = IsCutStep n k bs s
 IsWeightCauseIn n k bs (Wide e) = IsWideWeight n k bs e
 IsWeightCauseIn n k bs Memory = Unit {0}
 
--- why the weight and the witnesses aren't
+-- why the weight or a witness in the region can't be computed
 abbrev pub IsCertificateCauseIn : ℕ → Region → List MarkedPolynomial → WeightError → Type 0
 IsCertificateCauseIn n k bs (Cone s) = IsCutStep n k bs s
 IsCertificateCauseIn n k bs (Wide e) = IsWideWeight n k bs e ⊎ IsWideWitness n k bs e
 IsCertificateCauseIn n k bs Memory = Unit {0}
 
--- nothing that is added up or worked out for the weight and the witnesses leaves the range
+-- no operation that the weight and the witnesses in the region need leaves its range
 abbrev pub AreCertificatesFittingIn : ℕ → Region → List MarkedPolynomial → Type 0
 AreCertificatesFittingIn n k bs = (e : WeightError) → IsCertificateCauseIn n k bs e → e ≡ Memory
 
--- ---- where all positive weights are meant
+-- ---- for all positive weights
 
--- why a weight is refused
+-- why the weight can't be computed
 abbrev pub IsWeightCause : ℕ → List MarkedPolynomial → WeightError → Type 0
 IsWeightCause n bs e = IsWeightCauseIn n (all_positive n) bs e
 
--- why a weight and the witnesses of the facets are refused
+-- why the weight or a witness can't be computed
 abbrev pub IsBasisCertificateCause : ℕ → List MarkedPolynomial → WeightError → Type 0
 IsBasisCertificateCause n bs e = IsCertificateCauseIn n (all_positive n) bs e
 
--- nothing that is added up or worked out for the weight leaves the range
+-- no operation that the weight needs leaves its range
 abbrev pub IsWeightWithinLimits : ℕ → List MarkedPolynomial → Type 0
 IsWeightWithinLimits n bs = (e : WeightError) → IsWeightCause n bs e → e ≡ Memory
 
--- nor for the weight and the witnesses
+-- no operation that the weight and the witnesses need leaves its range
 abbrev pub AreCertificatesWithinLimits : ℕ → List MarkedPolynomial → Type 0
 AreCertificatesWithinLimits n bs = (e : WeightError) → IsBasisCertificateCause n bs e → e ≡ Memory

@@ -18,20 +18,21 @@ use Rattle.gf_weights.specs.declared.region.RegionError.TheVariants as region_er
 
 -- ---- the root
 
--- r is the sum of the primitive vectors along the extreme rays of the cone of these rows, which has no lineality space
+-- the cone of the rows has no lineality space, and r is the sum of the primitive vectors along its extreme rays
 pub record IsSumOfRays (n : ℕ) (all : List (List ℤ)) (r : List ℤ) : Type 0 where
   pub rays : List (List ℤ)
   pub are_rays : IsRays n all [] [] rays
   pub sum : r ≡ sum_of n rays
 
--- k has these rows, and its root, which is in it, is the sum of the rays of its closure; no entry of it is too great
+-- k is the region that the rows cut out. Its root is in it, and is the sum of the rays of its closure. No entry of the root is greater than
+-- 2 ^ 63 - 1
 pub record IsRegionOf (n : ℕ) (rows : List (List ℤ)) (k : Region) : Type 0 where
   pub same : k.rows ≡ rows
   pub region : IsRegion n k
   pub root : IsSumOfRays n (rows ++ units n n) k.root
   pub small : All (λ x. x <ℤ pos (2 ^ 63)) k.root
 
--- the first entry that is greater than 2 ^ 63 - 1 is that at the place i
+-- the entry of r at i is its first one that is greater than 2 ^ 63 - 1
 pub record IsFirstPast (r : List ℤ) (i : ℕ) : Type 0 where
   pub inside : i < length r
   pub past : pos (2 ^ 63) ≤ℤ slice_index_or r i (pos 0)
@@ -39,27 +40,27 @@ pub record IsFirstPast (r : List ℤ) (i : ℕ) : Type 0 where
 
 -- ---- why there is none
 
--- a step of the system of these rows leaves the range
+-- why the system of these rows isn't solved: a step leaves its range, or memory runs out
 abbrev pub IsSystemRefusal : ℕ → List (List ℤ) → WeightError → Type 0
 IsSystemRefusal n all (weight_errors.Cone s) = IsStepOn (length all + 0) n all [] s
 IsSystemRefusal n all (weight_errors.Wide w) = ⊥
 IsSystemRefusal n all weight_errors.Memory = Unit {0}
 
--- an operation of finding the rays of these rows leaves the range; or the first sum, from the left, of an entry of a partial sum of the
--- rays and one of the next ray does
+-- why the sum of the rays of these rows isn't computed: an operation of finding the rays leaves its range; or, from the left, the sum of an
+-- entry of a partial sum and one of the next ray does, and this is the first such sum; or memory runs out
 abbrev pub IsRaySumRefusal : ℕ → List (List ℤ) → WeightError → Type 0
 IsRaySumRefusal n all (weight_errors.Cone s) = IsRaysStep n all [] s
 IsRaySumRefusal n all (weight_errors.Wide w) = (rays : List (List ℤ)) × IsRays n all [] [] rays × IsFirstWide w (adding_steps (zeros n) rays)
 IsRaySumRefusal n all weight_errors.Memory = Unit {0}
 
--- these, as refusals of a region
+-- the refusal of a weight, as one of a region
 abbrev pub region_of_weight : WeightError → RegionError
 region_of_weight (weight_errors.Cone o) = region_errors.Cone o
 region_of_weight (weight_errors.Wide w) = region_errors.Wide w
 region_of_weight weight_errors.Memory = region_errors.Memory
 
--- multipliers of the rows and the unit vectors show that the region is empty; or a step of their system is refused; or the region isn't
--- empty, and the sum of its rays isn't told, or has an entry that is too great
+-- why the rows cut out no region. Empty: these multipliers of the rows and the unit vectors show that the region is empty. WideRoot: the
+-- region isn't empty, and its root has this entry, the first that is too great. Cone, Wide: an operation leaves its range
 abbrev pub IsRegionRefusal : ℕ → List (List ℤ) → RegionError → Type 0
 IsRegionRefusal n rows (region_errors.Empty ms) = IsFarkas n (rows ++ units n n) [] ms []
 IsRegionRefusal n rows (region_errors.WideRoot i x) = IsSolvable n (rows ++ units n n) [] ×
@@ -69,14 +70,15 @@ IsRegionRefusal n rows (region_errors.Cone s) = IsSystemRefusal n (rows ++ units
 IsRegionRefusal n rows (region_errors.Wide w) = IsSolvable n (rows ++ units n n) [] × IsRaySumRefusal n (rows ++ units n n) (weight_errors.Wide w)
 IsRegionRefusal n rows region_errors.Memory = Unit {0}
 
--- the region isn't empty, nothing that is worked out for its root leaves the range, and no entry of the root is too great
+-- the region isn't empty, no operation of finding its root leaves its range, and no entry of the root is too great
 abbrev pub IsRegionWithinLimits : ℕ → List (List ℤ) → Type 0
 IsRegionWithinLimits n rows = (e : RegionError) → IsRegionRefusal n rows e → e ≡ region_errors.Memory
 
 -- ---- laws
 
--- rows cut out one region at most, and then it isn't empty, and no entry of its root is too great; where multipliers show that it is empty no
--- positive vector is positive on each row, and no entry of a root is too great; and one entry is the first that is
+-- rows cut out at most one region. If they do, no multipliers show that it is empty, and no entry of its root is too great. If multipliers
+-- show that it is empty, no positive vector is positive on each row, and there is no root with an entry that is too great. At most one
+-- entry is the first that is too great
 pub record RegionsAreOne : Type 0 where
   pub one : (n : ℕ) (rows : List (List ℤ)) (k j : Region) → IsRegionOf n rows k → IsRegionOf n rows j → k ≡ j
   pub empty : (n : ℕ) (rows : List (List ℤ)) (ms r v : List ℤ) → AreRows n rows → IsRegionRefusal n rows (region_errors.Empty ms) →

@@ -12,24 +12,25 @@ use gf_poly::MarkedSet;
 use gf_vec::IntVec;
 use std::alloc::Global;
 
-/// The normal of a facet that a flip may cross, and a vector inside that facet.
+/// A facet that a flip may cross, by its normal, and a vector in its relative interior. Both have an entry for each variable.
 #[derive(Drop)]
 pub struct FacetWitness {
     pub normal: IntVec,
     pub witness: IntVec,
 }
 
-/// What is printed of a marked reduced Gröbner basis: its weight, and the facets that a flip may cross, their normals ascending.
+/// What is printed with a marked reduced Gröbner basis: its weight, with an entry for each variable, and the facets that a flip may cross,
+/// in ascending order of their normals.
 #[derive(Drop)]
 pub struct Certificates {
     pub weight: IntVec,
     pub facets: Vec<FacetWitness>,
 }
 
-/// The weight that is printed of a marked set in a region.
+/// The weight that is printed for a marked set in a region.
 ///
 /// # Errors
-/// As those of `weight`, with the rows of the region between the normals and the unit vectors.
+/// Those of `certify_in`, for the weight alone.
 fn weight_in(alloc: Global, set: &MarkedSet, region: &Region) -> Result<IntVec, WeightError>
     requires { length region.now.root ≡ set.now.variables }
     ensures value { IfOk result (IsWeightIn set.now.variables region.now set.now.items) }
@@ -40,15 +41,17 @@ fn weight_in(alloc: Global, set: &MarkedSet, region: &Region) -> Result<IntVec, 
     Ok(weight)
 }
 
-/// The weight that is printed of a marked set: the sum of the primitive vectors along the extreme rays of its closed cone, cut with
-/// the non-negative orthant. It sets each mark above the rest where any positive vector does.
+/// The weight that is printed for a marked set, with an entry for each of its variables: the sum of the primitive vectors along the extreme
+/// rays of the intersection of its closed cone with the non-negative orthant. If any positive vector sets each mark above the other
+/// monomials of its polynomial, the weight is such a vector.
 ///
 /// # Errors
 ///
-/// - `Cone` only at an operation of the double description of the normals, ascending, and then the unit vectors, that leaves the
-///   range from `-(2^127 - 1)` to `2^127 - 1`.
-/// - `Wide` the first sum of an entry of a partial sum of the rays, which ascend, and one of the next ray that leaves it.
-/// - `Memory` want of memory.
+/// - `Cone`: an operation of the double description of the normals, ascending, and then the unit vectors leaves the range from
+///   `-(2^127 - 1)` to `2^127 - 1`.
+/// - `Wide`: the rays are added in ascending order, and this is the first sum of an entry of a partial sum and one of the next ray that
+///   leaves that range.
+/// - `Memory`: memory runs out.
 pub fn weight(alloc: Global, set: &MarkedSet) -> Result<IntVec, WeightError>
     ensures value { IfOk result (IsPrintedWeight set.now.variables set.now.items) }
     ensures err { IfErr result (IsWeightCause set.now.variables set.now.items) }
@@ -81,18 +84,19 @@ fn facets(
     Ok(found)
 }
 
-/// The printed weight of a marked set in a region, and the facets of its cone that a flip may cross there, in ascending order of
-/// their normals, each with its witness: sums of the primitive vectors along the extreme rays of the closed cone, cut with the
-/// closure of the region; of all of them, or of those on which the facet's normal is zero. Where some vector of the region
-/// sets each mark above the rest, the weight is such a vector, and each witness is in the region and inside its facet.
+/// The weight that is printed for a marked set in a region, and the facets of its cone that a flip may cross there, in ascending order of
+/// their normals, each with its witness. Weight and witnesses have an entry for each variable. They are sums of the primitive vectors along
+/// the extreme rays of the intersection of the closed cone with the closure of the region: the weight of all of them, a witness of those
+/// that are orthogonal to the facet's normal. If some vector of the region sets each mark above the other monomials of its polynomial, the
+/// weight is such a vector, and each witness is in the region and in the relative interior of its facet.
 ///
 /// # Errors
 ///
-/// - `Cone` only at an operation of the double description of the normals, ascending, then the rows of the region, and then the unit
-///   vectors, that leaves the range from `-(2^127 - 1)` to `2^127 - 1`.
-/// - `Wide` the first sum of an entry of a partial sum of the rays, which ascend, and one of the next ray that leaves it; or so for
-///   the rays of such a facet.
-/// - `Memory` want of memory.
+/// - `Cone`: an operation of the double description of the normals, ascending, then the rows of the region, and then the unit vectors
+///   leaves the range from `-(2^127 - 1)` to `2^127 - 1`.
+/// - `Wide`: the rays of the weight, or those of a witness, are added in ascending order, and this is the first sum of an entry of a
+///   partial sum and one of the next ray that leaves that range.
+/// - `Memory`: memory runs out.
 pub fn certify_in(
     alloc: Global,
     set: &MarkedSet,
@@ -109,12 +113,18 @@ pub fn certify_in(
     Ok(Certificates { weight, facets })
 }
 
-/// The printed weight of a marked set, and the facets of its cone that a flip may cross, in ascending order of their normals, each
-/// with the sum of those rays on which its normal is zero: a positive vector inside that facet.
+/// The weight that is printed for a marked set, and the facets of its cone that a flip may cross, in ascending order of their normals, each
+/// with its witness: the sum of the primitive vectors along those extreme rays of the intersection of the closed cone with the non-negative
+/// orthant that are orthogonal to the facet's normal. Weight and witnesses have an entry for each variable; a witness is a positive vector
+/// in the relative interior of its facet.
 ///
 /// # Errors
 ///
-/// Those of `weight`, and `Wide` for the sum of the rays of such a facet as well.
+/// - `Cone`: an operation of the double description of the normals, ascending, and then the unit vectors leaves the range from
+///   `-(2^127 - 1)` to `2^127 - 1`.
+/// - `Wide`: the rays of the weight, or those of a witness, are added in ascending order, and this is the first sum of an entry of a
+///   partial sum and one of the next ray that leaves that range.
+/// - `Memory`: memory runs out.
 pub fn certify(alloc: Global, set: &MarkedSet) -> Result<Certificates, WeightError>
     ensures value { IfOk result (AreBasisCertificates set.now.variables set.now.items) }
     ensures err { IfErr result (IsBasisCertificateCause set.now.variables set.now.items) }

@@ -1,4 +1,4 @@
-//! The cone of a marked set, cut with a region, by its rays.
+//! The intersection of the cone of a marked set with a region, by its rays.
 ghost use Rattle.std.specs.Prelude.{◌≡◌, ◌<◌, ◌↔◌, ℕ, length, IsTrue, IfOk, IfErr};
 ghost use Rattle.gf_cone.specs.Crossing.{IsCrossable};
 ghost use Rattle.gf_weights.specs.Cuts.{HasRaysOf, IsCutOf, IsZeroAt, HasRayOff};
@@ -17,10 +17,10 @@ pub(crate) struct Cut {
     pub(crate) rays: Rays,
 }
 
-/// The cone of a marked set, cut with the closure of a region.
+/// The intersection of the cone of a marked set with the closure of a region.
 ///
 /// # Errors
-/// `Cone` only at an operation of finding its rays; want of memory.
+/// `Cone`: an operation of finding its rays leaves its range. `Memory`: memory runs out.
 pub(crate) fn cut_cone(alloc: Global, set: &MarkedSet, region: &Region) -> Result<Cut, WeightError>
     requires { length region.now.root ≡ set.now.variables }
     ensures ok { IfOk result (λ c. IsCutOf set.now.variables region.now set.now.items c.cone c.rays) }
@@ -33,7 +33,7 @@ pub(crate) fn cut_cone(alloc: Global, set: &MarkedSet, region: &Region) -> Resul
     Ok(Cut { cone, rays })
 }
 
-/// Whether some ray on which the inequality at `place` is zero isn't one on which that at `other` is.
+/// Whether on some ray the inequality at `place` is zero and the one at `other` isn't.
 fn has_ray_off(rays: &Rays, place: usize, other: usize) -> bool
     requires place { place < length rays.now.inequalities }
     requires other { other < length rays.now.inequalities }
@@ -48,7 +48,7 @@ fn has_ray_off(rays: &Rays, place: usize, other: usize) -> bool
     false
 }
 
-/// Whether a flip may cross the facet of the normal at a place: no other row is zero on all the rays on which this one is.
+/// Whether a flip may cross the facet of the normal at this index: no other row is zero on all the rays on which this one is.
 pub(crate) fn is_flippable(cut: &Cut, place: usize) -> bool
     requires cut { HasRaysOf cut.now.cone cut.now.rays }
     requires place { place < length cut.now.cone.normals }

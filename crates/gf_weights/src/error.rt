@@ -1,4 +1,4 @@
-//! Why a weight isn't told.
+//! Why a weight can't be computed.
 ghost use Rattle.std.specs.Prelude.{◌≡◌};
 ghost use Rattle.gf_weights.specs.declared.error.WeightError.TheVariants.{Memory};
 
@@ -6,13 +6,14 @@ use gf_gordan::{ConeOverflow, GordanError};
 use gf_vec::{VecError, WideVector};
 use std::alloc::{AllocError, AllocFailed};
 
-/// Why a weight, or the witnesses of facets, aren't told.
+/// Why a weight, or the witnesses of facets, can't be computed.
 #[derive(Debug, Drop, PartialEq, Eq)]
 pub enum WeightError {
-    /// An operation of finding the rays leaves the range.
+    /// An operation of finding the rays leaves its range.
     Cone(ConeOverflow),
-    /// A sum of an entry of a partial sum of rays and one of the next ray leaves the range.
+    /// The sum of an entry of a partial sum of rays and one of the next ray leaves the range.
     Wide(WideVector),
+    /// Memory runs out.
     Memory,
 }
 

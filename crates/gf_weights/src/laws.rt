@@ -1,10 +1,10 @@
-//! What the printed weights and witnesses have.
+//! Theorems on printed weights and witnesses. The functions compute nothing: the contract of each is the theorem.
 ghost use Rattle.std.specs.Prelude.{[]};
 ghost use Rattle.gf_weights.specs.Roots.{RegionsAreOne, IsRegionWithinLimits};
 ghost use Rattle.gf_weights.specs.Laws.{WeightsGiveBases, WitnessesAreInside, CertificatesAreUnique, CertificatesExist};
 
-/// The printed weight is in the region and gives the marks, and a marked reduced basis is the reduced one for its printed weight
-/// (Fukuda, Jensen, Thomas, *Computing Gröbner fans*, 2).
+/// If some vector of the region sets each mark above the rest, so does the printed weight, which then is in the region. A marked reduced
+/// basis is the reduced one for its printed weight (Fukuda, Jensen, Thomas, *Computing Gröbner fans*, 2).
 pub fn weights_give_bases()
     ensures { WeightsGiveBases }
 {}
@@ -15,24 +15,24 @@ pub fn witnesses_are_inside()
     ensures { WitnessesAreInside }
 {}
 
-/// A marked list has one printed weight, and each facet one witness.
+/// A marked list has at most one printed weight, and each facet at most one witness.
 pub fn certificates_are_unique()
     ensures { CertificatesAreUnique }
 {}
 
-/// A marked list has its printed weight, and its facets that a flip may cross, each with its printed witness, whatever the size of
-/// their entries.
+/// A marked list has a printed weight, and a list of the facets that a flip may cross, each with its printed witness, however large their
+/// entries are.
 pub fn certificates_exist()
     ensures { CertificatesExist }
 {}
 
-/// Rows cut out one region at most, and then multipliers don't show that it is empty, and no entry of its root is too great. Where
-/// multipliers do, no positive vector is positive on each row.
+/// Rows cut out at most one region. If they do, no multipliers show that it is empty, and no entry of its root is greater than `2^63 - 1`.
+/// If multipliers show that it is empty, no positive vector is positive on each row.
 pub fn regions_are_one()
     ensures { RegionsAreOne }
 {}
 
-/// All positive weights of one variable are a region, and nothing that is worked out for its root leaves its limits.
+/// All positive weights of one variable form a region, and no operation of finding its root leaves its limits.
 pub fn a_region_is_within_limits()
     ensures { IsRegionWithinLimits 1 [] }
 {}

@@ -1,5 +1,6 @@
-//! The weight that is printed of a marked reduced Gröbner basis, and a vector inside each of its flippable facets: sums of the
-//! primitive vectors along the extreme rays of its cone, cut with a closed region: the non-negative orthant, where none is named.
+//! The weight that is printed for a marked reduced Gröbner basis, and a vector in the relative interior of each of its flippable facets:
+//! sums of the primitive vectors along the extreme rays of the intersection of its cone with a closed region, by default the non-negative
+//! orthant.
 //!
 //! Start at `specs/Weights.antt`; `specs/Laws.antt` has the theorems.
 #![tactic(auto)]

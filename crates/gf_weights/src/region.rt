@@ -18,14 +18,16 @@ const GREATEST: i128 = 9223372036854775807;
 /// Why rows cut out no region of weights with a root.
 #[derive(Drop)]
 pub enum RegionError {
-    /// No positive vector is positive on each row. The multipliers show it: of the rows, and then of the unit vectors.
+    /// No positive vector is positive on each row. The multipliers, first of the rows and then of the unit vectors, show it: none is
+    /// negative, not all are zero, and the combination is the zero vector.
     Empty { multipliers: IntVec },
-    /// The first entry of the root that is greater than 2^63 - 1, and its place, counted from 0.
+    /// The first entry of the root that is greater than `2^63 - 1`, and its index, counted from 0.
     WideRoot { index: u32, value: i128 },
-    /// An operation of the system, or of finding the rays, leaves the range.
+    /// An operation of the system, or of finding the rays, leaves its range.
     Cone(ConeOverflow),
-    /// A sum of an entry of a partial sum of rays and one of the next ray leaves the range.
+    /// The sum of an entry of a partial sum of rays and one of the next ray leaves the range.
     Wide(WideVector),
+    /// Memory runs out.
     Memory,
 }
 
@@ -51,10 +53,10 @@ impl From<WeightError> for RegionError {
     }
 }
 
-/// The rows of the closed region: copies of these, and then the unit vectors.
+/// The rows of the closed region: copies of the given ones, and then the unit vectors.
 ///
 /// # Errors
-/// Want of memory.
+/// Only when memory runs out.
 fn closed_rows(alloc: Global, n: u32, rows: &[IntVec]) -> Result<Vec<IntVec>, AllocError>
     ensures { IfOk result (λ all. all.items ≡ rows.now ++ units n n) }
 {
@@ -62,10 +64,10 @@ fn closed_rows(alloc: Global, n: u32, rows: &[IntVec]) -> Result<Vec<IntVec>, Al
     with_units(alloc, copies, n as usize)
 }
 
-/// Multipliers of the rows, which show that no vector is positive on each of them; none where some vector is.
+/// Multipliers of the rows, which show that no vector is positive on each of them; none if some vector is.
 ///
 /// # Errors
-/// `Cone` names a step of the system of these rows that leaves the range; want of memory.
+/// `Cone`: a step of the system of these rows leaves its range. `Memory`: memory runs out.
 fn multipliers_of(alloc: Global, n: u32, all: &[IntVec]) -> Result<Option<IntVec>, WeightError>
     requires { AreRows n all.now }
     ensures some { IfOk result (λ o. IfSome o (λ ms. IsFarkas n all.now [] ms [])) }
@@ -82,11 +84,10 @@ fn multipliers_of(alloc: Global, n: u32, all: &[IntVec]) -> Result<Option<IntVec
     }
 }
 
-/// The sum of the primitive vectors along the extreme rays of a closed region, whose rows are some vectors and then the unit
-/// vectors.
+/// The sum of the primitive vectors along the extreme rays of a closed region, whose rows are the given ones, the unit vectors last.
 ///
 /// # Errors
-/// `Cone` only at an operation of finding the rays; `Wide` the first sum that leaves the range; want of memory.
+/// `Cone`: an operation of finding the rays leaves its range. `Wide`: the first sum that leaves the range. `Memory`: memory runs out.
 fn sum_of_rays(alloc: Global, n: u32, all: &[IntVec]) -> Result<IntVec, WeightError>
     requires wide { AreRows n all.now }
     requires closed { (rows : List (List ℤ)) × (all.now ≡ rows ++ units n n) }
@@ -99,7 +100,7 @@ fn sum_of_rays(alloc: Global, n: u32, all: &[IntVec]) -> Result<IntVec, WeightEr
     Ok(sum)
 }
 
-/// The place of the first entry that is greater than 2^63 - 1.
+/// The index of the first entry that is greater than `2^63 - 1`.
 fn first_past(xs: &[i128]) -> Option<usize>
     ensures some { IfSome result (IsFirstPast xs.now) }
     ensures none { IsNone result → All (λ x. x <ℤ pos (2 ^ 63)) xs.now }
@@ -112,7 +113,7 @@ fn first_past(xs: &[i128]) -> Option<usize>
     None
 }
 
-/// The region that these rows cut out, where nothing leaves its limits.
+/// The region that the rows cut out, if no operation leaves its limits.
 fn worked_out(alloc: Global, n: u32, rows: &[IntVec]) -> Result<Region, RegionError>
     requires { AreRows n rows.now }
     ensures value { IfOk result (IsRegionOf n rows.now) }
@@ -134,19 +135,20 @@ fn worked_out(alloc: Global, n: u32, rows: &[IntVec]) -> Result<Region, RegionEr
     Ok(region)
 }
 
-/// The region of the positive vectors of `n` entries on which each row is positive. Its root is the sum of the primitive vectors
-/// along the extreme rays of its closure; without rows it is (1, .., 1).
+/// The region of the positive vectors of `n` entries on which each row is positive; each row has `n` entries. Its root is the sum of the
+/// primitive vectors along the extreme rays of its closure; without rows it is (1, .., 1).
 ///
 /// # Errors
 ///
-/// - `Empty` exactly where there is no such vector, with multipliers of the rows and then of the unit vectors that show it: none
-///   is negative, not all are zero, the sum is the zero vector, and their content is 1 (Gordan's alternative).
-/// - `Cone` only at a step of the system of the rows and the unit vectors, or of their double description, that leaves the range
-///   from `-(2^127 - 1)` to `2^127 - 1`.
-/// - `Wide`, where the region isn't empty, the first sum of an entry of a partial sum of the rays, which ascend, and one of the
-///   next ray that leaves it.
-/// - `WideRoot`, where it isn't, the first entry of the root that is greater than 2^63 - 1.
-/// - `Memory` want of memory.
+/// - `Empty` if and only if there is no such vector, unless a step of the system leaves its range. It has multipliers of the rows and then
+///   of the unit vectors that show it: none is negative, not all are zero, the combination is the zero vector, and their content is 1
+///   (Gordan's alternative).
+/// - `Cone`: a step of the system of the rows and the unit vectors, or of their double description, leaves the range from `-(2^127 - 1)` to
+///   `2^127 - 1`.
+/// - `Wide`: the region isn't empty, its rays are added in ascending order, and this is the first sum of an entry of a partial sum and one
+///   of the next ray that leaves that range.
+/// - `WideRoot`: the region isn't empty, and this is the first entry of its root that is greater than `2^63 - 1`.
+/// - `Memory`: memory runs out.
 pub fn region_of(alloc: Global, n: u32, rows: &[IntVec]) -> Result<Region, RegionError>
     requires { AreRows n rows.now }
     ensures value { IfOk result (IsRegionOf n rows.now) }
