@@ -6,23 +6,23 @@ use Rattle.gf_poly.specs.declared.error.PolyError.TheVariants as errors
 use Rattle.gf_poly.specs.Polynomial.{coefficient, times}
 use Rattle.gf_poly.specs.Marking.{MarkedPolynomial, MarkedPolynomials, IsMonicCause}
 
--- divided by its marked coefficient, with the same mark
+-- b divided by its marked coefficient, with the same mark
 abbrev pub monic_of : MarkedPolynomial → MarkedPolynomial
 monic_of b = record { poly = times (reciprocal_ℚ (coefficient b.poly b.head)) [] b.poly; head = b.head }
 
--- each member so
+-- s with each member divided by its marked coefficient
 abbrev pub monic_set : MarkedPolynomials → MarkedPolynomials
 monic_set s = record { variables = s.variables; items = map monic_of s.items }
 
 -- ---- refusals
 
--- why a member isn't made monic
+-- why some member can't be divided by its marked coefficient
 pub record IsSomeMonicRefusal (bs : List MarkedPolynomial) (e : PolyError) : Type 0 where
   pub member : MarkedPolynomial
   pub contained : Contains bs member
   pub cause : IsMonicCause member e
 
--- some member isn't made monic, at an operation on its coefficients, or there is no memory
+-- an operation on the coefficients leaves its range for some member, or memory runs out
 abbrev pub IsFormRefusal : List MarkedPolynomial → PolyError → Type 0
 IsFormRefusal bs (errors.Overflow o) = IsSomeMonicRefusal bs (errors.Overflow o)
 IsFormRefusal bs (errors.Exponent o) = ⊥

@@ -3,4 +3,4 @@ pub mod Markings  -- positive weights of a marking; when the set is a Gröbner b
 pub mod Terms  -- terms that keep a set from being reduced
 pub mod Pairs  -- pairs whose S-polynomials don't reduce to zero
 pub mod Criteria  -- pairs that need no reduction
-pub mod Refusals  -- why a set isn't taken, or isn't tested
+pub mod Refusals  -- why a set is refused, or can't be tested

@@ -1,7 +1,7 @@
--- Positive weights that give a marking, multipliers which show that there is none, and when a marked set is a Gröbner basis for
--- its marking: by the ideal that it generates, whatever the marked coefficients are.
--- Laws: proofs/WeightLaws.antt, proofs/GroebnerLaws.antt. Source: Fukuda, Jensen, Thomas, Computing Gröbner fans, 2; Sturmfels,
--- Gröbner Bases and Convex Polytopes, 2 and 3.
+-- Positive weights that give a marking, multipliers which show that there is none, and when a marked set is a Gröbner basis for its
+-- marking: by the ideal that it generates, for any nonzero marked coefficients.
+-- Laws: proofs/WeightLaws.antt, proofs/GroebnerLaws.antt.
+-- Source: Fukuda, Jensen, Thomas, Computing Gröbner fans, 2; Sturmfels, Gröbner Bases and Convex Polytopes, 2 and 3.
 use Rattle.std.specs.Prelude.{◌≡◌, ℕ, List, [], ◌++◌, ℤ, pos, ◌<ℤ◌, length, All, Contains}
 use Rattle.gf_exponents.specs.Exponents.{Exponents}
 use Rattle.gf_poly.specs.Polynomial.{Terms}
@@ -29,54 +29,54 @@ pub record GivesMarks (n : ℕ) (bs : List MarkedPolynomial) (v : List ℤ) : Ty
   pub positive : All (λ x. pos 0 <ℤ x) v
   pub marks : IsInOpenCone v bs
 
--- no positive weight gives the marks: these multipliers of the marking's rows and the unit vectors show it
+-- no positive weight gives the marks, and these multipliers of the marking's rows and the unit vectors show it
 pub record IsInconsistent (n : ℕ) (bs : List MarkedPolynomial) (ms : List ℤ) : Type 0 where
   pub multipliers : IsFarkas n (system_of n bs) [] ms []
   pub none : IsRealisable n bs → ⊥
 
--- a vector that gives the marks, or such multipliers
+-- a point is a vector that gives the marks; multipliers show that there is none
 abbrev pub IsWeightAnswer : ℕ → List MarkedPolynomial → Answer → Type 0
 IsWeightAnswer n bs (Point v) = GivesMarks n bs v × IsRealisable n bs
 IsWeightAnswer n bs (Farkas ms es) = IsInconsistent n bs ms
 
--- a step of the elimination of the marking's system
+-- o is a step of the elimination of the marking's system, and it leaves its range
 abbrev pub IsMarkingStep : ℕ → List MarkedPolynomial → ConeOverflow → Type 0
 IsMarkingStep n bs o = IsStepOn (length (system_of n bs)) n (system_of n bs) [] o
 
--- ---- weights on which other rows are positive, too
+-- ---- weights on which given rows are positive as well
 
--- the positive vectors on which each of these rows is positive, whatever the root is
+-- the positive vectors on which each of these rows is positive; its root isn't used
 abbrev pub cut_by : List (List ℤ) → Region
 cut_by rows = record { rows = rows; root = [] }
 
--- the rows of the marking, then these rows, then the unit vectors
+-- the rows of the marking, then the given rows, then the unit vectors
 abbrev pub system_beside : ℕ → List (List ℤ) → List MarkedPolynomial → List (List ℤ)
 system_beside n rows bs = rows_of_polynomials bs ++ (rows ++ units n n)
 
--- some positive vector, on which each of these rows is positive, gives the marks
+-- some positive vector on which each of the given rows is positive gives the marks
 pub record IsRealisableBeside (n : ℕ) (rows : List (List ℤ)) (bs : List MarkedPolynomial) : Type 0 where
   pub weight : List ℤ
   pub inside : IsInRegion n (cut_by rows) weight
   pub marks : IsInOpenCone weight bs
 
--- there is none: these multipliers of the marking's rows, of these rows and of the unit vectors show it
+-- no such vector gives the marks, and these multipliers of the marking's rows, of the given rows and of the unit vectors show it
 pub record IsInconsistentBeside (n : ℕ) (rows : List (List ℤ)) (bs : List MarkedPolynomial) (ms : List ℤ) : Type 0 where
   pub multipliers : IsFarkas n (system_beside n rows bs) [] ms []
   pub none : IsRealisableBeside n rows bs → ⊥
 
--- such a vector, or such multipliers
+-- a point is such a vector; multipliers show that there is none
 abbrev pub IsAnswerBeside : ℕ → List (List ℤ) → List MarkedPolynomial → Answer → Type 0
 IsAnswerBeside n rows bs (Point v) = IsInRegion n (cut_by rows) v × IsInOpenCone v bs
 IsAnswerBeside n rows bs (Farkas ms es) = IsInconsistentBeside n rows bs ms
 
--- a step of the elimination of the marking's system with these rows
+-- o is a step of the elimination of the marking's system with the given rows, and it leaves its range
 abbrev pub IsStepBeside : ℕ → List (List ℤ) → List MarkedPolynomial → ConeOverflow → Type 0
 IsStepBeside n rows bs o = IsStepOn (length (system_beside n rows bs)) n (system_beside n rows bs) [] o
 
 -- ---- bases
 
--- some positive weight sets each mark above the rest, and a mark divides each monomial of greatest weight of each member of
--- the ideal that bs generates
+-- some positive weight sets each mark above the other monomials of its polynomial, and for each member of the ideal that bs generates each
+-- of its monomials of greatest weight is divisible by a mark
 pub record IsMarkedGroebnerBasis (n : ℕ) (bs : List MarkedPolynomial) : Type 0 where
   pub weight : List ℕ
   pub positive : IsPositive n weight
@@ -89,7 +89,8 @@ pub record IsBasisOf (s t : MarkedPolynomials) : Type 0 where
   pub ideal : AreSameIdeal s.variables (polys s.items) (polys t.items)
   pub basis : IsBasis t.variables (polys t.items) t.items
 
--- and t is the reduced one, arranged, for some positive weight that gives its marks
+-- s is a Gröbner basis for its marking, and t is the reduced basis of the same ideal, arranged, for some positive weight that gives the
+-- marks of t
 pub record IsReducedBasisOf (s t : MarkedPolynomials) : Type 0 where
   pub basis : IsBasisOf s t
   pub reduced : IsMarkedReducedBasis t.variables (polys t.items) t.items

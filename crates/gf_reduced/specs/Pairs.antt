@@ -8,12 +8,12 @@ use Rattle.gf_ideal.specs.Reduction.{IsSPolynomial}
 use Rattle.gf_ideal.specs.NormalForms.{IsNormalForm}
 use Rattle.gf_ideal.specs.Settled.{IsAt}
 
--- the members have the same number of variables
+-- all members have the same number of variables
 pub record MembersShareVariables (bs : List MarkedPolynomial) : Type 0 where
   pub n : ℕ
   pub each : HaveVariables n bs
 
--- r is the normal form of the S-polynomial of the members at i and j, as a polynomial is kept: terms that descend and count
+-- r is the normal form of the S-polynomial of the members at i and j, with its terms in descending order and no zero coefficient
 pub record IsRemainderAt (bs : List MarkedPolynomial) (i j : ℕ) (r : Terms) : Type 0 where
   pub first : MarkedPolynomial
   pub second : MarkedPolynomial
@@ -25,19 +25,19 @@ pub record IsRemainderAt (bs : List MarkedPolynomial) (i j : ℕ) (r : Terms) : 
   pub descending : IsDescending r
   pub variables : (n : ℕ) → HaveVariables n bs → HasVariables n r
 
--- the normal form is zero
+-- the S-polynomial of the members at i and j has the normal form zero
 abbrev pub Vanishes : List MarkedPolynomial → ℕ → ℕ → Type 0
 Vanishes bs i j = IsRemainderAt bs i j []
 
--- so it is for the member at i and each later one
+-- the S-polynomial of the member at i and each later one has the normal form zero
 abbrev pub VanishFrom : List MarkedPolynomial → ℕ → Type 0
 VanishFrom bs i = (j : ℕ) → i < j → j < length bs → Vanishes bs i j
 
--- so it is for each two members
+-- the S-polynomial of each two members has the normal form zero
 abbrev pub DoAllVanish : List MarkedPolynomial → Type 0
 DoAllVanish bs = (i : ℕ) → i < length bs → VanishFrom bs i
 
--- the pair of the members at i and j is the first of those of the one at i whose normal form r isn't zero
+-- j is the first index above i such that the S-polynomial of the members at i and j has a nonzero normal form, and r is this normal form
 pub record IsFirstFailingWith (bs : List MarkedPolynomial) (i j : ℕ) (r : Terms) : Type 0 where
   pub later : i < j
   pub within : j < length bs
@@ -45,7 +45,7 @@ pub record IsFirstFailingWith (bs : List MarkedPolynomial) (i j : ℕ) (r : Term
   pub nonzero : r ≢ []
   pub before : (k : ℕ) → i < k → k < j → Vanishes bs i k
 
--- it is the first of all, by the first member and then by the second
+-- the pair at i and j is the first of all whose S-polynomial has a nonzero normal form, by the first index and then by the second
 pub record IsFirstFailing (bs : List MarkedPolynomial) (i j : ℕ) (r : Terms) : Type 0 where
   pub first : IsFirstFailingWith bs i j r
   pub before : (k : ℕ) → k < i → VanishFrom bs k

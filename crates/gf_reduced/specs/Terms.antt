@@ -6,16 +6,17 @@ use Rattle.gf_poly.specs.Polynomial.{Terms}
 use Rattle.gf_poly.specs.Marking.{MarkedPolynomial, Each}
 use Rattle.gf_ideal.specs.Settled.{IsAt}
 
--- the monomials of the terms but h, in their order
+-- the monomials of the terms other than h, in their order
 abbrev pub all_but : Exponents → Terms → List Exponents
 all_but h [] = []
 all_but h (t ∷ f) = if same t.mono h then all_but h f else (t.mono ∷ all_but h f)
 
--- the monomials of b as they are printed: the marked one, then the others, which descend in deglex
+-- the monomials of b as they are printed: first the marked one, then the others, in descending deglex order
 abbrev pub printed_monomials : MarkedPolynomial → List Exponents
 printed_monomials b = b.head ∷ all_but b.head b.poly
 
--- a mark divides the monomial x of the member b at i: that of another member; or that of its own, where x isn't marked
+-- a mark divides the monomial x of the member b, whose index is i: the mark of another member; or its own mark, if x isn't the marked
+-- monomial
 pub record IsOffending (bs : List MarkedPolynomial) (i : ℕ) (b : MarkedPolynomial) (x : Exponents) : Type 0 where
   pub place : ℕ
   pub member : MarkedPolynomial
@@ -23,11 +24,11 @@ pub record IsOffending (bs : List MarkedPolynomial) (i : ℕ) (b : MarkedPolynom
   pub divides : Divides member.head x
   pub other : (place ≢ i) ⊎ (same x b.head ≡ false)
 
--- none of these monomials of b offends
+-- none of these monomials of b is divisible in this way
 abbrev pub NoneOffends : List MarkedPolynomial → ℕ → MarkedPolynomial → List Exponents → Type 0
 NoneOffends bs i b xs = Each (λ (x : Exponents). IsOffending bs i b x → ⊥) xs
 
--- x is the first monomial of the member at i, as it is printed, that offends
+-- x is the first offending monomial of the member at i, in the order in which its monomials are printed
 pub record IsFirstOffendingOf (bs : List MarkedPolynomial) (i : ℕ) (x : Exponents) : Type 0 where
   pub member : MarkedPolynomial
   pub at : IsAt bs i member
@@ -41,7 +42,7 @@ pub record IsFirstOffendingOf (bs : List MarkedPolynomial) (i : ℕ) (x : Expone
 abbrev pub HasNoOffence : List MarkedPolynomial → ℕ → Type 0
 HasNoOffence bs i = (b : MarkedPolynomial) → IsAt bs i b → NoneOffends bs i b (printed_monomials b)
 
--- the member at i is the first with a monomial that offends, and x the first such monomial of it
+-- the member at i is the first one with an offending monomial, and x is its first offending monomial
 pub record IsFirstOffending (bs : List MarkedPolynomial) (i : ℕ) (x : Exponents) : Type 0 where
   pub first : IsFirstOffendingOf bs i x
   pub before : (k : ℕ) → k < i → HasNoOffence bs k
@@ -52,7 +53,7 @@ AreReduced bs = (i : ℕ) → HasNoOffence bs i
 
 -- ---- parts
 
--- a mark of bs divides x: of another member than that at i, where x is the marked monomial of that one
+-- the mark of a member of bs divides x; if x is the marked monomial of the member at i, the mark is that of another member
 pub record IsDividedAt (bs : List MarkedPolynomial) (i : ℕ) (x : Exponents) (is_marked : Bool) : Type 0 where
   pub place : ℕ
   pub member : MarkedPolynomial
@@ -60,6 +61,6 @@ pub record IsDividedAt (bs : List MarkedPolynomial) (i : ℕ) (x : Exponents) (i
   pub divides : Divides member.head x
   pub other : (place ≢ i) ⊎ (is_marked ≡ false)
 
--- the mark of the member at j doesn't divide x, or doesn't count
+-- the mark of the member at j doesn't divide x, or x is the marked monomial of that same member
 abbrev pub IsNotDividedBy : List MarkedPolynomial → ℕ → ℕ → Exponents → Bool → Type 0
 IsNotDividedBy bs i j x is_marked = (c : MarkedPolynomial) → IsAt bs j c → Divides c.head x → (j ≢ i) ⊎ (is_marked ≡ false) → ⊥

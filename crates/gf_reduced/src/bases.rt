@@ -21,19 +21,20 @@ use gf_poly::{Marked, MarkedSet};
 use gf_vec::IntVec;
 use std::alloc::Global;
 
-/// Whether the set is a Gröbner basis of the ideal that it generates, for its marking: some positive weight sets each marked
-/// monomial above the other ones of its polynomial, and a marked monomial divides each monomial of greatest weight of each
-/// member of the ideal. Marked coefficients may be any.
+/// Whether the set is a Gröbner basis of the ideal that it generates, for its marking: some positive weight sets each marked monomial above
+/// the other ones of its polynomial, and for each member of the ideal each of its monomials of greatest weight is divisible by a marked
+/// monomial. Marked coefficients may be any nonzero fractions.
 ///
-/// Which weight gives the marking makes no difference (Fukuda, Jensen, Thomas, *Computing Gröbner fans*, 2). The test is
-/// Buchberger's criterion, without the pairs whose marks are coprime, and those whose least common multiple the mark of a member
-/// before both divides.
+/// The answer doesn't depend on which weight gives the marking (Fukuda, Jensen, Thomas, *Computing Gröbner fans*, 2). The test is
+/// Buchberger's criterion, without the pairs whose marks are coprime, and without those whose least common multiple is divisible by the
+/// mark of a member before both.
 ///
 /// # Errors
 ///
-/// - `Cone` only at a step of the elimination of the marking's system: its rows, then the unit vectors.
-/// - `Overflow` and `Exponent` only where there is such a weight, and two numbers don't fit that are divided in making a
-///   member monic, or on which an S-polynomial of two monic members works, or a step of its reduction.
+/// - `Cone`: a step of the elimination of the marking's system, its rows and then the unit vectors, leaves its range.
+/// - `Overflow`, `Exponent`: there is such a weight, and the operands of a division that makes a member monic, of an S-polynomial of two
+///   monic members, or of a step of its reduction don't fit.
+/// - `Memory`: memory runs out.
 #[tactic(auto, using(crate::proofs::RefusalLaws::test_only_memory))]
 pub fn is_marked_basis(alloc: Global, marked: &MarkedSet) -> Result<bool, CheckError>
     ensures ok { IfOk result (λ r. IsTrue r ↔ IsMarkedGroebnerBasis marked.now.variables marked.now.items) }
@@ -50,8 +51,8 @@ pub fn is_marked_basis(alloc: Global, marked: &MarkedSet) -> Result<bool, CheckE
     Ok(are)
 }
 
-/// Refuses a set with a pair whose S-polynomial has another normal form than zero. A basis is told by the pairs that no criterion
-/// settles, and only a set that isn't one is gone through pair by pair.
+/// Refuses a set with a pair whose S-polynomial has a nonzero normal form. The pairs that no criterion settles decide whether there is one;
+/// only if there is, all pairs are visited in order to find the first.
 fn require_pairs(alloc: Global, by: &[Marked], set: u32) -> Result<(), CheckError>
     requires few { length by.now < 2 ^ 32 }
     requires marked { HasSomeWeight by.now }
@@ -73,7 +74,7 @@ fn require_pairs(alloc: Global, by: &[Marked], set: u32) -> Result<(), CheckErro
     }
 }
 
-/// Refuses a set with a term that a mark divides.
+/// Refuses a set with a term that is divisible by a mark.
 fn require_terms(by: &[Marked], set: u32) -> Result<(), CheckError>
     requires few { length by.now < 2 ^ 32 }
     requires variables { MembersShareVariables by.now }
@@ -90,19 +91,22 @@ fn require_terms(by: &[Marked], set: u32) -> Result<(), CheckError>
     }
 }
 
-/// The same set, monic and arranged, where it is a Gröbner basis of its ideal for its marking.
-///
-/// There are fewer than `2^32` polynomials.
+/// The monic form of a marked set, arranged, if the set is a Gröbner basis of its ideal for its marking: each polynomial is divided by its
+/// marked coefficient, and the polynomials are in the order of the program. The set has fewer than `2^32` polynomials, and `set` is the
+/// number by which an error names it.
 ///
 /// # Errors
 ///
 /// In this order:
 ///
-/// - `Overflow` where the quotient of a coefficient by the marked one leaves its range.
-/// - `Inconsistent` exactly where no positive weight gives the marking, `Cone`: as `positive` tells them.
-/// - `NotBasis` exactly where the S-polynomial of two of the monic polynomials has another normal form than zero: the first
-///   such pair, by the first polynomial and then by the second, with that normal form. `Overflow` and `Exponent` only at
-///   an operation of these S-polynomials and their reductions, whose operands don't fit.
+/// - `Overflow`: the quotient of a coefficient by the marked one leaves its range.
+/// - `Inconsistent` if and only if no positive weight gives the marking, with multipliers of the marking's rows and then of the unit
+///   vectors that show it; `Cone` if a step of the elimination of this system leaves its range.
+/// - `NotBasis` if and only if the S-polynomial of two of the monic polynomials has a nonzero normal form: the first such pair, by the
+///   index of the first polynomial and then by that of the second, with the normal form. `Overflow` or `Exponent` if the operands of an
+///   operation of these S-polynomials and their reductions don't fit.
+///
+/// `Memory`, at any time: memory runs out.
 pub fn require_basis(alloc: Global, marked: &MarkedSet, set: u32) -> Result<MarkedSet, CheckError>
     requires { length marked.now.items < 2 ^ 32 }
     ensures value { IfOk result (IsArranged (monic_set marked.now)) }
@@ -120,7 +124,7 @@ pub fn require_basis(alloc: Global, marked: &MarkedSet, set: u32) -> Result<Mark
     Ok(arranged)
 }
 
-/// What `require_reduced` answers.
+/// What `require_reduced` returns.
 fn reduced(
     alloc: Global,
     marked: &MarkedSet,
@@ -146,22 +150,26 @@ fn reduced(
     Ok(arranged)
 }
 
-/// The same set, monic and arranged, where it is the reduced Gröbner basis of its ideal for its marking, and some positive weight gives
-/// the marking on which each of these rows is positive.
-///
-/// There are fewer than `2^32` polynomials, and each row has an entry for each variable.
+/// The monic form of a marked set, arranged, if the set is the reduced Gröbner basis of its ideal for its marking, up to factors of its
+/// members and their order, and some positive weight gives the marking on which each of the rows is positive: each polynomial is divided by
+/// its marked coefficient, and the polynomials are in the order of the program. The set has fewer than `2^32` polynomials, each row has an
+/// entry for each variable, and `set` is the number by which an error names the set.
 ///
 /// # Errors
 ///
 /// In this order:
 ///
-/// - `Overflow` where the quotient of a coefficient by the marked one leaves its range.
-/// - `Inconsistent` exactly where no such weight gives the marking, with multipliers that show it: of the marking's rows, of these rows, and
-///   then of the unit vectors. `Cone` only at a step of the elimination of the system of them all.
-/// - `NotReduced` exactly where a marked monomial divides a term of another polynomial, or an unmarked term of its own: the
-///   first polynomial with such a term, and of it the first such term, where the marked term comes first and the others
-///   follow in deglex.
-/// - `NotBasis`, `Overflow` and `Exponent` as `require_basis` has them.
+/// - `Overflow`: the quotient of a coefficient by the marked one leaves its range.
+/// - `Inconsistent` if and only if no such weight gives the marking, with multipliers of the marking's rows, of the given rows, and then of
+///   the unit vectors that show it; `Cone` if a step of the elimination of this system leaves its range.
+/// - `NotReduced` if and only if a marked monomial divides a term of another polynomial, or an unmarked term of its own: the first
+///   polynomial with such a term, and its first such term, where the marked term comes first and the others follow in descending deglex
+///   order.
+/// - `NotBasis` if and only if the S-polynomial of two of the monic polynomials has a nonzero normal form: the first such pair, by the
+///   index of the first polynomial and then by that of the second, with the normal form. `Overflow` or `Exponent` if the operands of an
+///   operation of these S-polynomials and their reductions don't fit.
+///
+/// `Memory`, at any time: memory runs out.
 pub fn require_reduced(
     alloc: Global,
     marked: &MarkedSet,

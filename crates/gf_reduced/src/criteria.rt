@@ -37,8 +37,8 @@ fn is_divided_before(by: &[Marked], i: usize, x: &Mono) -> bool
     false
 }
 
-/// Whether a criterion settles the pair of the members at `i` and `j`: their marks are coprime, or the mark of a member before both
-/// divides the least common multiple of theirs.
+/// Whether a criterion settles the pair of the members at `i` and `j`: their marks are coprime, or the mark of a member before both divides
+/// the least common multiple of theirs.
 fn is_excused(by: &[Marked], i: usize, j: usize) -> bool
     requires variables { MembersShareVariables by.now }
     requires first { i < length by.now }
@@ -77,9 +77,10 @@ fn is_passed(
     Ok(rest.is_zero())
 }
 
-/// Whether so it is for the member at `i` and each later one.
+/// Whether each pair of the member at `i` and a later one is settled by a criterion, or its S-polynomial has the normal form zero.
 ///
-/// Where the mark of an earlier member divides that of this one, it divides the least common multiple of each such pair, and none is looked at.
+/// If the mark of an earlier member divides the mark of this one, it divides the least common multiple of each such pair, and no pair is
+/// tested.
 fn are_passed_from(
     alloc: Global,
     by: &[Marked],
@@ -105,15 +106,15 @@ fn are_passed_from(
     Ok(true)
 }
 
-/// Whether each pair of members is settled by a criterion, or its S-polynomial has the normal form zero; else that of some pair
-/// has another one.
+/// Whether each pair of members is settled by a criterion, or its S-polynomial has the normal form zero. If not, the S-polynomial of some
+/// pair has a nonzero normal form.
 ///
 /// The members are monic, and some weight sets each mark above the rest.
 ///
 /// # Errors
 ///
-/// `Overflow` and `Exponent` only where two numbers of an S-polynomial of two members, or of a step of its reduction by
-/// the members, don't fit.
+/// `Overflow`, `Exponent`: the operands of an operation of an S-polynomial of two members, or of a step of its reduction by the members,
+/// don't fit.
 pub(crate) fn are_all_passed(alloc: Global, by: &[Marked]) -> Result<bool, PolyError>
     requires marked { HasSomeWeight by.now }
     requires variables { MembersShareVariables by.now }

@@ -1,4 +1,4 @@
-//! Why a marked set isn't taken, or isn't tested.
+//! Why a marked set is refused, or can't be tested.
 ghost use Rattle.std.specs.Prelude.{◌≡◌};
 ghost use Rattle.gf_reduced.specs.declared.error.CheckError.TheVariants.{Memory};
 
@@ -8,34 +8,35 @@ use gf_poly::{ExponentOverflow, Mono, Poly, PolyError};
 use gf_vec::IntVec;
 use std::alloc::{AllocError, AllocFailed};
 
-/// Why a marked set isn't taken, or isn't tested. `set` is the number of the set that the caller gave.
+/// Why a marked set is refused, or can't be tested. `set` is the number of the set that the caller gave.
 #[derive(Drop)]
 pub enum CheckError {
     /// An operation on two fractions leaves its range.
     Overflow(Overflow),
     /// A sum of two exponents leaves its range.
     Exponent(ExponentOverflow),
-    /// The first polynomial with a term that a marked monomial divides, and the first such term of it, the marked one first.
+    /// The first polynomial with a term that is divisible by a marked monomial, and its first such term, the marked one first.
     NotReduced {
         set: u32,
         polynomial: u32,
         term: Mono,
     },
-    /// The first pair of polynomials whose S-polynomial has another normal form than zero, and that normal form.
+    /// The first pair of polynomials, by their indices counted from 0, whose S-polynomial has a nonzero normal form, and that normal form.
     NotBasis {
         set: u32,
         first: u32,
         second: u32,
         remainder: Poly,
     },
-    /// No positive weight gives the marking: multipliers of its rows and of the unit vectors, whose sum is zero.
+    /// No positive weight gives the marking. The multipliers of its rows, of given rows if there are any, and of the unit vectors show it:
+    /// none is negative, not all are zero, and the combination is the zero vector.
     Inconsistent {
         set: u32,
         multipliers: IntVec,
     },
     /// An operation of the elimination of the marking's system leaves its range.
     Cone(ConeOverflow),
-    /// There is no memory.
+    /// Memory runs out.
     Memory,
 }
 

@@ -25,7 +25,7 @@ fn monic_form(b: &Marked) -> Result<Marked, PolyError>
 ///
 /// # Errors
 ///
-/// `Overflow` only where the quotient of a coefficient by the marked one leaves its range.
+/// `Overflow`: the quotient of a coefficient by the marked one leaves its range. `Memory`: memory runs out.
 pub(crate) fn monic_forms(alloc: Global, marked: &MarkedSet) -> Result<MarkedSet, PolyError>
     ensures value { IfOk result (λ forms. forms ≡ monic_set marked.now) }
     ensures marked { IfOk result (λ _. Each HasMarkedTerm marked.now.items) }

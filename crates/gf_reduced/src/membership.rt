@@ -12,15 +12,16 @@ use gf_division::{Guide, remainder};
 use gf_poly::{MarkedSet, Poly, PolyError};
 use std::alloc::Global;
 
-/// Whether `f` is in the ideal that the set generates, which is a Gröbner basis of it for its marking, with marked
-/// coefficients 1: a whole multiple of `f` is a sum of multiples of its polynomials by polynomials with whole coefficients.
+/// Whether `f` is in the ideal that the basis generates: whether the product of `f` with some nonzero integer is a sum of multiples of its
+/// members by polynomials with integer coefficients. The basis is a Gröbner basis of this ideal for its marking, with marked coefficients
+/// 1.
 ///
-/// It is so exactly where the remainder of `f` is zero (Cox, Little, O'Shea, *Ideals, Varieties, and Algorithms*, 2.6).
+/// The answer is yes if and only if the remainder of `f` is zero (Cox, Little, O'Shea, *Ideals, Varieties, and Algorithms*, 2.6).
 ///
 /// # Errors
 ///
-/// `Overflow` and `Exponent` only where two numbers of a step by the set, from a polynomial that such steps lead `f` to,
-/// don't fit; it holds them.
+/// `Overflow`, `Exponent`: the operands, which it holds, of a reduction step by the basis don't fit; the step starts from a polynomial to
+/// which such steps lead from `f`. `Memory`: memory runs out.
 #[tactic(auto, using(crate::proofs::RefusalLaws::reduction_only_memory))]
 pub fn contains(alloc: Global, basis: &MarkedSet, f: &Poly) -> Result<bool, PolyError>
     requires basis { IsBasis basis.now.variables (polys basis.now.items) basis.now.items }

@@ -8,7 +8,7 @@ use gf_division::{Guide, remainder, s_poly};
 use gf_poly::{Marked, Poly, PolyError};
 use std::alloc::Global;
 
-/// The places of two members whose S-polynomial has another normal form than zero, and that normal form.
+/// The indices of two members whose S-polynomial has a nonzero normal form, and that normal form.
 #[derive(Drop)]
 pub(crate) struct FailingPair {
     pub first: usize,
@@ -16,11 +16,12 @@ pub(crate) struct FailingPair {
     pub remainder: Poly,
 }
 
-/// The normal form of the S-polynomial of two members; a long reduction takes its terms by the guide.
+/// The normal form of the S-polynomial of two members; a long reduction takes its terms in the order of the guide.
 ///
 /// # Errors
 ///
-/// `Overflow` and `Exponent` only where two numbers of that S-polynomial, or of a step of its reduction by the members, don't fit.
+/// `Overflow`, `Exponent`: the operands of an operation of the S-polynomial, or of a step of its reduction by the members, don't fit.
+/// `Memory`: memory runs out.
 pub(crate) fn remainder_at(
     alloc: Global,
     by: &[Marked],
@@ -40,7 +41,7 @@ pub(crate) fn remainder_at(
     Ok(rest)
 }
 
-/// The first later member whose pair with that at `i` fails.
+/// The first later member such that its S-polynomial with the member at `i` has a nonzero normal form.
 fn failing_with(
     alloc: Global,
     by: &[Marked],
@@ -68,15 +69,15 @@ fn failing_with(
     Ok(None)
 }
 
-/// The first pair of members, by the first one and then by the second, whose S-polynomial has another normal form than zero.
+/// The first pair of members, by the first index and then by the second, whose S-polynomial has a nonzero normal form.
 ///
-/// The members are monic, and some weight sets each mark above the rest. No criterion passes over a pair: the first one is
-/// that of the pairs' own normal forms.
+/// The members are monic, and some weight sets each mark above the rest. No pair is skipped by a criterion: the first pair is the first by
+/// the normal forms themselves.
 ///
 /// # Errors
 ///
-/// `Overflow` and `Exponent` only where two numbers of an S-polynomial of two members, or of a step of its reduction by
-/// the members, don't fit.
+/// `Overflow`, `Exponent`: the operands of an operation of an S-polynomial of two members, or of a step of its reduction by the members,
+/// don't fit. `Memory`: memory runs out.
 pub(crate) fn first_failing(alloc: Global, by: &[Marked]) -> Result<Option<FailingPair>, PolyError>
     requires marked { HasSomeWeight by.now }
     requires variables { MembersShareVariables by.now }

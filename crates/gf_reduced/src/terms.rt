@@ -1,4 +1,4 @@
-//! Terms that keep a marked set from being reduced: those that a mark divides.
+//! Terms that keep a marked set from being reduced: those that are divisible by a mark.
 ghost use Rattle.std.specs.Prelude.{◌≡◌, ◌≢◌, ◌⊎◌, ◌<◌, true, false, length, IsTrue, IfSome, IfNone};
 ghost use Rattle.gf_exponents.specs.Exponents.{same};
 ghost use Rattle.gf_poly.specs.Marking.{HaveVariables};
@@ -7,7 +7,7 @@ ghost use Rattle.gf_reduced.specs.Pairs.{MembersShareVariables};
 
 use gf_poly::{Marked, Mono};
 
-/// The place of a member, and the first of its monomials that offends.
+/// The index of a member, and its first offending monomial.
 #[derive(Drop)]
 pub(crate) struct OffendingTerm {
     pub polynomial: usize,
@@ -23,7 +23,8 @@ fn are_different(x: &Mono, y: &Mono) -> bool
     y.exponents() != x.exponents()
 }
 
-/// Whether the mark of the member at `j` counts against a monomial of the one at `i`: its own doesn't against its marked one.
+/// Whether the mark of the member at `j` counts against a monomial of the one at `i`: its own mark doesn't count against the marked
+/// monomial.
 fn counts(i: usize, j: usize, is_marked: bool) -> bool
     ensures yes { IsTrue result → (j ≢ i) ⊎ (is_marked ≡ false) }
     ensures no { result ≡ false → (j ≡ i) × (is_marked ≡ true) }

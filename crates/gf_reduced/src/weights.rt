@@ -24,9 +24,11 @@ fn system(alloc: Global, marked: &MarkedSet, beside: &[IntVec]) -> Result<Vec<In
     with_units(alloc, all, marked.variables() as usize)
 }
 
-/// A positive weight that gives the marking and on which each of these rows is positive, or multipliers which show that there is none.
+/// A positive weight that gives the marking and on which each of the given rows is positive, or multipliers which show that there is none.
 ///
-/// `Cone` only at a step of the elimination of the marking's system with these rows: its rows, these, then the unit vectors.
+/// # Errors
+/// `Cone`: a step of the elimination of the system, the marking's rows, then the given rows, then the unit vectors, leaves its range.
+/// `Memory`: memory runs out.
 fn weight_beside(
     alloc: Global,
     marked: &MarkedSet,
@@ -48,7 +50,9 @@ fn weight_beside(
 
 /// A positive weight that gives the marking, or multipliers which show that there is none.
 ///
-/// `Cone` only at a step of the elimination of the marking's system: its rows, then the unit vectors.
+/// # Errors
+/// `Cone`: a step of the elimination of the marking's system, its rows and then the unit vectors, leaves its range. `Memory`: memory runs
+/// out.
 fn weight_or_none(alloc: Global, marked: &MarkedSet) -> Result<Answer, GordanError>
     ensures ok { IfOk result (IsWeightAnswer marked.now.variables marked.now.items) }
     ensures err { IfErr result (Failed (IsMarkingStep marked.now.variables marked.now.items)) }
@@ -62,7 +66,8 @@ fn weight_or_none(alloc: Global, marked: &MarkedSet) -> Result<Answer, GordanErr
 ///
 /// # Errors
 ///
-/// `Cone` only at a step of the elimination of the marking's system: its rows, then the unit vectors.
+/// `Cone`: a step of the elimination of the marking's system, its rows and then the unit vectors, leaves its range. `Memory`: memory runs
+/// out.
 pub(crate) fn has_weight(alloc: Global, marked: &MarkedSet) -> Result<bool, GordanError>
     ensures ok { IfOk result (λ r. IsTrue r ↔ IsRealisable marked.now.variables marked.now.items) }
     ensures err { IfErr result (Failed (IsMarkingStep marked.now.variables marked.now.items)) }
@@ -74,14 +79,16 @@ pub(crate) fn has_weight(alloc: Global, marked: &MarkedSet) -> Result<bool, Gord
     }
 }
 
-/// A positive whole vector that gives the marking: by it each marked monomial weighs more than the other ones of its polynomial.
+/// A positive integer vector that gives the marking, with an entry for each variable: by it each marked monomial weighs more than the other
+/// ones of its polynomial. `set` is the number by which an error names the set.
 ///
 /// # Errors
 ///
-/// - `Inconsistent` exactly where there is no such vector, with the number `set` and multipliers that show it: of the marking's
-///   rows (each marked exponent less an unmarked one, polynomial by polynomial, in the order of the terms) and then of the unit
-///   vectors. None is negative, not all are zero, the sum is the zero vector, and their content is 1 (Gordan's alternative).
-/// - `Cone` only at a step of the elimination of the system of these rows and unit vectors, whose operands it holds.
+/// - `Inconsistent` if and only if there is no such vector, with multipliers that show it: of the marking's rows (each marked exponent
+///   vector minus an unmarked one, polynomial by polynomial, in the order of the terms) and then of the unit vectors. None is negative, not
+///   all are zero, the combination is the zero vector, and their content is 1 (Gordan's alternative).
+/// - `Cone`: a step of the elimination of the system of these rows and unit vectors leaves its range; it holds the operands.
+/// - `Memory`: memory runs out.
 #[tactic(auto, using(crate::proofs::RefusalLaws::weight_only_memory))]
 pub fn positive(alloc: Global, marked: &MarkedSet, set: u32) -> Result<IntVec, CheckError>
     ensures ok { IfOk result (GivesMarks marked.now.variables marked.now.items) }
@@ -100,13 +107,14 @@ pub fn positive(alloc: Global, marked: &MarkedSet, set: u32) -> Result<IntVec, C
     }
 }
 
-/// A positive whole vector that gives the marking, and on which each of these rows, with an entry for each variable, is positive.
+/// A positive integer vector that gives the marking, and on which each of the given rows, with an entry for each variable, is positive.
 ///
 /// # Errors
 ///
-/// - `Inconsistent` exactly where there is no such vector, with the number `set` and multipliers that show it, as `positive` tells them:
-///   of the marking's rows, of these rows, and then of the unit vectors.
-/// - `Cone` only at a step of the elimination of the system of them all.
+/// - `Inconsistent` if and only if there is no such vector, with the number `set` and multipliers that show it: of the marking's rows, of
+///   the given rows, and then of the unit vectors.
+/// - `Cone`: a step of the elimination of the system of all these rows leaves its range.
+/// - `Memory`: memory runs out.
 pub(crate) fn positive_beside(
     alloc: Global,
     marked: &MarkedSet,
