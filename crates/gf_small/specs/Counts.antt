@@ -1,4 +1,4 @@
--- What is counted of a list of marked sets without vectors.
+-- What is counted of a list of marked sets.
 -- Laws: proofs/CountsLaws.antt.
 use Rattle.std.specs.Prelude.{◌≡◌, ℕ, ◌+◌, min, List, [], ◌∷◌, map, length}
 use Rattle.gf_poly.specs.Marking.{MarkedPolynomial, MarkedPolynomials}
@@ -11,16 +11,16 @@ least [] = 0
 least (k ∷ []) = k
 least (k ∷ l ∷ ks) = min k (least (l ∷ ks))
 
--- the total degree of a set: that of its polynomial of greatest degree; 0 where it is empty
+-- the total degree of a set: the greatest total degree of its polynomials; 0 if it is empty
 abbrev pub degree_of_set : MarkedPolynomials → ℕ
 degree_of_set s = greatest (map (λ b. total_degree b.poly) s.items)
 
--- the number of terms of these polynomials together
+-- the number of terms of all these polynomials
 abbrev pub count_of_terms : List MarkedPolynomial → ℕ
 count_of_terms [] = 0
 count_of_terms (b ∷ bs) = length b.poly + count_of_terms bs
 
--- what is counted of these sets without vectors
+-- c has the counts of these sets
 pub record AreSetCounts (sets : List MarkedPolynomials) (c : Counts) : Type 0 where
   pub max_degree : c.max_degree ≡ greatest (map degree_of_set sets)
   pub min_degree : c.min_degree ≡ least (map degree_of_set sets)

@@ -8,7 +8,7 @@ abbrev pub greatest : List ℕ → ℕ
 greatest [] = 0
 greatest (k ∷ ks) = max k (greatest ks)
 
--- the total degree of a polynomial: that of its terms of greatest degree; 0 where there are none
+-- the total degree of a polynomial: the greatest degree of its terms; 0 if it has none
 abbrev pub total_degree : Terms → ℕ
 total_degree [] = 0
 total_degree (t ∷ f) = max (degree t.mono) (total_degree f)

@@ -12,7 +12,7 @@ use Rattle.gf_duality.specs.Rays.{IsEchelon, Generated}
 use Rattle.gf_rays.specs.Reached.{IsRaysStep}
 use Rattle.gf_facets.specs.Rows.{rows_of_polynomials}
 
--- all terms of f have one weight by w
+-- all terms of f have the same weight by w
 abbrev pub IsHomogeneousBy : List ℤ → Terms → Type 0
 IsHomogeneousBy w f = (s t : Term) → Contains f s → Contains f t → whole_weight w s.mono ≡ whole_weight w t.mono
 
@@ -26,11 +26,11 @@ pub record IsBasisOfSpace (n : ℕ) (bs : List MarkedPolynomial) (basis : List (
   pub echelon : IsEchelon basis
   pub spans : (w : List ℤ) → length w ≡ n → IsInSpace w bs ↔ Generated n [] basis w
 
--- why it isn't found: an operation leaves its range in working out the vectors on which all differences of a marked exponent vector
--- and another one of its polynomial are zero, or there is no memory
+-- why the homogeneity space isn't found: an operation leaves its range in finding the vectors that are orthogonal to each difference of the
+-- marked exponent vector and another one of a polynomial; or memory runs out
 abbrev pub IsSpaceCause : ℕ → List MarkedPolynomial → GordanError → Type 0
 IsSpaceCause n bs = Failed (IsRaysStep n [] (rows_of_polynomials bs))
 
--- it has this dimension
+-- the homogeneity space has the dimension d
 abbrev pub HasSpaceDimension : ℕ → List MarkedPolynomial → ℕ → Type 0
 HasSpaceDimension n bs d = (basis : List (List ℤ)) × IsBasisOfSpace n bs basis × (length basis ≡ d)

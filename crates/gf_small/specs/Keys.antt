@@ -15,12 +15,12 @@ abbrev pub terms_key : Terms → List ℤ
 terms_key [] = []
 terms_key (t ∷ f) = term_key t ++ terms_key f
 
--- the keys of polynomials that may be zero
+-- the keys of polynomials, each of which may be zero
 abbrev pub keys_of : List Written → List (List ℤ)
 keys_of [] = []
 keys_of (w ∷ ws) = terms_key (terms_of w) ∷ keys_of ws
 
--- the keys of the polynomials that are kept, whose terms descend
+-- keys has the keys of the polynomials that are kept, and the terms of each of these descend
 pub record AreKeyed (kept : List Written) (keys : List (List ℤ)) : Type 0 where
   pub each : keys ≡ keys_of kept
   pub descending : All (λ v. IsDescending (terms_of v)) kept

@@ -7,16 +7,16 @@ use Rattle.gf_poly.specs.declared.Term.{Term}
 use Rattle.gf_poly.specs.Polynomial.{Terms}
 use Rattle.gf_poly.specs.Marking.{MarkedPolynomial, MarkedPolynomials, HasMarkedTerm, Each, polys}
 
--- x is below y by the weight w: it weighs less, or as much and lex says so
+-- x is below y by the weight w: it weighs less, or they have the same weight and x is below y by lex
 abbrev pub IsBelowBy : List ℤ → Exponents → Exponents → Type 0
 IsBelowBy w x y = (whole_weight w x <ℤ whole_weight w y) ⊎ ((whole_weight w x ≡ whole_weight w y) × IsLexBelow x y)
 
--- the marked term is the greatest one by the weight w
+-- the marked term of b is its greatest term by the weight w, ties broken by lex
 pub record IsMarkedByWeight (w : List ℤ) (b : MarkedPolynomial) : Type 0 where
   pub marked : HasMarkedTerm b
   pub others : (t : Term) → Contains b.poly t → (t.mono ≡ b.head) ⊎ IsBelowBy w t.mono b.head
 
--- t has these polynomials in their order, each marked at its greatest term by the weight w
+-- t has the polynomials of the set in their order, each marked at its greatest term by the weight w
 pub record AreMarkedByWeight (w : List ℤ) (set : List Terms) (t : MarkedPolynomials) : Type 0 where
   pub variables : t.variables ≡ length w
   pub polynomials : polys t.items ≡ set

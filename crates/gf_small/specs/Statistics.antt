@@ -9,7 +9,7 @@ use Rattle.gf_small.specs.Degrees.{greatest}
 use Rattle.gf_small.specs.Counts.{least, degree_of_set, count_of_terms}
 use Rattle.gf_small.specs.HomogeneitySpace.{HasSpaceDimension, IsSpaceCause}
 
--- all polynomials of these sets
+-- all polynomials of these sets, one set after another
 abbrev pub members_of : List MarkedPolynomials → List MarkedPolynomial
 members_of sets = flat_map (λ s. s.items) sets
 
@@ -27,10 +27,10 @@ pub record AreStatistics (n : ℕ) (sets : List MarkedPolynomials) (s : Stats) :
 abbrev pub AreSetsIn : ℕ → List MarkedPolynomials → Type 0
 AreSetsIn n sets = All (λ s. s.variables ≡ n) sets
 
--- why there are none: the homogeneity space of all polynomials isn't found
+-- why there are no statistics: the homogeneity space of all polynomials isn't found
 abbrev pub IsStatisticsCause : ℕ → List MarkedPolynomials → GordanError → Type 0
 IsStatisticsCause n sets = IsSpaceCause n (members_of sets)
 
--- no such operation leaves its range
+-- no operation of finding the homogeneity space leaves its range
 abbrev pub AreStatisticsWithinLimits : ℕ → List MarkedPolynomials → Type 0
 AreStatisticsWithinLimits n sets = AreRaysWithinLimits n [] (rows_of_polynomials (members_of sets))

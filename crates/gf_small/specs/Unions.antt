@@ -11,25 +11,25 @@ abbrev pub terms_of : Written → Terms
 terms_of written.Zero = []
 terms_of (written.Nonzero b) = b.poly
 
--- the two are equal as polynomials, wherever they are marked
+-- v and w are equal as polynomials; their marks may differ
 abbrev pub AreEqual : Written → Written → Type 0
 AreEqual v w = SamePolynomial (terms_of v) (terms_of w)
 
--- one of these is equal to w
+-- some polynomial of the list is equal to w
 abbrev pub IsAmong : Written → List Written → Type 0
 IsAmong w vs = Any (λ v. AreEqual v w) vs
 
--- none of these is
+-- no polynomial of the list is equal to w
 abbrev pub IsNew : Written → List Written → Type 0
 IsNew w vs = All (λ v. AreEqual v w → ⊥) vs
 
--- of equal polynomials the first is kept, and what is kept stays in its order
+-- the second list has the polynomials of the first one in the same order, but of equal polynomials only the first
 pub data AreFirstSeen : List Written → List Written → Type 0 where
   nothing : AreFirstSeen [] []
   added : (fs kept whole more : List Written) (w : Written) → whole ≡ fs ++ w ∷ [] → more ≡ kept ++ w ∷ [] → IsNew w kept → AreFirstSeen fs kept → AreFirstSeen whole more
   dropped : (fs kept whole : List Written) (w : Written) → whole ≡ fs ++ w ∷ [] → IsAmong w kept → AreFirstSeen fs kept → AreFirstSeen whole kept
 
--- the union of sets, one after another
+-- union has the polynomials of the sets, one set after another, but of equal polynomials only the first
 abbrev pub IsUnion : List (List Written) → List Written → Type 0
 IsUnion sets union = AreFirstSeen (flat_map (λ s. s) sets) union
 

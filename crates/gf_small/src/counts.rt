@@ -9,23 +9,23 @@ use gf_poly::{Marked, MarkedSet};
 /// Statistics of a list of marked sets.
 #[derive(Clone, Copy, Debug, PartialEq, Eq)]
 pub struct Stats {
-    /// How many sets there are.
+    /// The number of sets.
     pub bases: u64,
-    /// How many variables.
+    /// The number of variables.
     pub variables: u64,
-    /// The dimension of the space of vectors by which each polynomial of each set is homogeneous.
+    /// The dimension of the space of the vectors by which each polynomial of each set is homogeneous.
     pub homogeneity: u64,
-    /// The greatest total degree of a polynomial; 0 where there is none.
+    /// The greatest total degree of a polynomial; 0 if there is none.
     pub max_degree: u64,
-    /// The least total degree of a set, which is that of its polynomial of greatest degree; 0 where there is none.
+    /// The least total degree of a set, where the total degree of a set is the greatest one of its polynomials; 0 if there is no set.
     pub min_degree: u64,
-    /// How many polynomials the set with most of them has; 0 where there is none.
+    /// The greatest number of polynomials of a set; 0 if there is no set.
     pub max_polynomials: u64,
-    /// How many terms the set with most of them has, those of its polynomials together; 0 where there is none.
+    /// The greatest number of terms of a set, counted over all its polynomials; 0 if there is no set.
     pub max_terms: u128,
 }
 
-/// The counts of sets that need no vectors.
+/// The counts of a list of sets.
 #[derive(Clone, Copy, Debug, PartialEq, Eq)]
 pub(crate) struct Counts {
     pub(crate) max_degree: u64,
@@ -34,7 +34,7 @@ pub(crate) struct Counts {
     pub(crate) max_terms: u128,
 }
 
-/// The total degree of a set: that of its polynomial of greatest degree; 0 where it has none.
+/// The total degree of a set: the greatest total degree of its polynomials; 0 if it has none. A degree is a sum of exponents.
 pub fn degree_of_set(items: &[Marked]) -> u64
     ensures { result ≡ greatest (map (λ b. degree_of b.poly) items.now) }
 {

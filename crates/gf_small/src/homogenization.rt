@@ -1,4 +1,4 @@
-//! Homogenisation by a new last variable.
+//! Homogenization by a new last variable.
 ghost use Rattle.std.specs.Prelude.{◌≡◌, ◌≤◌, ◌<◌, ◌+◌, ◌^◌, ◌++◌, ◌∷◌, [], ℕ, All, IfOk, IfErr, length, map, true, false};
 ghost use Rattle.gf_exponents.specs.Exponents.{Exponents, degree};
 ghost use Rattle.gf_poly.specs.Polynomial.{HasVariables, IsDescending, KeepsVariables, SamePolynomial};
@@ -18,14 +18,14 @@ use std::alloc::{AllocError, AllocFailed, Global};
 /// The greatest exponent.
 const MOST: u64 = (1 << 31) - 1;
 
-/// Why polynomials aren't homogenised.
+/// Why polynomials can't be homogenized.
 #[derive(Clone, Copy, Debug, PartialEq, Eq)]
 pub enum SmallError {
-    /// An exponent of the new variable passes `2^31 - 1`: this limit, and what the exponent is more.
+    /// An exponent of the new variable passes `2^31 - 1`: this limit, and the difference of the exponent and the limit.
     Exponent(ExponentOverflow),
-    /// There would be so many variables, more than `MOST_VARIABLES`.
+    /// The ring would have this number of variables, which is more than `MOST_VARIABLES`.
     TooManyVariables { count: u64 },
-    /// There is no memory.
+    /// Memory runs out.
     Memory,
 }
 
@@ -59,7 +59,7 @@ impl<T: Drop> From<AllocFailed<T>> for SmallError {
     }
 }
 
-/// What the degree of a monomial is less than `d`.
+/// `d` minus the degree of a monomial.
 fn new_exponent(d: u64, x: &Mono) -> Result<u32, ExponentOverflow>
     requires { degree x.now ≤ d }
     ensures value { IfOk result (λ exponent. exponent ≡ exponent_of d x.now) }
@@ -76,7 +76,7 @@ fn new_exponent(d: u64, x: &Mono) -> Result<u32, ExponentOverflow>
     Ok(exponent as u32)
 }
 
-/// The term filled up to the degree `d`.
+/// The term times the power of the new variable that brings its degree to `d`.
 fn filled_term(alloc: Global, d: u64, t: &Term) -> Result<Term, ExponentOverflow>
     requires room { length t.now.mono < ROOM }
     requires below { degree t.now.mono ≤ d }
@@ -91,7 +91,7 @@ fn filled_term(alloc: Global, d: u64, t: &Term) -> Result<Term, ExponentOverflow
     })
 }
 
-/// The terms filled up to the degree `d`, in their order.
+/// The terms times the powers of the new variable that bring their degrees to `d`, in their order.
 fn filled_terms(alloc: Global, d: u64, terms: &[Term]) -> Result<Vec<Term>, SmallError>
     requires room { (n : ℕ) × ((n < ROOM) × HasVariables n terms.now) }
     requires below { degree_of terms.now ≤ d }
@@ -122,7 +122,7 @@ fn sum_of(terms: Vec<Term>) -> Result<Poly, AllocError>
     }
 }
 
-/// The homogenisation of a marked polynomial, marked at what becomes of the marked term.
+/// The homogenization of a marked polynomial, marked at the term that the marked term becomes.
 fn marked_homogenization(alloc: Global, b: &Marked) -> Result<Marked, SmallError>
     requires { (n : ℕ) × ((n < ROOM) × HasVariables n b.now.poly) }
     ensures value { IfOk result (IsMarkedHomogenization b.now) }
@@ -137,7 +137,7 @@ fn marked_homogenization(alloc: Global, b: &Marked) -> Result<Marked, SmallError
     Ok(Marked::mark(poly, place))
 }
 
-/// That of a polynomial that may be zero.
+/// The homogenization of a polynomial that may be zero.
 fn written_homogenization(alloc: Global, f: &Written) -> Result<Written, SmallError>
     requires { (n : ℕ) × ((n < ROOM) × IsIn n f.now) }
     ensures value { IfOk result (IsWrittenHomogenization f.now) }
@@ -153,7 +153,7 @@ fn written_homogenization(alloc: Global, f: &Written) -> Result<Written, SmallEr
     }
 }
 
-/// Those of polynomials in `n` variables, in their order.
+/// The homogenizations of polynomials in `n` variables, in their order.
 fn homogenizations(alloc: Global, n: u32, set: &[Written]) -> Result<Vec<Written>, SmallError>
     requires room { n < ROOM }
     requires variables { AreIn n set.now }
@@ -171,15 +171,17 @@ fn homogenizations(alloc: Global, n: u32, set: &[Written]) -> Result<Vec<Written
     Ok(all)
 }
 
-/// The ring with a new variable of this name as its last one, and polynomials of the ring, each homogenised to its total degree by that
-/// variable: each term times that power of it that its degree is less. What becomes of the marked term is marked. Zero stays zero. The
-/// name is none of the ring's (Cox, Little, O'Shea, *Ideals, Varieties, and Algorithms*, 8.2).
+/// The ring with a new last variable, whose name is given, and the homogenizations of polynomials of the ring, in their order: each term is
+/// multiplied by the power of the new variable that brings its degree to the total degree of its polynomial. The mark of a homogenization
+/// is the term that the marked term becomes. The homogenization of zero is zero. No variable of the ring has the given name (Cox, Little,
+/// O'Shea, *Ideals, Varieties, and Algorithms*, 8.2).
 ///
 /// # Errors
 ///
-/// - `TooManyVariables` exactly where the ring has `MOST_VARIABLES` variables already; it holds the new number.
-/// - `Exponent` exactly where there is room, and a new exponent is above `2^31 - 1`. It holds this limit and what the exponent is more,
-///   for the first polynomial with such a term, and of it for the deglex greatest such term.
+/// - `TooManyVariables` if and only if the ring already has `MOST_VARIABLES` variables; it holds the new number.
+/// - `Exponent` if and only if there is room, and a new exponent is greater than `2^31 - 1`. It holds this limit and the difference of the
+///   exponent and the limit, for the first polynomial with such a term and its deglex greatest such term.
+/// - `Memory`: memory runs out.
 pub fn homogenize(
     alloc: Global,
     ring: &Ring,

@@ -12,7 +12,7 @@ use gf_vec::IntVec;
 use std::alloc::{AllocError, Global};
 use std::cmp::Ordering;
 
-/// The place of the term at this monomial, and the first place where there is none.
+/// The index of the term with this monomial, and 0 if there is none.
 fn place_or_first(terms: &[Term], x: &Mono) -> usize
     requires some { 0 < length terms.now }
     requires descending { IsDescending terms.now }
@@ -41,7 +41,7 @@ fn marked_form(b: &Marked, weight: &IntVec) -> Result<Marked, AllocError>
     Ok(Marked::mark(form, place))
 }
 
-/// That of a polynomial that may be zero.
+/// The initial form of a polynomial that may be zero.
 fn written_form(f: &Written, weight: &IntVec) -> Result<Written, AllocError>
     requires bounded { All (λ w. unsigned_abs w ≤ 2 ^ 63) weight.now }
     requires same_variables { IsIn (length weight.now) f.now }
@@ -57,13 +57,13 @@ fn written_form(f: &Written, weight: &IntVec) -> Result<Written, AllocError>
     }
 }
 
-/// The initial form of each polynomial by the vector, in their order: the sum of its terms of greatest weight by it. It keeps the marked
-/// term where it has it; else its deglex greatest term is marked. That of zero is zero. The vector has an entry for each variable,
-/// within `2^63` in absolute value, and may be negative.
+/// The initial form of each polynomial by the vector, in their order: the sum of its terms of greatest weight. Its mark is the marked term
+/// of the polynomial if the initial form has this term, and else the deglex greatest term of the initial form. The initial form of zero is
+/// zero. The vector has an entry for each variable; entries are at most `2^63` in absolute value, and may be negative.
 ///
 /// # Errors
 ///
-/// Where memory runs out.
+/// Only when memory runs out.
 pub fn initial_forms(
     alloc: Global,
     set: &[Written],

@@ -7,7 +7,7 @@ ghost use Rattle.gf_small.specs.LeadingTerms.{leading_of, leading_set};
 use gf_poly::{Marked, MarkedSet, Poly, Term};
 use std::alloc::{AllocError, Global};
 
-/// The marked term alone.
+/// The marked term of a polynomial, as a polynomial.
 fn leading_term(alloc: Global, b: &Marked) -> Result<Marked, AllocError>
     requires { HasSomeVariables b.now }
     ensures value { IfOk result (λ c. c ≡ leading_of b.now) }
@@ -21,11 +21,11 @@ fn leading_term(alloc: Global, b: &Marked) -> Result<Marked, AllocError>
     Ok(Marked::mark(Poly::from_descending(terms), 0))
 }
 
-/// The marked terms of a set with their coefficients, in the order of the set.
+/// The marked terms of the polynomials of a set, with their coefficients, in the order of the set.
 ///
 /// # Errors
 ///
-/// Where memory runs out.
+/// Only when memory runs out.
 pub fn leading_terms(alloc: Global, set: &MarkedSet) -> Result<MarkedSet, AllocError>
     ensures { IfOk result (λ found. found ≡ leading_set set.now) }
 {

@@ -1,5 +1,5 @@
-//! Small tools on sets of polynomials: leading terms, marks by a weight, initial forms, homogenisation, unions, statistics.
-//! What each gives is said in `specs/`, a topic a file.
+//! Small tools on sets of polynomials: leading terms, marks by a weight, initial forms, homogenization, unions, statistics. `specs/` has
+//! the meaning of the result of each, a file for each topic.
 #![tactic(auto)]
 
 mod counts;

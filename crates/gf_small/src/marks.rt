@@ -11,7 +11,8 @@ use gf_vec::{IntVec, weight_of};
 use std::alloc::{AllocError, Global};
 use std::cmp::Ordering;
 
-/// Whether the monomial `x` of this weight is above the monomial `y` of that weight: it weighs more, or as much and lex says so.
+/// Whether the monomial `x`, of weight `weight`, is above the monomial `y`, of weight `other`: it has the greater weight, or the weights
+/// are equal and it is above by lex.
 fn is_above(weight: i128, x: &[u32], other: i128, y: &[u32]) -> bool
     requires { length x.now ≡ length y.now }
     ensures above { result ≡ true → (other <ℤ weight) ⊎ ((other ≡ weight) × IsLexBelow y.now x.now) }
@@ -27,7 +28,7 @@ fn is_above(weight: i128, x: &[u32], other: i128, y: &[u32]) -> bool
     }
 }
 
-/// The place of the greatest term by the weight, of one or more terms.
+/// The index of the greatest term by the weight, ties broken by lex. There is at least one term.
 fn greatest_place(terms: &[Term], weight: &[i128]) -> usize
     requires some { 0 < length terms.now }
     requires bounded { All (λ w. unsigned_abs w ≤ 2 ^ 63) weight.now }
@@ -61,12 +62,12 @@ fn marked_by(f: &Poly, weight: &[i128]) -> Result<Marked, AllocError>
     Ok(Marked::mark(copy, place))
 }
 
-/// The polynomials of a set in their order, each marked at its greatest term by the vector, ties by lex. None is zero. The vector has
-/// an entry for each of their variables, within `2^63` in absolute value, and may be negative.
+/// The polynomials of a set in their order, each marked at its greatest term by the vector, ties broken by lex. None of them is zero. The
+/// vector has an entry for each of their variables; entries are at most `2^63` in absolute value, and may be negative.
 ///
 /// # Errors
 ///
-/// Where memory runs out.
+/// Only when memory runs out.
 pub fn mark_set(alloc: Global, set: &[Poly], vector: &IntVec) -> Result<MarkedSet, AllocError>
     requires some { All (λ f. f ≢ []) set.now }
     requires variables { All (HasVariables (length vector.now)) set.now }

@@ -12,7 +12,7 @@ use gf_rays::Rays;
 use gf_vec::IntVec;
 use std::alloc::{AllocError, Global};
 
-/// The differences of a marked exponent vector and each other one of its polynomial, of all polynomials.
+/// The differences of the marked exponent vector of a polynomial and each of its other exponent vectors, of all polynomials.
 fn differences(alloc: Global, n: u32, set: &[Marked]) -> Result<Vec<IntVec>, AllocError>
     requires { HaveVariables n set.now }
     ensures value { IfOk result (λ rows. rows.items ≡ rows_of_polynomials set.now) }
@@ -22,14 +22,16 @@ fn differences(alloc: Global, n: u32, set: &[Marked]) -> Result<Vec<IntVec>, All
     gf_cone::rows(alloc, &set)
 }
 
-/// The homogeneity space of polynomials in `n` variables: the vectors by which each of them is homogeneous (Fukuda, Jensen, Thomas,
-/// *Computing Gröbner fans*, 2), as a cone without inequalities whose equations are the marked exponent vector of a polynomial less
-/// each other one; its lineality basis is a basis of the space. Of no polynomials it is the whole space.
+/// The homogeneity space of polynomials in `n` variables, as a cone without inequalities: the vectors of `n` entries by which each of the
+/// polynomials is homogeneous (Fukuda, Jensen, Thomas, *Computing Gröbner fans*, 2). The equations of the cone are the differences of the
+/// marked exponent vector of a polynomial and each of its other ones; its lineality basis is a basis of the space. If there are no
+/// polynomials, it is the whole space.
 ///
 /// # Errors
 ///
-/// `Cone` only at an operation of working out that space; it holds the two numbers whose sum, difference or product leaves the range
-/// from `-(2^127 - 1)` to `2^127 - 1`. `Memory`: want of memory.
+/// - `Cone`: an operation of computing the space leaves the range from `-(2^127 - 1)` to `2^127 - 1`; it holds the two numbers whose sum,
+///   difference or product this is.
+/// - `Memory`: memory runs out.
 pub fn homogeneity(alloc: Global, n: u32, set: &[Marked]) -> Result<Rays, GordanError>
     requires { HaveVariables n set.now }
     ensures rows { IfOk result (λ c. (c.ambient ≡ n) × (c.inequalities ≡ []) × (c.equations ≡ rows_of_polynomials set.now)) }

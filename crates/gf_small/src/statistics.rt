@@ -14,7 +14,7 @@ use gf_rays::Rays;
 use gf_vec::IntVec;
 use std::alloc::{AllocError, Global};
 
-/// The differences of a marked exponent vector and each other one of its polynomial, of all polynomials.
+/// The differences of the marked exponent vector of a polynomial and each of its other exponent vectors, of all polynomials of all sets.
 fn all_rows(alloc: Global, n: u32, sets: &[MarkedSet]) -> Result<Vec<IntVec>, AllocError>
     requires { AreSetsIn n sets.now }
     ensures value { IfOk result (λ rows. rows.items ≡ rows_of_polynomials (members_of sets.now)) }
@@ -43,13 +43,16 @@ fn dimension(alloc: Global, n: u32, sets: &[MarkedSet]) -> Result<u64, GordanErr
     Ok(space.lineality().len() as u64)
 }
 
-/// Statistics of marked sets in `n` variables. The dimension is that of the space of vectors by which each polynomial of each set is
-/// homogeneous (Fukuda, Jensen, Thomas, *Computing Gröbner fans*, 2); it is `n` where there are no sets.
+/// Statistics of marked sets in `n` variables: how many there are, degrees, numbers of polynomials and terms, and the dimension of the
+/// space of the vectors by which each polynomial of each set is homogeneous (Fukuda, Jensen, Thomas, *Computing Gröbner fans*, 2). This
+/// dimension is `n` if there are no sets.
 ///
 /// # Errors
 ///
-/// `Cone` only at an operation of working out that space, whose equations are the marked exponent vector of a polynomial less each
-/// other one; it holds the two numbers whose sum, difference or product leaves the range from `-(2^127 - 1)` to `2^127 - 1`.
+/// - `Cone`: an operation of computing that space, whose equations are the differences of the marked exponent vector of a polynomial and
+///   each of its other ones, leaves the range from `-(2^127 - 1)` to `2^127 - 1`; it holds the two numbers whose sum, difference or product
+///   this is.
+/// - `Memory`: memory runs out.
 pub fn stats(alloc: Global, n: u32, sets: &[MarkedSet]) -> Result<Stats, GordanError>
     requires { AreSetsIn n sets.now }
     ensures ok { IfOk result (AreStatistics n sets.now) }

@@ -51,7 +51,8 @@ fn terms_key(alloc: Global, f: &[Term]) -> Result<IntVec, AllocError>
     Ok(IntVec::from_vec(key))
 }
 
-/// The key of a polynomial that may be zero. Two in the same number of variables are equal, wherever they are marked, if and only if their keys are.
+/// The key of a polynomial that may be zero. Two polynomials in the same number of variables are equal if and only if their keys are; marks
+/// don't matter.
 fn key(alloc: Global, w: &Written) -> Result<IntVec, AllocError>
     ensures value { IfOk result (λ k. k ≡ terms_key (terms_of w.now)) }
     ensures descending { IfOk result (λ _. IsDescending (terms_of w.now)) }
@@ -62,7 +63,7 @@ fn key(alloc: Global, w: &Written) -> Result<IntVec, AllocError>
     }
 }
 
-/// The same polynomial, marked alike.
+/// A copy of the polynomial, with the same mark.
 fn copied(w: &Written) -> Result<Written, AllocError>
     ensures { IfOk result (λ v. v ≡ w.now) }
 {
@@ -75,7 +76,7 @@ fn copied(w: &Written) -> Result<Written, AllocError>
     }
 }
 
-/// Adds each polynomial of a set that isn't among those that are kept already, whose keys are at hand.
+/// Adds each polynomial of a set that isn't equal to one of those that are kept already, whose keys are given.
 fn add_new(
     alloc: Global,
     kept: &mut Vec<Written>,
@@ -97,12 +98,12 @@ fn add_new(
     Ok(())
 }
 
-/// The union of sets of polynomials in the same variables, one set after another: of polynomials that are equal, wherever they are
-/// marked, the first is kept, and what is kept stays in the order in which it was first seen.
+/// The union of sets of polynomials in the same variables: the polynomials of the sets, one set after another, but of equal polynomials
+/// only the first, with its mark.
 ///
 /// # Errors
 ///
-/// Where memory runs out.
+/// Only when memory runs out.
 pub fn union(alloc: Global, sets: &[Vec<Written>]) -> Result<Vec<Written>, AllocError>
     requires { HaveOneLength (sets_in sets.now) }
     ensures value { IfOk result (λ kept. IsUnion (sets_in sets.now) kept.items) }
