@@ -8,15 +8,16 @@ use Rattle.gf_facets.specs.Regions.{Region}
 use Rattle.gf_facets.specs.Neighbours.{AreAdjacent}
 use Rattle.gf_flip.specs.Crossings.{IsCrossing, IsNeighbour}
 
--- of some ideal in n variables, and in some region, bs and cs are the bases on both sides of the facet of bs with normal a
+-- for some ideal in n variables and some region, bs and cs are the bases on both sides of the facet of bs with normal a
 pub record IsCrossed (n : ℕ) (bs : List MarkedPolynomial) (a : List ℤ) (cs : List MarkedPolynomial) : Type 0 where
   pub generators : List Terms
   pub region : Region
   pub variables : AreInVariables n generators
   pub adjacent : AreAdjacent n generators region bs a cs
 
--- what a flip answers is on the other side; from there a flip may cross back, and what it answers then is the basis that one came from; and
--- so is, of one ideal, each basis on the other side of the facet with the opposite normal
+-- the basis that a flip returns is on the other side of the facet. From there a flip may cross back, and it returns the basis at which the
+-- first flip started. For one ideal, if cs is across the facet of bs with normal a, each basis across the facet of cs with the opposite
+-- normal is bs
 pub record FlipsLeadBack : Type 0 where
   pub flipped : (n : ℕ) (bs : List MarkedPolynomial) (a : List ℤ) (cs : List MarkedPolynomial) → IsCrossing n bs a → IsNeighbour n bs a cs → IsCrossed n bs a cs
   pub crossing : (n : ℕ) (bs : List MarkedPolynomial) (a : List ℤ) (cs : List MarkedPolynomial) → IsCrossed n bs a cs → IsCrossing n cs (negated a)

@@ -12,15 +12,20 @@ use gf_poly::MarkedSet;
 use gf_vec::IntVec;
 use std::alloc::Global;
 
-/// The basis from which one came to the set, across the facet of that basis with this normal.
+/// The basis at which the flip to this set started, where the flip crossed the facet with this normal; the normal has an entry for each
+/// variable.
 ///
-/// The set is on the other side of such a facet, for some ideal and in some region. The answer is equal to each basis from which one may
-/// have come so, in the variables of the set: it is the flip of the set along the opposite normal, with at most `pairs` pairs.
+/// For some ideal and some region the set is on the other side of such a facet. The result is equal to each basis from which a flip across
+/// a facet with this normal leads to the set: it is the flip of the set along the opposite normal. Each run of it settles at most `pairs`
+/// pairs.
 ///
 /// # Errors
 ///
-/// Those of `flip` along the opposite normal, at an operation of this one flip, though the flip there met none. Where no operation of it
-/// leaves its range, and no list of a run has more than `pairs` pairs, only memory may be wanting.
+/// Those of the flip along the opposite normal:
+///
+/// - `Overflow`, `Exponent`: the operands of an operation of this flip don't fit, even if those of the first flip did.
+/// - `PairBudget`: a run has more than `pairs` pairs to settle.
+/// - `Memory`: memory runs out. There is no other error if no operation leaves its range and no run has more than `pairs` pairs.
 pub fn flip_back(
     alloc: Global,
     set: &MarkedSet,

@@ -1,7 +1,7 @@
-//! The way back across a facet: a flip along the opposite normal gives the basis that one came from.
+//! The way back across a facet: a flip along the opposite normal returns the basis at which the first flip started.
 //!
-//! Start at `flip_back`. What a flip asks for and answers stands in `gf_flip`, what neighbours are in `gf_facets`, and why there is one at
-//! most in `gf_initial`.
+//! Start at `flip_back`. `gf_flip` has the conditions and the result of a flip, `gf_facets` the definition of neighbours, and `gf_initial`
+//! the theorem that there is at most one.
 #![tactic(auto)]
 
 mod back;
