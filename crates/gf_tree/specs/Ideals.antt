@@ -4,10 +4,10 @@ use Rattle.gf_poly.specs.Polynomial.{Terms}
 use Rattle.gf_facets.specs.Regions.{Region, all_positive}
 use Rattle.gf_reverse.specs.Upward.{Fan}
 
--- the ideal of fs in n variables, in a region
+-- the ideal that fs generates in n variables, with the region k
 abbrev pub ideal_within : ℕ → List Terms → Region → Fan
 ideal_within n fs k = record { variables = n; ideal = fs; region = k }
 
--- in that of all positive weights
+-- the ideal that fs generates in n variables, with the region of all positive weights
 abbrev pub ideal_by : ℕ → List Terms → Fan
 ideal_by n fs = ideal_within n fs (all_positive n)

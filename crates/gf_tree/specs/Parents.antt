@@ -1,4 +1,4 @@
--- What is above a basis in the tree of the bases of its ideal, and the root of that tree. Laws: proofs/ParentLaws.antt.
+-- The parent of a basis in the tree of the bases of its ideal, and the root of that tree. Laws: proofs/ParentLaws.antt.
 -- Source: Fukuda, Jensen, Thomas, Computing Gröbner fans, 3.
 use Rattle.std.specs.Prelude.{◌≡◌, List, ℤ, Option, Some, None}
 use Rattle.gf_exponents.specs.Orders.{gains, IsWeightedBelow}
@@ -14,26 +14,26 @@ use Rattle.gf_reverse.specs.Answers.{IsAcross}
 use Rattle.gf_tree.specs.declared.above.Parent.{Parent}
 use Rattle.gf_tree.specs.declared.above.Parent.TheVariants.{Root, Up}
 
--- the ideal of a basis, and all positive weights
+-- the ideal of a basis, with the region of all positive weights
 abbrev pub ideal_of : MarkedPolynomials → Fan
 ideal_of v = fan_of (all_positive v.variables) v
 
--- no flippable normal is negative at the root, or the least one and the basis on its other side
+-- root: no flippable normal is negative at the root of the region. Up: a is the least such normal, and u is the basis across its facet
 abbrev pub IsParentTold : Region → MarkedPolynomials → Parent → Type 0
 IsParentTold k v Root = (a : List ℤ) → LeadsUp v.variables k v.items a → ⊥
 IsParentTold k v (Up a u) = IsWayUp v.variables k v.items a × IsNodeIn (fan_of k v) u × AreAdjacent v.variables (polys v.items) k v.items a u.items
 
--- the neighbour across a, or that no basis is below u under a
+-- some basis: it is the neighbour of u across the facet with normal a. None: no basis is a child of u across this facet
 abbrev pub IsBelowTold : Region → MarkedPolynomials → List ℤ → Option MarkedPolynomials → Type 0
 IsBelowTold k u a (Some w) = IsAcross k u a (Some w)
 IsBelowTold k u a None = IsChildOf (IsParent k) u a None
 
--- w again, where a is its way up, or that it isn't
+-- some basis: it is w, and a is the way up from w. None: a isn't the way up from w
 abbrev pub IsLedBack : Region → MarkedPolynomials → List ℤ → Option MarkedPolynomials → Type 0
 IsLedBack k w a (Some v) = (v ≡ w) × IsWayUp w.variables k w.items a
 IsLedBack k w a None = IsWayUp w.variables k w.items a → ⊥
 
--- v is the reduced basis of its ideal by the root of the region, and then lex
+-- v is the reduced basis of its ideal for the root of the region, ties broken by lex
 abbrev pub IsRootBasis : Region → MarkedPolynomials → Type 0
 IsRootBasis k v = IsReducedBasisFor v.variables (polys v.items) (IsWeightedBelow (gains k.root)) v.items
 

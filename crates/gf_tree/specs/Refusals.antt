@@ -17,23 +17,23 @@ use Rattle.gf_reverse.specs.Answers.{IsAcross}
 use Rattle.gf_tree.specs.declared.error.TreeError.{TreeError}
 use Rattle.gf_tree.specs.declared.error.TreeError.TheVariants.{Overflow, Exponent, PairBudget, Cone, Memory}
 
--- ---- the same refusal, of the search
+-- ---- refusals of other crates
 
--- that of a flip
+-- the refusal of a flip, as one of the search
 abbrev pub of_flip_error : BasisError → TreeError
 of_flip_error (flips.Overflow o) = Overflow o
 of_flip_error (flips.Exponent o) = Exponent o
 of_flip_error (flips.PairBudget s unsettled) = PairBudget s unsettled
 of_flip_error flips.Memory = Memory
 
--- that of the system of a normal
+-- the refusal of the system of a normal, as one of the search
 abbrev pub of_cone_error : GordanError → TreeError
 of_cone_error (cones.Cone s) = Cone s
 of_cone_error cones.Memory = Memory
 
 -- ---- causes
 
--- s is a step of the system that tells whether a flip may cross the facet of some normal of v
+-- s is a step of the system that decides whether a flip may cross the facet of some normal of v, and it leaves its range
 pub record IsConeStep (F : Fan) (v : MarkedPolynomials) (s : ConeOverflow) : Type 0 where
   pub cone : ConeRows
   pub is_cone : IsConeOf v.variables F.region v.items cone
@@ -41,26 +41,26 @@ pub record IsConeStep (F : Fan) (v : MarkedPolynomials) (s : ConeOverflow) : Typ
   pub inside : place < length cone.normals
   pub step : IsNormalStep cone.variables (other_rows cone place) (normal_at cone place) s
 
--- why a search over the bases of F is refused, where each flip may settle so many pairs: at some basis v of F, a flip across
--- a flippable normal is refused so, or a step of the system of a normal leaves its range; or there is no memory
+-- why a search over the bases of F is refused, where each flip may settle this number of pairs: at some basis v of F a flip across a
+-- flippable normal is refused, or a step of the system of a normal leaves its range; or memory runs out
 pub data IsTreeRefusal (F : Fan) (pairs : ℕ) (e : TreeError) : Type 0 where
   flip : (v : MarkedPolynomials) (a : List ℤ) (r : BasisError) → IsNodeIn F v → IsFlippable v.variables F.region v.items a →
       IsFlipRefusal v.variables v.items a pairs r → e ≡ of_flip_error r → IsTreeRefusal F pairs e
   system : (v : MarkedPolynomials) (s : ConeOverflow) → IsNodeIn F v → IsConeStep F v s → e ≡ Cone s → IsTreeRefusal F pairs e
   memory : e ≡ Memory → IsTreeRefusal F pairs e
 
--- why a call at the basis v alone is refused: a flip across a flippable normal of v is refused so, or a step of the system of a normal of v
--- leaves its range; or there is no memory
+-- why a call at the basis v is refused, without other bases: a flip across a flippable normal of v is refused, or a step of the system of a
+-- normal of v leaves its range; or memory runs out
 pub data IsRefusedAtBasis (k : Region) (pairs : ℕ) (v : MarkedPolynomials) (e : TreeError) : Type 0 where
   flip : (a : List ℤ) (r : BasisError) → IsFlippable v.variables k v.items a → IsFlipRefusal v.variables v.items a pairs r → e ≡ of_flip_error r → IsRefusedAtBasis k pairs v e
   system : (s : ConeOverflow) → IsConeStep (fan_of k v) v s → e ≡ Cone s → IsRefusedAtBasis k pairs v e
   memory : e ≡ Memory → IsRefusedAtBasis k pairs v e
 
--- why the way up from v to the root is refused: a call is refused so at a basis on it alone, at v or at one above
+-- why the way up from v to the root is refused: a call is refused at a basis on the way, at v or at one above
 abbrev pub IsWayRefused : Region → ℕ → MarkedPolynomials → TreeError → Type 0
 IsWayRefused k pairs v e = IsRefusedAbove (IsParent k) (λ w r. IsRefusedAtBasis k pairs w r) v e
 
--- why a call of the tree at the basis v is refused: so at v, or at a basis on the other side of a facet of v; or there is no memory
+-- why a call of the tree at the basis v is refused: a call is refused at v, or at a basis across a facet of v; or memory runs out
 pub data IsCallRefusal (k : Region) (pairs : ℕ) (v : MarkedPolynomials) (e : TreeError) : Type 0 where
   here : IsRefusedAtBasis k pairs v e → IsCallRefusal k pairs v e
   beside : (w : MarkedPolynomials) (b : List ℤ) → IsAcross k v b (Some w) → IsRefusedAtBasis k pairs w e → IsCallRefusal k pairs v e

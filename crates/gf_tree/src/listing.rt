@@ -11,7 +11,7 @@ use gf_cone::Region;
 use gf_poly::MarkedSet;
 use std::alloc::Global;
 
-/// A basis and all below it, each once, in the order of their paths.
+/// A basis and all bases below it, each once, in the order of their paths.
 fn listed_below(
     alloc: Global,
     top: MarkedSet,
@@ -30,7 +30,7 @@ fn listed_below(
     Ok(all)
 }
 
-/// What `list_bases` answers.
+/// What `list_bases` returns.
 fn listed(
     alloc: Global,
     set: MarkedSet,
@@ -45,13 +45,18 @@ fn listed(
     listed_below(alloc, root, region, pairs)
 }
 
-/// The marked reduced Gröbner bases, in a region, of the ideal of a basis, each once, in the order of their paths.
+/// The marked reduced Gröbner bases, in a region, of the ideal of a basis, each once, in the order of their paths; the first one is the
+/// root.
 ///
-/// The set is as for `parent`. Each flip may settle `pairs` pairs.
+/// The set is the marked reduced Gröbner basis, for some weight of the region, of the ideal that it generates. Each flip may settle `pairs`
+/// pairs.
 ///
 /// # Errors
 ///
-/// As for `parent`, at bases of this ideal; `Memory` also where the list has no room.
+/// - `Overflow`, `Exponent`: the operands of an operation of a flip at a basis of this ideal, across a flippable normal, don't fit.
+/// - `PairBudget`: such a flip has more than `pairs` pairs to settle.
+/// - `Cone`: a step of the system that decides whether a flip may cross a facet of such a basis leaves its range.
+/// - `Memory`: memory runs out.
 #[tactic(auto, using(crate::proofs::RefusalLaws::only_memory))]
 pub fn list_bases(
     alloc: Global,

@@ -9,8 +9,8 @@ use gf_vec::IntVec;
 use std::alloc::{AllocError, Global};
 use std::marker::Model;
 
-/// A basis, and its cone with what was found out about it. Nodes of one basis are the same node, whatever is known of the cone;
-/// where there is no cone, it is worked out where it is asked for.
+/// A basis, and its cone with what is known about it. Nodes are equal if their bases are, whatever is known of the cone. A cone that is
+/// missing is computed when it is needed.
 #[derive(Drop)]
 pub struct Node {
     pub(crate) basis: MarkedSet,
@@ -30,7 +30,7 @@ impl Model for Node {
 }
 
 impl Node {
-    /// A basis with its cone, or without it where there is no memory for it.
+    /// A node of the basis, with its cone; if there isn't memory enough for the cone, without it.
     pub fn of(alloc: Global, basis: MarkedSet, region: &Region) -> Node
         requires { length region.now.root ≡ basis.variables }
         ensures { result ≡ basis }
@@ -51,7 +51,7 @@ impl Node {
         &self.basis
     }
 
-    /// The basis alone.
+    /// The basis of the node, without its cone.
     pub fn into_basis(self) -> MarkedSet
         ensures { result ≡ self }
     {
@@ -72,8 +72,8 @@ pub(crate) fn cone_of(
     KnownCone::new(alloc, cone, None)
 }
 
-/// The cone of a basis, with a vector of its inside. That is looked for near a vector inside the facet that the cone shares with a
-/// neighbour, whose normal there is `normal`. The memory of spare vectors is used.
+/// The cone of a basis, with a vector in its interior. This vector is sought near a vector in the relative interior of the facet that the
+/// cone shares with a neighbour; `normal` is the normal of this facet on the side of the neighbour. The memory of spare vectors is used.
 pub(crate) fn cone_near(
     tree: &BasisTree,
     set: &MarkedSet,
@@ -88,7 +88,7 @@ pub(crate) fn cone_near(
     KnownCone::near(tree.alloc, cone, witness, normal)
 }
 
-/// A normal, and a vector inside its facet.
+/// A normal, and a vector in the relative interior of its facet.
 #[derive(Drop)]
 pub(crate) struct Facet {
     pub(crate) normal: IntVec,
@@ -103,7 +103,7 @@ impl Model for Facet {
     ghost view = { λ f. f.normal };
 }
 
-/// A basis across a facet, and a vector inside the facet.
+/// A basis across a facet, and a vector in the relative interior of the facet.
 #[derive(Drop)]
 pub(crate) struct Neighbour {
     pub(crate) basis: MarkedSet,

@@ -1,4 +1,4 @@
-//! The steps of the search: the way up from a basis, and what is across a facet.
+//! The steps of the search: the way up from a basis, and the basis across a facet.
 ghost use Rattle.std.specs.Prelude.{IfOk, IfErr, IfSome, Some};
 ghost use Rattle.gf_facets.specs.Facets.{IsFlippable};
 ghost use Rattle.gf_facets.specs.Normals.{Ascends};
@@ -18,7 +18,7 @@ use gf_vec::IntVec;
 use std::alloc::AllocError;
 use std::cmp::Ordering;
 
-/// The place of a vector in an ascending list, which is halved until it is found.
+/// The index of a vector in an ascending list, by bisection.
 fn place_of(list: &[IntVec], v: &IntVec) -> Option<usize>
     requires { Ascends list.now }
     ensures { IsVectorPlace list.now v.now result }
@@ -36,7 +36,7 @@ fn place_of(list: &[IntVec], v: &IntVec) -> Option<usize>
     None
 }
 
-/// The cone of a basis that a node has, where it was made in the region of the tree.
+/// The cone that a node has of its basis, if it was made in the region of the tree.
 fn cone_in<'a>(tree: &BasisTree, node: &'a Node) -> Option<&'a KnownCone>
     ensures { IfSome result (λ c. IsConeOf node.now.variables tree.now.region node.now.items c.now) }
 {
@@ -52,7 +52,7 @@ fn cone_in<'a>(tree: &BasisTree, node: &'a Node) -> Option<&'a KnownCone>
     }
 }
 
-/// The neighbour across a flippable normal, found faster where the vector is inside the facet.
+/// The neighbour across a flippable normal. It is found faster if `inside` is in the relative interior of the facet.
 pub(crate) fn crossed(
     tree: &BasisTree,
     set: &MarkedSet,
@@ -105,7 +105,7 @@ pub(crate) fn arrived(tree: &BasisTree, node: &Node, facet: &Facet) -> Result<No
     })
 }
 
-/// What `below` answers, by the cone of the basis.
+/// What `below` returns, by the cone of the basis.
 fn below_in(
     tree: &BasisTree,
     set: &MarkedSet,
@@ -137,7 +137,7 @@ fn below_in(
     }
 }
 
-/// The neighbour across a facet that leads down from a basis; none where no flip may cross it, or where it lies towards the root.
+/// The neighbour across a facet that leads down from a basis; none if no flip may cross the facet, or if the neighbour is towards the root.
 pub(crate) fn below(
     tree: &BasisTree,
     node: &Node,
@@ -195,8 +195,9 @@ pub(crate) fn way_up(tree: &BasisTree, node: &Node) -> Result<Option<Facet>, Tre
     }
 }
 
-/// A neighbour with its cone, where the facet that was crossed is its way up; `normal` is its normal on the other side, and `back`
-/// on this one. The cone knows a vector inside that facet, and keeps what is found out. The memory of another neighbour is left.
+/// A neighbour with its cone, if the facet that was crossed is its way up; `back` is the normal of this facet as a facet of the neighbour,
+/// and `normal` the one on the other side. The cone knows a vector in the relative interior of the facet, and keeps what is computed. If
+/// the facet isn't the way up, the memory of the neighbour is kept for later steps.
 pub(crate) fn led_back(
     tree: &BasisTree,
     neighbour: Neighbour,
@@ -226,7 +227,7 @@ pub(crate) fn led_back(
     }
 }
 
-/// What `downward` answers, by the cone of the basis.
+/// What `downward` returns, by the cone of the basis.
 fn downward_in(
     tree: &BasisTree,
     set: &MarkedSet,
@@ -251,7 +252,8 @@ fn downward_in(
     Ok(out)
 }
 
-/// The normals of a basis that aren't negative at the root, each once, ascending. A basis below lies across one of them. The memory of spare vectors is used.
+/// The normals of a basis that aren't negative at the root, each once, ascending. Each child is across the facet of one of them. The memory
+/// of spare vectors is used.
 pub(crate) fn downward(
     tree: &BasisTree,
     node: &Node,

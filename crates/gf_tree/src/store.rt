@@ -5,7 +5,7 @@ use gf_flip::SpareLists;
 use gf_poly::MarkedSet;
 use std::alloc::Global;
 
-/// The memory of bases and cones that nobody needs any more. Nothing that is told rests on it.
+/// The memory of bases and cones that are no longer needed. No result depends on it.
 #[derive(Drop)]
 pub struct Store {
     pub(crate) lists: SpareLists,
@@ -13,7 +13,7 @@ pub struct Store {
 }
 
 impl Store {
-    /// Nothing is left yet.
+    /// A store without any memory.
     pub(crate) fn new(alloc: Global) -> Store {
         Store {
             lists: SpareLists::new(alloc),
@@ -21,13 +21,13 @@ impl Store {
         }
     }
 
-    /// Leaves a basis and its cone.
+    /// Keeps the memory of a basis and of its cone.
     pub(crate) fn leave(&mut self, basis: MarkedSet, cone: Option<KnownCone>) {
         self.lists.keep_all(basis);
         self.leave_cone(cone);
     }
 
-    /// Leaves a cone.
+    /// Keeps the memory of a cone.
     pub(crate) fn leave_cone(&mut self, cone: Option<KnownCone>) {
         if let Some(cone) = cone {
             cone.leave(&mut self.vectors);

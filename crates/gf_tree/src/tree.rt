@@ -14,14 +14,14 @@ use gf_walk::{FiniteTree, ReusingTree, Tree};
 use std::alloc::Global;
 use std::cmp::Ordering;
 
-/// The marked reduced Gröbner bases in a region, each below the neighbour across its way up. A label is the normal
-/// that is crossed from above.
+/// The tree of the marked reduced Gröbner bases of an ideal in a region: the parent of a basis is the neighbour across its way up. The
+/// label of a basis is the normal across whose facet its parent reaches it.
 #[derive(Drop)]
 pub struct BasisTree {
     pub alloc: Global,
     /// The region of weights.
     pub region: Region,
-    /// How many pairs each flip may settle.
+    /// The number of pairs that each flip may settle.
     pub pairs: u64,
 }
 

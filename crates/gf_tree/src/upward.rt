@@ -14,7 +14,7 @@ use gf_flip::SpareLists;
 use gf_poly::MarkedSet;
 use std::alloc::Global;
 
-/// What is above a basis.
+/// What `parent` returns.
 fn above(tree: &BasisTree, set: &MarkedSet) -> Result<Parent, TreeError>
     requires { IsNode tree.now.region set.now }
     ensures value { IfOk result (IsParentTold tree.now.region set.now) }
@@ -51,17 +51,21 @@ fn ascended(tree: &BasisTree, set: MarkedSet) -> Result<MarkedSet, TreeError>
     Ok(node.into_basis())
 }
 
-/// What is above a basis in the tree of the marked reduced Gröbner bases of its ideal in a region.
+/// The parent of a basis in the tree of the marked reduced Gröbner bases of its ideal in a region.
 ///
-/// The set is the marked reduced basis, for some weight of the region, of the ideal that it generates. The way up crosses the least
-/// normal that a flip may cross inside the region and that is negative at its root: the one whose first entry that differs is
-/// smallest. There is none exactly at the basis by the root of the region and then lex, the root of the tree (Fukuda, Jensen,
-/// Thomas, *Computing Gröbner fans*, 3). The flip may settle `pairs` pairs.
+/// The set is the marked reduced basis, for some weight of the region, of the ideal that it generates. The way up crosses the facet with
+/// the lexicographically least normal that a flip may cross inside the region and that is negative at its root. There is no such normal if
+/// and only if the set is the basis for the root of the region, ties broken by lex, the root of the tree (Fukuda, Jensen, Thomas,
+/// *Computing Gröbner fans*, 3). The flip may settle `pairs` pairs.
 ///
 /// # Errors
 ///
-/// `Overflow`, `Exponent` and `PairBudget` as `flip` of `gf_flip` tells them of a flip across a flippable normal; `Cone` names a
-/// step of the system of a normal; `Memory` may come at any time. Each at a basis of this ideal.
+/// Each at a basis of this ideal:
+///
+/// - `Overflow`, `Exponent`: the operands of an operation of a flip across a flippable normal don't fit.
+/// - `PairBudget`: such a flip has more than `pairs` pairs to settle.
+/// - `Cone`: a step of the system that decides whether a flip may cross the facet of a normal leaves its range.
+/// - `Memory`: memory runs out.
 #[tactic(auto, using(crate::proofs::RefusalLaws::only_memory, crate::proofs::ParentLaws::roots_told))]
 pub fn parent(
     alloc: Global,
@@ -83,13 +87,19 @@ pub fn parent(
     above(&tree, set)
 }
 
-/// The root above a basis: the basis of its ideal by the root of the region and then lex.
+/// The root of the tree of the bases of the ideal of a basis: its basis for the root of the region, ties broken by lex.
 ///
-/// The set is as for `parent`. Each step of the way up is a flip, which may settle `pairs` pairs.
+/// The set is the marked reduced basis, for some weight of the region, of the ideal that it generates. Each step of the way up is a flip,
+/// which may settle `pairs` pairs.
 ///
 /// # Errors
 ///
-/// As for `parent`, of a call at the set or at a basis above it alone.
+/// Each at the set, or at a basis on the way up from it:
+///
+/// - `Overflow`, `Exponent`: the operands of an operation of a flip across a flippable normal don't fit.
+/// - `PairBudget`: such a flip has more than `pairs` pairs to settle.
+/// - `Cone`: a step of the system that decides whether a flip may cross the facet of a normal leaves its range.
+/// - `Memory`: memory runs out.
 #[tactic(auto, using(crate::proofs::RefusalLaws::only_memory, crate::proofs::RefusalLaws::way_only))]
 pub fn to_root(
     alloc: Global,

@@ -1,4 +1,4 @@
-//! A walker, which lists the bases of an ideal with one basis at hand.
+//! A walker, which lists the bases of an ideal while it holds one of them.
 ghost use Rattle.std.specs.Prelude.{◌≡◌, IfOk, IfErr, OnErr};
 ghost use Rattle.gf_reverse.specs.Upward.{IsNode, fan_of};
 ghost use Rattle.gf_tree.specs.Refusals.{IsTreeRefusal, IsTreeWithinLimits};
@@ -14,14 +14,15 @@ use gf_walk::Depth;
 use std::alloc::{AllocError, Global};
 use std::marker::Model;
 
-/// How far a walker is at a basis: before it; after it and the subtrees under the normals up to one; after it; after its whole subtree.
+/// What of the subtree of its basis a walker has listed: nothing; the basis and the subtrees across the normals up to this one; the basis
+/// alone; all of it.
 pub type Mark = gf_walk::Mark<IntVec>;
 
-/// A walker's own basis and mark, lent.
+/// The basis at which a walker is, and its mark, by reference.
 pub type Position<'a> = gf_walk::Position<'a, MarkedSet, IntVec>;
 
-/// A walker lists the bases that it has left, in the order of their paths. A path is the list of the normals that are crossed
-/// from the root down. The walker holds one basis, one normal and a depth, and goes up by flips; it counts what it gave.
+/// A walker lists the bases that it has left, in the order of their paths. The path of a basis is the list of the normals that are crossed
+/// from the root down to it. A walker holds one basis, one normal and a depth, and goes up by flips; it counts the bases that it has given.
 #[derive(Drop)]
 pub struct Walker {
     pub(crate) inner: gf_walk::Walker<BasisTree>,
@@ -39,12 +40,12 @@ impl Model for Walker {
 }
 
 impl Walker {
-    /// A walker before a basis, which lists the basis and what is below it. The set is as for `parent`; each flip may settle
-    /// `pairs` pairs.
+    /// A walker that lists a basis and the bases below it, before the first of them. The set is the marked reduced Gröbner basis, for some
+    /// weight of the region, of the ideal that it generates; each flip may settle `pairs` pairs.
     ///
     /// # Errors
     ///
-    /// Want of memory alone.
+    /// Only when memory runs out.
     pub fn at(
         alloc: Global,
         basis: MarkedSet,
@@ -62,7 +63,7 @@ impl Walker {
         Ok(started(tree, basis))
     }
 
-    /// The walker's own basis and mark.
+    /// The basis at which the walker is, and its mark.
     pub fn position(&self) -> Position<'_>
         ensures here { result.here.now ≡ self.now.here }
         ensures mark { result.mark.now ≡ self.now.mark }
@@ -75,7 +76,7 @@ impl Walker {
         }
     }
 
-    /// The walker over the tree of bases that this one is, without its count.
+    /// This walker as one over the tree of bases, without the number of the bases that it has given.
     pub fn into_inner(self) -> gf_walk::Walker<BasisTree>
         ensures here { result.here ≡ self.here }
         ensures mark { result.mark ≡ self.mark }
@@ -87,7 +88,7 @@ impl Walker {
         self.inner
     }
 
-    /// What `advance` answers.
+    /// What `advance` returns.
     fn step(&mut self) -> Result<Option<MarkedSet>, TreeError>
         ensures ok { IfOk result (IsAdvance self.old self.new) }
         ensures unchanged { OnErr result (self.new ≡ self.old) }
@@ -107,11 +108,16 @@ impl Walker {
         }
     }
 
-    /// The next basis of what is left; none where nothing is left, and from then on.
+    /// The next basis of those that are left; none if none is left, now and from then on.
     ///
     /// # Errors
     ///
-    /// As for `parent`, at bases of this ideal. The walker is as it was.
+    /// The walker stays as it was:
+    ///
+    /// - `Overflow`, `Exponent`: the operands of an operation of a flip at a basis of the ideal, across a flippable normal, don't fit.
+    /// - `PairBudget`: such a flip has more pairs to settle than the walker allows.
+    /// - `Cone`: a step of the system that decides whether a flip may cross a facet of such a basis leaves its range.
+    /// - `Memory`: memory runs out.
     #[tactic(auto, using(crate::proofs::RefusalLaws::only_memory))]
     pub fn advance(&mut self) -> Result<Option<MarkedSet>, TreeError>
         ensures ok { IfOk result (IsAdvance self.old self.new) }
@@ -122,11 +128,16 @@ impl Walker {
         self.step()
     }
 
-    /// A walker that goes on with the list of all bases after a basis. It goes up to the root to count the steps.
+    /// A walker that goes on with the list of all bases of the ideal after this one. It goes up to the root in order to count the steps.
+    /// The set is the marked reduced Gröbner basis, for some weight of the region, of the ideal that it generates; each flip may settle
+    /// `pairs` pairs.
     ///
     /// # Errors
     ///
-    /// As for `parent`, at bases of this ideal.
+    /// - `Overflow`, `Exponent`: the operands of an operation of a flip at a basis of the ideal, across a flippable normal, don't fit.
+    /// - `PairBudget`: such a flip has more than `pairs` pairs to settle.
+    /// - `Cone`: a step of the system that decides whether a flip may cross a facet of such a basis leaves its range.
+    /// - `Memory`: memory runs out.
     #[tactic(auto, using(crate::proofs::RefusalLaws::only_memory))]
     pub fn after(
         alloc: Global,
@@ -148,7 +159,7 @@ impl Walker {
     }
 }
 
-/// What `at` answers.
+/// What `at` returns.
 fn started(tree: BasisTree, basis: MarkedSet) -> Walker
     requires { IsNode tree.region basis }
     ensures { result ≡ walk_at basis tree.region tree.pairs }
@@ -161,7 +172,7 @@ fn started(tree: BasisTree, basis: MarkedSet) -> Walker
     }
 }
 
-/// What `after` answers.
+/// What `after` returns.
 fn resume(tree: BasisTree, basis: MarkedSet) -> Result<Walker, TreeError>
     requires { IsNode tree.region basis }
     ensures ok { IfOk result (IsResumed tree.region basis tree.pairs) }
