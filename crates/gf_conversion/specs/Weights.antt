@@ -1,10 +1,10 @@
--- The weight of an order that is lex, or a weight before lex. Laws: proofs/WeightLaws.antt.
+-- The weight of an order that is lex, or a weight with ties broken by lex. Laws: proofs/WeightLaws.antt.
 use Rattle.std.specs.Prelude.{◌≡◌, ◌↔◌, ℕ, List, length, All, ℤ, pos, ◌≤ℤ◌}
 use Rattle.gf_exponents.specs.Exponents.{Exponents}
 use Rattle.gf_exponents.specs.Orders.{gains, IsWeightedBelow}
 use Rattle.gf_exponents.specs.SixOrders.{MonomialOrder, below_of}
 
--- r has n entries, none of them negative, and the order compares by r and then by lex
+-- r has n entries, none of them negative, and the order compares by r, ties broken by lex
 pub record IsWeightBeforeLex (order : MonomialOrder) (n : ℕ) (r : List ℤ) : Type 0 where
   pub width : length r ≡ n
   pub natural : All (λ c. pos 0 ≤ℤ c) r

@@ -1,9 +1,10 @@
-//! The reduced Gröbner basis for an order, by several ways: by runs of Buchberger's algorithm, and for lex and a weight before lex
-//! by a walk from the basis by degree, across one facet after another.
+//! The reduced Gröbner basis for an order, by several ways: by runs of Buchberger's algorithm, and for lex and for a weight with ties
+//! broken by lex also by a walk from the basis for deglex, across one facet after another.
 //!
-//! Start at `basis_by_several_ways`, and for the root of a search tree at `root_in`. A walk crosses facets with normals that are negative at the
-//! weight; where there is none that can be crossed it has reached the basis for the order of the weight, then lex: that is a theorem of
-//! `gf_reverse`. Source: Fukuda, Jensen, Thomas, *Computing Gröbner fans*, 3; Collart, Kalkbrener, Mall, *Converting bases with the Gröbner walk*.
+//! Start at `basis_by_several_ways`, and for the root of a search tree at `root_in`. A walk crosses facets with normals that are negative
+//! at the weight. If none of these can be crossed, the walk has reached the basis for the weight, ties broken by lex: that is a theorem of
+//! `gf_reverse`. Source: Fukuda, Jensen, Thomas, *Computing Gröbner fans*, 3; Collart, Kalkbrener, Mall, *Converting bases with the Gröbner
+//! walk*.
 #![tactic(auto)]
 
 mod root;

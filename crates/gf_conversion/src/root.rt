@@ -17,7 +17,7 @@ use gf_poly::{MarkedSet, Poly};
 use gf_vec::IntVec;
 use std::alloc::Global;
 
-/// The order by a positive weight, and then lex.
+/// The order by a positive weight, ties broken by lex.
 fn order_by(weight: IntVec) -> Order
     requires few { length weight < 2 ^ 32 }
     requires bounded { AreBounded weight }
@@ -31,14 +31,17 @@ fn order_by(weight: IntVec) -> Order
     }
 }
 
-/// The reduced Gröbner basis of an ideal for the root of a region, ties broken by lex: the root of the tree of the ideal's bases in the region.
+/// The reduced Gröbner basis of an ideal for the root of a region, ties broken by lex: the root of the tree of the ideal's bases in the
+/// region.
 ///
-/// The polynomials of `set` generate the ideal, in `n` variables, and the region's root has an entry for each. It is computed by
-/// `basis_by_several_ways`, whose runs and flips may each settle `pairs` pairs.
+/// The polynomials of `set` generate the ideal, in `n` variables, and the region's root has `n` entries. The basis is computed by
+/// `basis_by_several_ways`; each of its runs and flips may settle `pairs` pairs.
 ///
 /// # Errors
 ///
-/// Those of `basis_by_several_ways` for this order; `Memory` may come at any time.
+/// - `Overflow`, `Exponent`: the operands of an operation of a run of Buchberger's algorithm on the set by this order don't fit.
+/// - `PairBudget`: such a run has more than `pairs` pairs to settle.
+/// - `Memory`: memory runs out.
 pub fn root_in(
     alloc: Global,
     n: u32,

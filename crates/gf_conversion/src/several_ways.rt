@@ -1,4 +1,4 @@
-//! The reduced Gröbner basis, by another way where numbers of one don't fit.
+//! The reduced Gröbner basis, by another way if the numbers of one don't fit.
 
 ghost use Rattle.std.specs.Prelude.{IfOk, IfErr, IfSome, IsTrue};
 ghost use Rattle.gf_order.specs.Comparisons.{HasEntries, is_weight_before_lex};
@@ -12,7 +12,7 @@ use gf_order::Order;
 use gf_poly::{MarkedSet, Poly};
 use std::alloc::Global;
 
-/// The basis at the end of a walk that begins at the basis by degree; nothing where numbers don't fit, or where the budget is spent.
+/// The basis at the end of a walk that starts at the basis for deglex; none if numbers don't fit, or if the budget is spent.
 fn by_walk(alloc: Global, n: u32, set: &[Poly], order: &Order, pairs: u64) -> Option<MarkedSet>
     requires variables { HaveRingVariables n set.now }
     requires entries { HasEntries n order.now }
@@ -31,7 +31,7 @@ fn by_walk(alloc: Global, n: u32, set: &[Poly], order: &Order, pairs: u64) -> Op
     walked(alloc, start, &weight, pairs)
 }
 
-/// The basis by a run that goes on in wide numbers, where the narrow ways were refused since numbers don't fit.
+/// The basis by a run that continues in wide numbers, if the narrow ways were refused for numbers that don't fit.
 fn by_wide_run(
     alloc: Global,
     n: u32,
@@ -54,7 +54,7 @@ fn by_wide_run(
     }
 }
 
-/// The basis by other ways than the first run, which was refused since numbers don't fit.
+/// The basis by other ways than the first run, which was refused for numbers that don't fit.
 fn by_other_ways(
     alloc: Global,
     n: u32,
@@ -84,7 +84,7 @@ fn by_other_ways(
     }
 }
 
-/// The basis by the first way that ends.
+/// The basis by the first way that succeeds.
 fn by_ways(
     alloc: Global,
     n: u32,
@@ -109,20 +109,24 @@ fn by_ways(
     }
 }
 
-/// The same basis as by `basis` of `gf_buchberger`, also in many a case where numbers of its run don't fit.
+/// The reduced Gröbner basis, for an order, of the ideal that polynomials in `n` variables generate. The first of several ways that
+/// succeeds computes it, so that there is a basis in many cases in which numbers of a single run don't fit.
 ///
-/// The first way is the run of `basis`. Where two of its numbers don't fit and the order is lex, or a weight before lex, the second one
-/// is a walk: it begins at the basis by degree, which a run of its own works out, and crosses one facet after another, each time
-/// the one with the least normal of those that are negative at the weight and that a flip may cross. Where no normal is left it has
-/// arrived. It takes at most `pairs` steps. Then comes `basis_by_second_run`, and last, where numbers of that don't fit either, `wide_basis`.
-/// Each run and each flip may settle `pairs` pairs. The first way that ends is answered; else the refusal of the first run, or, where the budget of the
-/// second run was spent, that.
+/// The first way is the run of `basis` of `gf_buchberger`. If two of its numbers don't fit, and the order is lex or a weight with ties
+/// broken by lex, the second one is a walk: it starts at the basis for deglex, which a run of its own computes, and crosses one facet after
+/// another, each time the one with the least normal of those that are negative at the weight and that a flip may cross. If there is no such
+/// normal, the walk has arrived. It takes at most `pairs` steps. Then comes `basis_by_second_run`, and last, if numbers of that don't fit
+/// either, `wide_basis`. Each run and each flip may settle `pairs` pairs.
 ///
-/// The conditions are those of `basis`.
+/// The conditions are those of `basis` of `gf_buchberger`.
 ///
 /// # Errors
 ///
-/// As those of `basis`: the second run is one on the same polynomials by the same order.
+/// If no way succeeds, the refusal of the first run, or that of the second one if it spent its budget:
+///
+/// - `Overflow`, `Exponent`: the operands of an operation of a run of Buchberger's algorithm on these polynomials by this order don't fit.
+/// - `PairBudget`: such a run has more than `pairs` pairs to settle.
+/// - `Memory`: memory runs out.
 pub fn basis_by_several_ways(
     alloc: Global,
     n: u32,

@@ -6,11 +6,10 @@ ghost use Rattle.gf_facets.specs.LexPositive.{IsNegative};
 use gf_vec::{IntVec, WideVector, leading_sign};
 use std::cmp::Ordering;
 
-/// Whether a normal is negative at a weight: the first number that isn't zero among their dot product and the entries of the normal
-/// is negative.
+/// Whether a normal is negative at a weight: the first nonzero number among their dot product and the entries of the normal is negative.
 ///
 /// # Errors
-/// A product or partial sum of the dot product that leaves the range.
+/// The first product or partial sum of the dot product that leaves the range.
 pub(crate) fn is_negative(weight: &IntVec, normal: &IntVec) -> Result<bool, WideVector>
     requires { length normal.now ≡ length weight.now }
     ensures { IfOk result (λ r. IsTrue r ↔ IsNegative weight.now normal.now) }

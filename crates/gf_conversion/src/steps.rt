@@ -1,4 +1,4 @@
-//! One step of a walk: the facet that is crossed, and what is across it.
+//! One step of a walk: the facet that is crossed, and the basis on the other side.
 
 ghost use Rattle.std.specs.Prelude.{◌≡◌, ◌<◌, length, IfSome};
 ghost use Rattle.gf_facets.specs.Regions.{all_positive};
@@ -12,7 +12,7 @@ use gf_poly::MarkedSet;
 use gf_vec::IntVec;
 use std::alloc::Global;
 
-/// The place of the normal of a facet that leads towards a weight, or that there is none.
+/// The index of the normal of a facet that leads towards a weight, or that there is none.
 #[derive(Clone, Copy)]
 pub(crate) enum Towards {
     Nowhere,
@@ -39,7 +39,7 @@ fn cone_of(alloc: Global, set: &MarkedSet) -> Option<KnownCone>
     }
 }
 
-/// Whether the facet of the normal at a place leads towards a weight; none where numbers don't fit.
+/// Whether the facet of the normal at an index leads towards a weight; none if numbers don't fit.
 fn leads(cone: &KnownCone, weight: &IntVec, place: usize) -> Option<bool>
     requires place { place < length cone.now.normals }
     requires width { length weight.now ≡ cone.now.variables }
@@ -57,7 +57,7 @@ fn leads(cone: &KnownCone, weight: &IntVec, place: usize) -> Option<bool>
     }
 }
 
-/// The first normal whose facet leads towards a weight; nothing where numbers don't fit.
+/// The first normal whose facet leads towards a weight; none if numbers don't fit.
 fn facet_towards(cone: &KnownCone, weight: &IntVec) -> Option<Towards>
     requires { length weight.now ≡ cone.now.variables }
     ensures { IfSome result (IsFacetTold weight.now cone.now) }
@@ -70,7 +70,7 @@ fn facet_towards(cone: &KnownCone, weight: &IntVec) -> Option<Towards>
     Some(Towards::Nowhere)
 }
 
-/// The basis across the first facet that leads towards a weight, if one does; nothing where numbers don't fit, or where the flip
+/// The basis across the first facet that leads towards a weight, or that there is no such facet; none if numbers don't fit, or if the flip
 /// would have to settle more than `pairs` pairs.
 pub(crate) fn next_step(
     alloc: Global,

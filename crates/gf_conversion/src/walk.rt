@@ -1,4 +1,4 @@
-//! The walk to the basis for a weight, then lex.
+//! The walk to the basis for a weight, ties broken by lex.
 
 ghost use Rattle.std.specs.Prelude.{◌≡◌, length, IfSome};
 ghost use Rattle.gf_conversion.specs.Steps.{IsSomeBasis, IsWalkEnd};
@@ -8,8 +8,8 @@ use gf_poly::MarkedSet;
 use gf_vec::IntVec;
 use std::alloc::Global;
 
-/// The basis at which a walk towards a weight arrives from a basis of the same ideal, in at most `pairs` steps, each of which may
-/// settle `pairs` pairs; nothing where a step fails, or where these are not enough.
+/// The basis at which a walk towards a weight arrives from a basis of the same ideal, in at most `pairs` steps, each of which may settle
+/// `pairs` pairs; none if a step fails, or if the walk needs more steps.
 pub(crate) fn walked(
     alloc: Global,
     start: MarkedSet,

@@ -1,4 +1,4 @@
-//! The weight of an order that is lex, or a weight before lex.
+//! The weight of an order that is lex, or a weight with ties broken by lex.
 
 ghost use Rattle.std.specs.Prelude.{IfOk, IsTrue};
 ghost use Rattle.gf_order.specs.Comparisons.{HasEntries, is_weight_before_lex};
@@ -8,10 +8,10 @@ use gf_order::Order;
 use gf_vec::IntVec;
 use std::alloc::{AllocError, Global};
 
-/// The weight by which an order in `n` variables compares before it compares by lex; zeros where it is lex alone.
+/// The weight by which an order in `n` variables compares before it compares by lex; zeros if it is lex.
 ///
 /// # Errors
-/// Want of memory.
+/// Only when memory runs out.
 pub(crate) fn weight_of(alloc: Global, n: u32, order: &Order) -> Result<IntVec, AllocError>
     requires entries { HasEntries n order.now }
     requires by_lex { IsTrue (is_weight_before_lex order.now) }
