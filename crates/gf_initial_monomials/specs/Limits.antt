@@ -1,4 +1,4 @@
--- Where only memory may be wanting. Laws: proofs/LimitLaws.antt.
+-- When the only possible error is that memory runs out. Laws: proofs/LimitLaws.antt.
 use Rattle.std.specs.Prelude.{ℕ, List, ◌++◌, ℤ, Contains}
 use Rattle.gf_poly.specs.Polynomial.{Terms}
 use Rattle.gf_poly.specs.Marking.{MarkedPolynomial}
@@ -17,7 +17,7 @@ use Rattle.gf_initial_monomials.specs.declared.error.InitialError.{InitialError}
 use Rattle.gf_initial_monomials.specs.declared.error.InitialError.TheVariants.{Cone, Wide, Entry, Saturation, Memory}
 use Rattle.gf_initial_monomials.specs.Outcomes.{AreFormsAt, IsCutBy, vector_of}
 
--- there was no memory, for a saturation or else
+-- memory ran out, in a saturation or elsewhere
 abbrev pub IsMemoryWanted : InitialError → Type 0
 IsMemoryWanted (Cone s) = ⊥
 IsMemoryWanted (Wide w) = ⊥
@@ -25,14 +25,15 @@ IsMemoryWanted (Entry i x) = ⊥
 IsMemoryWanted (Saturation r) = IsWantOfMemory r
 IsMemoryWanted Memory = Unit {0}
 
--- no partial sum of the rays of the face leaves the range, no entry of their sum is past 2^63, and no run of the saturation of the initial
--- forms there leaves its limits
+-- no partial sum of the rays of the face leaves the range, no entry of their sum is greater than 2^63 in absolute value, and no run of the
+-- saturation of the initial forms at this sum leaves its limits
 pub record IsFaceWithinLimits (bs : List MarkedPolynomial) (c : RowsAndRays) (pairs : ℕ) (f : Face) : Type 0 where
   pub sums : NoneWide (adding_steps (zeros c.ambient) (numbered c.rays f.rays))
   pub entries : AreBounded (vector_of c f)
   pub runs : (forms : List Terms) → AreFormsAt (vector_of c f) bs forms → AreStepsWithinLimits c.ambient forms pairs
 
--- of what the cone c and these rows share: no operation of finding the rays leaves the range, and each face is within its limits
+-- no operation of finding the rays of the intersection of the cone c with the cone of these rows leaves the range, and each face of the
+-- intersection is within its limits
 pub record AreFacesWithinLimits (n : ℕ) (bs : List MarkedPolynomial) (rows : List (List ℤ)) (c : Rows) (pairs : ℕ) : Type 0 where
   pub rays : AreRaysWithinLimits n (c.inequalities ++ rows) c.equations
   pub faces : (cut : RowsAndRays) (faces : List Face) (f : Face) → IsCutBy c n rows cut → AreFaces cut faces → Contains faces f → IsFaceWithinLimits bs cut pairs f

@@ -1,4 +1,4 @@
-//! What a cone and the closed cone of a basis share.
+//! The intersection of a cone with the closed cone of a basis.
 ghost use Rattle.std.specs.Prelude.{◌≡◌, ◌++◌, ◌<◌, IfOk, IfErr};
 ghost use Rattle.gf_gordan.specs.Alternative.{AreRows};
 ghost use Rattle.gf_gordan.specs.Steps.{Failed};
@@ -17,10 +17,10 @@ use gf_rays::Rays;
 use gf_vec::{IntVec, copied, joined};
 use std::alloc::Global;
 
-/// The part of a cone on which these rows aren't negative.
+/// The part of a cone on which none of the rows is negative.
 ///
 /// # Errors
-/// An operation of finding its rays that leaves the range; want of memory.
+/// `Cone`: an operation of finding its rays leaves its range. `Memory`: memory runs out.
 fn cut_by(alloc: Global, cone: &Rays, rows: &[IntVec]) -> Result<Rays, GordanError>
     requires { AreRows cone.now.ambient rows.now }
     ensures ok { IfOk result (IsCutBy (rows_of cone.now) cone.now.ambient rows.now) }
@@ -30,10 +30,10 @@ fn cut_by(alloc: Global, cone: &Rays, rows: &[IntVec]) -> Result<Rays, GordanErr
     Rays::of(alloc, cone.ambient(), &inequalities, cone.equations())
 }
 
-/// The first vector that fails of what the cone and these rows share.
+/// The first vector that fails of the intersection of the cone with the cone of the rows.
 ///
 /// # Errors
-/// What is refused at finding its rays, or at a face all before which pass; want of memory.
+/// Those of `at_cone`.
 fn first_failing(
     alloc: Global,
     basis: &MarkedSet,
@@ -55,15 +55,22 @@ fn first_failing(
     at_faces(alloc, basis, &cut, &faces, pairs, seen)
 }
 
-/// The first vector that fails of a cone and a Gröbner basis, the normals of whose closed cone are given; none where each passes. For each
-/// face of what the two cones share, by dimension and then by the numbers of its rays, the sum of its rays is tried: it fails where
-/// the ideal of the initial forms of the basis there has a polynomial of one term. Initial forms that were seen at this basis to have none
-/// are not tried again; those of this cone are kept in `seen`.
+/// The first vector that fails of a cone and a Gröbner basis, whose `normals` are those of its closed cone; none if all pass. For each face
+/// of the intersection of the two cones, by dimension and then by the numbers of its rays, the sum of its rays is tested, a vector with an
+/// entry for each variable: it fails if the ideal of the initial forms of the basis at it has a polynomial with a single term. Each run of
+/// Buchberger's algorithm settles at most `pairs` pairs. Initial forms in `seen`, those that passed at this basis before, are not tested
+/// again; those that pass now are added.
 ///
 /// # Errors
-/// `Cone`: an operation of finding the rays of what the cones share leaves the range. `Wide`: a partial sum of the rays of a face does, the
-/// first. `Entry`: an entry of such a sum is past `2^63` in absolute value, the first. `Saturation`: what `has_monomial` is refused for, of
-/// the initial forms at such a sum. All faces before that pass. `Memory`: want of memory.
+///
+/// All faces before an error pass.
+///
+/// - `Cone`: an operation of finding the rays of the intersection leaves its range.
+/// - `Wide`: the first partial sum of the rays of a face that leaves the range.
+/// - `Entry`: the first entry of such a sum that is greater than `2^63` in absolute value.
+/// - `Saturation`: `has_monomial` is refused for the initial forms at such a sum: operands don't fit, a run has more than `pairs` pairs to
+///   settle, or memory runs out.
+/// - `Memory`: memory runs out.
 pub fn at_cone(
     alloc: Global,
     basis: &MarkedSet,

@@ -1,4 +1,4 @@
-//! Why it isn't known whether an initial ideal has a polynomial of one term.
+//! Why it isn't decided whether an initial ideal has a polynomial with a single term.
 ghost use Rattle.std.specs.Prelude.{◌≡◌};
 ghost use Rattle.gf_initial_monomials.specs.declared.error.InitialError.TheVariants.{Memory};
 
@@ -7,18 +7,18 @@ use gf_gordan::{ConeOverflow, GordanError};
 use gf_vec::{VecError, WideVector};
 use std::alloc::{AllocError, AllocFailed};
 
-/// Why it isn't known whether an initial ideal has a polynomial of one term.
+/// Why it isn't decided whether an initial ideal has a polynomial with a single term.
 #[derive(Drop)]
 pub enum InitialError {
-    /// An operation of finding the rays of what two cones share leaves the range.
+    /// An operation of finding the rays of the intersection of two cones leaves its range.
     Cone(ConeOverflow),
-    /// A sum of an entry of a partial sum of rays and one of the next ray leaves the range.
+    /// The sum of an entry of a partial sum of rays and one of the next ray leaves the range.
     Wide(WideVector),
-    /// The entry at this place, counted from 0, of a vector that is tried is past `2^63` in absolute value, and none before it.
+    /// The first entry of a tested vector that is greater than `2^63` in absolute value, and its index, counted from 0.
     Entry { index: usize, value: i128 },
-    /// The saturation of an ideal of initial forms is refused.
+    /// The saturation of an ideal of initial forms is refused: operands don't fit, the budget of pairs is spent, or memory runs out.
     Saturation(BasisError),
-    /// There is no memory.
+    /// Memory runs out.
     Memory,
 }
 

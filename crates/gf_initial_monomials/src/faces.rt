@@ -13,10 +13,10 @@ use gf_rays::{Face, Rays};
 use gf_vec::IntVec;
 use std::alloc::Global;
 
-/// The vector of the first of these faces of a cone that fails; none where each passes.
+/// The vector of the first of these faces of a cone that fails; none if all pass.
 ///
 /// # Errors
-/// The first partial sum of rays that leaves the range; what is refused at a vector; want of memory.
+/// `Wide`: the first partial sum of rays that leaves the range. `Entry`, `Saturation`: a refusal at a vector. `Memory`: memory runs out.
 pub(crate) fn at_faces(
     alloc: Global,
     basis: &MarkedSet,

@@ -8,7 +8,7 @@ use gf_poly::{MarkedSet, Poly};
 use gf_vec::IntVec;
 use std::alloc::{AllocError, Global};
 
-/// The initial forms of the members at a vector with entries within `2^63`.
+/// The initial forms of the members at a vector; its entries are at most `2^63` in absolute value.
 pub(crate) fn forms_at(
     alloc: Global,
     basis: &MarkedSet,

@@ -1,7 +1,7 @@
-//! At which vectors of the closed cone of a Gröbner basis the initial ideal has a polynomial of one term: one vector for each face of
-//! what that cone and another one share.
+//! At which vectors of the closed cone of a Gröbner basis the initial ideal has a polynomial with a single term: one vector for each face
+//! of the intersection of that cone with another one.
 //!
-//! Start at `at_cone`. What it answers stands in `specs/Outcomes.antt`.
+//! Start at `at_cone`; `specs/Outcomes.antt` has the meaning of its result.
 #![tactic(auto)]
 
 mod cones;

@@ -1,4 +1,4 @@
-//! The lists of initial forms that were tried, and passed.
+//! The lists of initial forms that were tested and passed.
 ghost use Rattle.std.specs.Prelude.{◌≡◌, IsTrue};
 ghost use Rattle.gf_saturation.specs.Saturations.{HasOneTermMember};
 
@@ -6,8 +6,8 @@ use gf_poly::{Poly, Polys, Term};
 use std::alloc::{AllocError, Global};
 use std::marker::Model;
 
-/// Lists of initial forms in some number of variables whose ideal has no polynomial of one term: what was tried at one basis, and passed. Its value is
-/// the number of variables.
+/// Lists of initial forms, in some number of variables, whose ideals have no polynomial with a single term: those that were tested at one
+/// basis and passed. Its value is the number of variables.
 #[derive(Drop)]
 pub struct Seen {
     variables: u32,
@@ -49,7 +49,7 @@ fn is_same_poly(f: &Poly, g: &Poly) -> bool
     true
 }
 
-/// Whether two lists have the same polynomials, in one order.
+/// Whether two lists have the same polynomials in the same order.
 fn is_same_list(fs: &[Poly], gs: &[Poly]) -> bool
     ensures { IsTrue result → fs.now ≡ gs.now }
 {
@@ -65,7 +65,7 @@ fn is_same_list(fs: &[Poly], gs: &[Poly]) -> bool
 }
 
 impl Seen {
-    /// No list yet, in `n` variables.
+    /// An empty collection of lists in `n` variables.
     pub fn new(alloc: Global, n: u32) -> Seen
         ensures { result ≡ n }
     {
@@ -75,7 +75,7 @@ impl Seen {
         }
     }
 
-    /// Whether this list was tried, and passed.
+    /// Whether this list was tested and passed.
     pub(crate) fn has(&self, forms: &[Poly]) -> bool
         ensures { IsTrue result → HasOneTermMember self.now forms.now → ⊥ }
     {
@@ -88,10 +88,10 @@ impl Seen {
         false
     }
 
-    /// Keeps a list that was tried, and passed.
+    /// Adds a list that was tested and passed.
     ///
     /// # Errors
-    /// Want of memory alone.
+    /// Only when memory runs out.
     pub(crate) fn keep(&mut self, forms: Vec<Poly>) -> Result<(), AllocError>
         requires { HasOneTermMember self.old forms.items → ⊥ }
         ensures { self.new ≡ self.old }

@@ -1,4 +1,4 @@
-//! The vector that is tried for a face: the sum of its rays.
+//! The vector that is tested for a face: the sum of its rays.
 ghost use Rattle.std.specs.Prelude.{◌≡◌, ◌<◌, All, IfOk, IfErr, length};
 ghost use Rattle.gf_vec.specs.Vector.{zeros};
 ghost use Rattle.gf_vec.specs.Steps.{IsFirstWide, IfWide};
@@ -20,7 +20,7 @@ fn zero_vector(alloc: Global, n: usize) -> Result<IntVec, AllocError>
 /// The sum, from the left, of the rays of a cone with these numbers.
 ///
 /// # Errors
-/// The first partial sum that leaves the range; want of memory.
+/// `Wide`: the first partial sum that leaves the range. `Memory`: memory runs out.
 pub(crate) fn sum_at(alloc: Global, cone: &Rays, numbers: &[u32]) -> Result<IntVec, VecError>
     requires { All (λ i. i < length cone.now.rays) numbers.now }
     ensures value { IfOk result (λ v. v ≡ sum_of cone.now.ambient (numbered cone.now.rays numbers.now)) }

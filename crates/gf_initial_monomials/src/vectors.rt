@@ -1,4 +1,4 @@
-//! Whether the initial ideal at one vector has a polynomial of one term.
+//! Whether the initial ideal at a vector has a polynomial with a single term.
 ghost use Rattle.std.specs.Prelude.{◌≡◌, ◌<◌, IfOk, IfErr, MatchOption, length};
 ghost use Rattle.gf_order.specs.Weights.{AreBounded};
 ghost use Rattle.gf_initial_monomials.specs.Outcomes.{TellsMonomial};
@@ -12,18 +12,19 @@ use gf_poly::{MarkedSet, ROOM};
 use gf_vec::IntVec;
 use std::alloc::Global;
 
-/// The place of the first entry past `2^63` in absolute value, where there is one.
+/// The index of the first entry that is greater than `2^63` in absolute value, if there is one.
 fn first_past(v: &IntVec) -> Option<usize>
     ensures { MatchOption result (AreBounded v.now) (IsFirstWideEntry v.now) }
 {
     v.as_slice().iter().position(|x| x.unsigned_abs() > 1 << 63)
 }
 
-/// Whether the initial forms at a vector of the closed cone of a basis have a polynomial of one term in their ideal. Where they are among those that were
-/// seen to have none, nothing is worked out.
+/// Whether the ideal of the initial forms at a vector of the closed cone of a basis has a polynomial with a single term. Initial forms that
+/// are known to have none are not tested again.
 ///
 /// # Errors
-/// The first entry past `2^63`; a refusal of the saturation of their ideal; want of memory.
+/// `Entry`: the first entry that is greater than `2^63` in absolute value. `Saturation`: a refusal of the saturation of the ideal.
+/// `Memory`: memory runs out.
 pub(crate) fn told_at(
     alloc: Global,
     basis: &MarkedSet,
