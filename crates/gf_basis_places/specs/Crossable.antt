@@ -8,18 +8,19 @@ use Rattle.gf_cone.specs.Cones.{ConeRows, normal_at, IsConeOf}
 use Rattle.gf_tree.specs.declared.error.TreeError.{TreeError}
 use Rattle.gf_tree.specs.Refusals.{IsRefusedAtBasis}
 
--- exactly the normals that a flip may cross inside the region, each once and ascending
+-- ns has exactly the normals that a flip may cross inside the region, each once and ascending
 pub record AreCrossable (n : ℕ) (k : Region) (bs : List MarkedPolynomial) (ns : List (List ℤ)) : Type 0 where
   pub rises : Ascends ns
   pub only : (a : List ℤ) → Contains ns a → IsFlippable n k bs a
   pub all : (a : List ℤ) → IsFlippable n k bs a → Contains ns a
 
--- the list gained the normal at the place, where a flip may cross its facet, of each marked list of which c is the cone; else it is as before
+-- for each marked list of which c is the cone: either a flip may cross the facet of the normal at i, and the new list has this normal in
+-- addition; or it may not, and the list is as before
 abbrev pub IsWithPlace : ConeRows → ℕ → List (List ℤ) → List (List ℤ) → Type 0
 IsWithPlace c i list more =
     ((more ≡ list ++ normal_at c i ∷ []) × ((n : ℕ) (k : Region) (bs : List MarkedPolynomial) → IsConeOf n k bs c → IsFlippable n k bs (normal_at c i)))
     ⊎ ((more ≡ list) × ((n : ℕ) (k : Region) (bs : List MarkedPolynomial) → IsConeOf n k bs c → IsFlippable n k bs (normal_at c i) → ⊥))
 
--- the call at the place is refused as one at each basis of which c is the cone
+-- for each basis of which c is the cone: a call at this basis is refused with e
 abbrev pub IsRefusedAtPlace : ConeRows → ℕ → TreeError → Type 0
 IsRefusedAtPlace c i e = (k : Region) (pairs : ℕ) (v : MarkedPolynomials) → IsConeOf v.variables k v.items c → IsRefusedAtBasis k pairs v e

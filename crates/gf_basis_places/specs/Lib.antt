@@ -1,5 +1,5 @@
 -- What the contracts of this crate cite.
 pub mod Crossable  -- the normals that a flip may cross, as a list
-pub mod Prompts  -- what is told of a basis
+pub mod Prompts  -- what is printed for a basis
 pub mod BasisRules  -- bases as places
-pub mod Walks  -- where lines lead, and what is told on the way
+pub mod Walks  -- the bases to which lines lead, and what is printed on the way

@@ -1,4 +1,4 @@
--- Walks over bases: where lines lead, and what is told on the way.
+-- Walks over bases: the bases to which lines lead, and what is printed on the way.
 use Rattle.std.specs.Prelude.{◌≡◌, ℕ, List}
 use Rattle.gf_poly.specs.Marking.{MarkedPolynomials}
 use Rattle.gf_session.specs.declared.choice.Choice.{Choice}
@@ -7,8 +7,8 @@ use Rattle.gf_session.specs.Sessions.{Trail, AreTurns, IsLineTurn, IsWalkedOn}
 use Rattle.gf_session.specs.Transcripts.{AreFunctions}
 use Rattle.gf_basis_places.specs.BasisRules.{basis_rules}
 
--- Of the bases in a ring of these names: each number leads to one basis or nowhere, and one text is told. So lines lead from a trail to one
--- trail and have one transcript; and a choice followed by u gives the trail before it.
+-- for the bases in a ring with these names: each number leads to at most one basis, and each basis has one text. So lines lead from a trail
+-- to at most one trail, with one transcript. A choice followed by u gives the trail before the choice
 pub record WalksAreDetermined (names : List (List ℕ)) : Type 0 where
   pub functions : AreFunctions (basis_rules names)
   pub one : (s t u : Trail MarkedPolynomials) (cs : List Choice) (x y : List ℕ) → AreTurns (basis_rules names) s cs t x → AreTurns (basis_rules names) s cs u y →

@@ -9,7 +9,7 @@ use gf_tree::TreeError;
 use gf_vec::IntVec;
 use std::alloc::Global;
 
-/// The list with the normal at a place, where a flip may cross its facet.
+/// The list with the normal at an index added, if a flip may cross its facet.
 fn with_place(list: Vec<IntVec>, cone: &KnownCone, place: usize) -> Result<Vec<IntVec>, TreeError>
     requires { place < length cone.now.normals }
     ensures ok { IfOk result (λ more. IsWithPlace cone.now place list.items more.items) }
@@ -26,12 +26,13 @@ fn with_place(list: Vec<IntVec>, cone: &KnownCone, place: usize) -> Result<Vec<I
     }
 }
 
-/// The normals of a basis that a flip may cross inside a region, each once, ascending by the first entry that differs.
+/// The normals of a basis that a flip may cross inside a region, each once, in ascending lexicographic order, with an entry for each
+/// variable.
 ///
 /// # Errors
 ///
-/// `Cone` only at a step of the system that tells whether a flip may cross the facet of a normal of the basis, that leaves its range; `Memory` may come at
-/// any time.
+/// - `Cone`: a step of the system that decides whether a flip may cross the facet of a normal of the basis leaves its range.
+/// - `Memory`: memory runs out.
 pub fn crossable_normals(
     alloc: Global,
     basis: &MarkedSet,

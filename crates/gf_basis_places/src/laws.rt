@@ -2,8 +2,8 @@
 ghost use Rattle.std.specs.Prelude.{ℕ, List};
 ghost use Rattle.gf_basis_places.specs.Walks.{WalksAreDetermined};
 
-/// Lines lead from a basis to one basis and have one transcript, since a facet has one basis at most on its other side, and the normals that a
-/// flip may cross are one ascending list; and a choice followed by `u` gives the walk before it.
+/// Lines lead from a basis to at most one basis, with one transcript: there is at most one basis across a facet, and the normals that a
+/// flip may cross form one ascending list. A choice followed by `u` gives the walk before the choice.
 pub fn walks_are_determined()
     ensures { (names : List (List ℕ)) → WalksAreDetermined names }
 {}

@@ -1,7 +1,7 @@
 //! The bases of an ideal as the places of sessions: across each facet that a flip may cross, and back.
 //!
-//! Start at `BasisPlaces`, a `Moves` of `gf_session`. A place is a marked reduced Gröbner basis; its numbers are those of the normals that a flip may
-//! cross, from 0 on, in ascending order, and a step is the normal that was crossed.
+//! Start at `BasisPlaces`, a `Moves` of `gf_session`. A place is a marked reduced Gröbner basis. Its moves are numbered from 0 by the
+//! normals that a flip may cross, in ascending order; a step is the normal that was crossed.
 #![tactic(auto)]
 
 mod crossable;

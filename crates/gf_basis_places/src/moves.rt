@@ -12,7 +12,7 @@ use gf_tree::TreeError;
 use gf_vec::IntVec;
 use std::alloc::Global;
 
-/// The bases of the ideals in a ring, for positive weights; each run of a flip settles at most so many pairs.
+/// The bases of the ideals in a ring, for positive weights, as places of sessions; each run of a flip settles at most `pairs` pairs.
 #[derive(Drop)]
 pub struct BasisPlaces<'r> {
     pub ring: &'r Ring,
@@ -20,7 +20,7 @@ pub struct BasisPlaces<'r> {
     pub alloc: Global,
 }
 
-/// How many normals there are.
+/// The number of normals.
 fn count_of(normals: &[IntVec]) -> u64
     ensures { result ≡ length normals.now }
 {

@@ -12,7 +12,7 @@ use gf_vec::IntVec;
 use std::alloc::Global;
 use std::marker::Model;
 
-/// A marked set with the normals that a flip may cross, for positive weights. Places of one set are the same place.
+/// A marked set with the normals that a flip may cross, for positive weights. Places are equal if their sets are.
 #[derive(Drop)]
 pub struct BasisPlace {
     basis: MarkedSet,
@@ -32,11 +32,12 @@ impl Model for BasisPlace {
 }
 
 impl BasisPlace {
-    /// The place of a set.
+    /// The place of a set, which is a marked reduced Gröbner basis.
     ///
     /// # Errors
     ///
-    /// Those of `crossable_normals`.
+    /// - `Cone`: a step of the system that decides whether a flip may cross the facet of a normal of the set leaves its range.
+    /// - `Memory`: memory runs out.
     pub fn new(alloc: Global, basis: MarkedSet) -> Result<BasisPlace, TreeError>
         ensures ok { IfOk result (λ p. p ≡ basis) }
         ensures err { (pairs : ℕ) → IfErr result (IsRefusedAtBasis (all_positive basis.variables) pairs basis) }
@@ -46,14 +47,14 @@ impl BasisPlace {
         Ok(BasisPlace { basis, crossable })
     }
 
-    /// The set.
+    /// The set of the place.
     pub fn basis(&self) -> &MarkedSet
         ensures { result.now ≡ self.now }
     {
         &self.basis
     }
 
-    /// The normals that a flip may cross, each once, ascending.
+    /// The normals that a flip may cross, each once, ascending, with an entry for each variable.
     pub fn crossable(&self) -> &[IntVec]
         ensures { AreCrossable self.now.variables (all_positive self.now.variables) self.now.items result.now }
     {

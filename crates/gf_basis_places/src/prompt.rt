@@ -1,4 +1,4 @@
-//! What is told of a basis.
+//! What is printed for a basis.
 ghost use Rattle.std.specs.Prelude.{◌≡◌, ◌++◌, length, OnOk};
 ghost use Rattle.gf_basis_places.specs.Prompts.{facet_line, facet_lines, prompt_text};
 
@@ -7,7 +7,7 @@ use gf_text::{Printer, Ring, push_number};
 use gf_vec::IntVec;
 use std::alloc::AllocError;
 
-/// Adds the line of a facet: its number, a blank, its normal.
+/// Adds the line of a facet: its number, a space, its normal.
 fn push_facet(text: &mut Vec<u8>, number: usize, normal: &IntVec) -> Result<(), AllocError>
     ensures { OnOk result (text.new.items ≡ text.old.items ++ facet_line number normal.now) }
 {
@@ -28,8 +28,12 @@ fn push_facets(text: &mut Vec<u8>, normals: &[IntVec]) -> Result<(), AllocError>
     Ok(())
 }
 
-/// Adds what is told of a basis: the basis and a line end, a line for each normal with its number from 0 on, and `history H` with the number of crossings that
-/// aren't undone.
+/// Adds what is printed for a basis: the basis and a line end, a line for each of the normals with its number, from 0 on, and a line
+/// `history H` with the number of crossings that were not undone. The normals are those that a flip may cross.
+///
+/// # Errors
+///
+/// Only when memory runs out.
 pub fn push_prompt(
     text: &mut Vec<u8>,
     ring: &Ring,
