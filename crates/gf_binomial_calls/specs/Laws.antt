@@ -32,16 +32,16 @@ use Rattle.gf_binomials.specs.Binomials.{IsBinomial, AreBinomials, AreMarkedBino
 use Rattle.gf_binomial_calls.specs.Sets.{IsBinomialSet}
 use Rattle.gf_binomial_calls.specs.Written.{ArePlainlyWritten, written_polynomials}
 
--- the operands of each operation of a flip fit: of a basis in any region of an ideal that such binomials generate, across any
--- normal that may be crossed there
+-- for a basis, in any region, of an ideal that pure difference binomials generate, and a normal that a flip may cross there: the operands
+-- of each operation of the flip fit
 abbrev pub FlipsOfBinomialsFit : Type 0
 FlipsOfBinomialsFit = (n : ℕ) (fs : List Terms) (k : Region) (bs : List MarkedPolynomial) (a : List ℤ) (op : Op) (left right : Fraction) →
     AreInVariables n fs → AreBinomials fs → IsBasisInRegion n fs k bs → IsFlippable n k bs a → IsFlipOperation n bs a op left right →
     Fits op left right
 
--- no refusal tells of two fractions: of a reduction, of autoreduction, of a basis for an order, of a flip, of a search over the
--- bases; nor, of a marked set as it is read, of the tests whether it is a Gröbner basis or the reduced one, of the
--- autoreduction of its monic forms, or of a search over the bases of its ideal
+-- for pure difference binomials no overflow of fractions is reported: not for a reduction, for autoreduction, for a basis for an order, for
+-- a flip, or for a search over the bases. Nor, for a marked set as it is read: for the test whether it is a Gröbner basis, for the test
+-- whether it is the reduced one, for the autoreduction of its monic forms, or for a search over the bases of its ideal
 pub record RefusalsTellNoOverflow : Type 0 where
   pub reduction : (bs : List MarkedPolynomial) (f : Terms) (o : Overflow) → AreMarkedBinomials (Contains bs) → IsBinomial f →
       IsReductionRefusal bs f (errors.Overflow o) → ⊥
@@ -61,7 +61,7 @@ pub record RefusalsTellNoOverflow : Type 0 where
   pub given_search : (n pairs : ℕ) (s : MarkedPolynomials) (o : Overflow) → IsBinomialSet s →
       IsTreeRefusal (ideal_by n (polys s.items)) pairs (tree_errors.Overflow o) → ⊥
 
--- polynomials that are written so are read as such binomials, and no sum of like terms leaves the range
+-- polynomials that are written plainly are read as pure difference binomials, and no sum of like terms leaves the range
 pub record PlainSetsAreBinomials : Type 0 where
   pub meaning : (n : ℕ) (qs : List (List WrittenTerm)) (ws : List Written) → ArePlainlyWritten qs → IsWhatRemains n qs ws → AreBinomials (written_polynomials ws)
   pub sums : (n : ℕ) (qs : List (List WrittenTerm)) (o : Overflow) → ArePlainlyWritten qs → IsCombiningCause n qs (text_errors.Overflow o) → ⊥

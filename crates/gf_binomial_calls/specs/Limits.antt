@@ -25,21 +25,21 @@ use Rattle.gf_binomials.specs.Binomials.{IsBinomialOf, IsBinomial}
 use Rattle.gf_binomial_bases.specs.Laws.{HaveOneMonomial}
 use Rattle.gf_binomial_calls.specs.Sets.{IsBinomialSet}
 
--- a pure difference binomial of which neither monomial divides the other, with exponents below 2^31
+-- f is a pure difference binomial, neither of its monomials divides the other, and its exponents are below 2^31
 pub record IsPlainGenerator (f : Terms) : Type 0 where
   pub binomial : IsBinomial f
   pub antichain : IsAntichain f
   pub short : HasShortExponents f
 
--- the exponents of f are b at most
+-- the exponents of f are at most b
 abbrev pub HasExponentsUpTo : ℕ → Terms → Type 0
 HasExponentsUpTo b f = (x : Exponents) → HasMonomial f x → (i : ℕ) → entry x i ≤ b
 
--- x^p - x^q is such a generator where neither of p and q divides the other. Of its ideal, in each region: the runs by any order and the
--- flips stay within their limits, whatever the budget is; so does the search over its bases unless a step of the system of a
--- normal leaves its range, which none does with three variables at most and exponents and rows of the region up to 500. So do the checks
--- of it as a marked set, with either of its terms marked, and the reduction of that set. Of monomials the search always does: there is nothing to
--- flip, and no normal
+-- generators: x^p - x^q is a plain generator if neither monomial divides the other. runs, flips: for its ideal they stay within their
+-- limits for each order, region and budget. search: so does the search over its bases, unless a step of the system of a normal leaves its
+-- range. small_search: none does with at most three variables, and exponents and rows of the region up to 500. checks, tails: then the
+-- checks of the generator as a marked set, with either term marked, stay within their limits, and so does the reduction of that set.
+-- monomials: the search for an ideal of monomials always does, since it has no normal and no flip
 pub record LimitsAreMet : Type 0 where
   pub generators : (p q : Exponents) (f : Terms) → IsBinomialOf (Some p) (Some q) f → (Divides p q → ⊥) → (Divides q p → ⊥) →
       ((i : ℕ) → entry p i < 2 ^ 31) → ((i : ℕ) → entry q i < 2 ^ 31) → IsPlainGenerator f
