@@ -1,8 +1,8 @@
-pub mod Printing  -- what the commands print alike
-pub mod Forms  -- the polynomials of a set that is read, and what an order needs of a weight and of them
-pub mod Causes  -- why an algorithm is refused, as a refusal of the run
-pub mod CheckedSets  -- how a refusal of a check of a marked set is told
-pub mod ToolForms  -- the form that the small tools, and those on cones, need
+pub mod Printing  -- texts that several commands print
+pub mod Forms  -- the polynomials of a set that is read, and the conditions of an order on a weight and on them
+pub mod Causes  -- refusals of algorithms, as refusals of the run
+pub mod CheckedSets  -- the refusal of a check of a marked set, as one of the run
+pub mod ToolForms  -- checks of the input of the small tools, and of those on cones
 pub mod ReducedSets  -- lists of marked sets that are read as reduced bases
-pub mod Refused  -- a refusal with the ring in whose names it is told
-pub mod Performed  -- what a command does to the output for what it reads
+pub mod Refused  -- a refusal with the ring whose names its message uses
+pub mod Performed  -- the effect of a command on the output, for what it reads

@@ -1,4 +1,4 @@
-//! Checks of the form of what is read.
+//! Checks of the input.
 ghost use Rattle.std.specs.Prelude.{◌≡◌, ◌≤◌, ◌⊎◌, ◌-◌, ◌^◌, Some, None, min, length, IfOk, IfErr, OnOk};
 ghost use Rattle.gf_gordan.specs.Alternative.{AreRows};
 ghost use Rattle.gf_text.specs.Sets.{AreIn, AreNonzero};
@@ -14,7 +14,11 @@ use gf_text::Written;
 use gf_vec::IntVec;
 use std::alloc::Global;
 
-/// Whether the vector has an entry for each of `n` variables.
+/// Checks that the vector has an entry for each of `n` variables.
+///
+/// # Errors
+///
+/// `Dimensions` if it doesn't, with the number of its entries and `n`.
 pub fn check_entries(n: u32, vector: &IntVec) -> Result<(), Refusal>
     ensures ok { OnOk result (length vector.now ≡ n) }
     ensures err { IfErr result (IsLengthRefusal n (Some vector.now)) }
@@ -30,7 +34,13 @@ pub fn check_entries(n: u32, vector: &IntVec) -> Result<(), Refusal>
     Ok(())
 }
 
-/// Whether the polynomials are homogeneous, where the order asks for it. They are counted in 32 bits.
+/// Checks that the polynomials are homogeneous if the order is revlex without a weight; other orders take all polynomials.
+///
+/// # Errors
+///
+/// - `NotHomogeneous` if the order is revlex without a weight and a polynomial isn't homogeneous: the index of the first one, counted from
+///   0, its deglex greatest monomial, and the first one after that of another degree.
+/// - `Memory`: memory runs out, or there are `2^32` polynomials or more.
 pub fn check_degrees(revlex: bool, weight: &Option<IntVec>, set: &[Poly]) -> Result<(), Refusal>
     ensures ok { OnOk result (AreTaken revlex weight.now set.now) }
     ensures err { IfErr result (λ r. IsDegreeRefusal revlex weight.now set.now r ⊎ (r ≡ Refusal.Memory)) }
@@ -51,7 +61,11 @@ pub fn check_degrees(revlex: bool, weight: &Option<IntVec>, set: &[Poly]) -> Res
     }
 }
 
-/// Whether a space of `n` variables has some.
+/// Checks that `n`, the dimension of a space, is at least 1.
+///
+/// # Errors
+///
+/// `Dimensions` if it is 0, with the numbers 0 and 1.
 pub fn check_space(n: u32) -> Result<(), Refusal>
     ensures ok { OnOk result (1 ≤ n) }
     ensures err { IfErr result (IsSpaceRefusal n) }
@@ -63,7 +77,11 @@ pub fn check_space(n: u32) -> Result<(), Refusal>
     Ok(())
 }
 
-/// Whether each vector has an entry for each of `n` variables.
+/// Checks that each vector has an entry for each of `n` variables.
+///
+/// # Errors
+///
+/// `Dimensions` for the first vector that doesn't, with the number of its entries and `n`.
 pub fn check_each(n: u32, vectors: &[IntVec]) -> Result<(), Refusal>
     ensures ok { OnOk result (AreRows n vectors.now) }
     ensures err { IfErr result (FirstFails (for_each n vectors.now)) }
@@ -75,14 +93,19 @@ pub fn check_each(n: u32, vectors: &[IntVec]) -> Result<(), Refusal>
     Ok(())
 }
 
-/// A place as an index; past the greatest index that one.
+/// An index in 32 bits; the greatest one if it doesn't fit.
 fn index_of(place: usize) -> u32
     ensures { result ≡ min place (2 ^ 32 - 1) }
 {
     u32::try_from(place).unwrap_or(u32::MAX)
 }
 
-/// The set of these polynomials in n variables, of which none is zero.
+/// The set of these polynomials in `n` variables, with their marks, if none of them is zero.
+///
+/// # Errors
+///
+/// - `ZeroPolynomial` for the first zero polynomial, with its index, counted from 0, and the number 0 for the set.
+/// - `Memory`: memory runs out.
 pub fn nonzero(alloc: Global, n: u32, written: Vec<Written>) -> Result<MarkedSet, Refusal>
     requires { AreIn n written.items }
     ensures ok { IfOk result (λ s. AreNonzero written.items s.items) }

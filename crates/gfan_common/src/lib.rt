@@ -1,4 +1,4 @@
-//! What the commands have in common: a refusal with the ring in whose names it is told, the form of what is read, and texts.
+//! What several commands use: a refusal with the ring whose names its message uses, checks of the input, and texts.
 #![tactic(auto)]
 
 pub mod checks;

@@ -6,7 +6,11 @@ ghost use Rattle.gf_poly.specs.Marking.{polys};
 use gf_poly::{MarkedSet, Poly};
 use std::alloc::{AllocError, Global};
 
-/// The polynomials of a set, without their marks. None is zero, since each has a marked term.
+/// The polynomials of a marked set in their order, without their marks. None of them is zero, since each has a marked term.
+///
+/// # Errors
+///
+/// Only when memory runs out.
 pub fn polynomials(alloc: Global, set: &MarkedSet) -> Result<Vec<Poly>, AllocError>
     ensures value { IfOk result (λ fs. fs.items ≡ polys set.now.items) }
     ensures some { IfOk result (λ fs. All (λ f. f ≢ []) fs.items) }

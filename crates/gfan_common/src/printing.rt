@@ -1,4 +1,4 @@
-//! What the commands print alike.
+//! Texts that several commands print.
 ghost use Rattle.std.specs.Prelude.{◌≡◌, ◌++◌, ◌∷◌, [], All, flat_map, length, IfOk, OnOk};
 ghost use Rattle.gf_text.specs.PrintedSets.{polynomial_text};
 ghost use Rattle.gf_text.specs.Sets.{AreIn};
@@ -10,7 +10,11 @@ use gf_text::{Printer, Ring, Written};
 use itoa::Buffer;
 use std::alloc::{AllocError, Global};
 
-/// `1` or `0`, and a line end.
+/// The text `1` if `holds`, else `0`, and a line end.
+///
+/// # Errors
+///
+/// Only when memory runs out.
 pub fn verdict(alloc: Global, holds: bool) -> Result<Vec<u8>, AllocError>
     ensures { IfOk result (λ text. text.items ≡ verdict_text holds) }
 {
@@ -20,7 +24,11 @@ pub fn verdict(alloc: Global, holds: bool) -> Result<Vec<u8>, AllocError>
     Ok(text)
 }
 
-/// The ring in a line, and the set.
+/// The text of a ring in a line, then of a marked set in its variables, and a line end.
+///
+/// # Errors
+///
+/// Only when memory runs out.
 pub fn printed(alloc: Global, ring: &Ring, set: &MarkedSet) -> Result<Vec<u8>, AllocError>
     requires { set.now.variables ≡ length ring.now }
     ensures { IfOk result (λ text. IsPrinted ring.now set.now text.items) }
@@ -32,7 +40,7 @@ pub fn printed(alloc: Global, ring: &Ring, set: &MarkedSet) -> Result<Vec<u8>, A
     Ok(text)
 }
 
-/// Adds polynomials, each behind a comma and a line end.
+/// Adds polynomials, each after a comma and a line end.
 fn push_later_polynomials(
     text: &mut Vec<u8>,
     ring: &Ring,
@@ -64,7 +72,12 @@ fn push_polynomials(
     Ok(())
 }
 
-/// The ring in a line, and the set of these polynomials, of which some may be zero.
+/// The text of a ring in a line, then of the set of these polynomials in its variables, one a line, and a line end. Polynomials may be
+/// zero.
+///
+/// # Errors
+///
+/// Only when memory runs out.
 pub fn printed_set(
     alloc: Global,
     ring: &Ring,
@@ -105,7 +118,12 @@ fn push_sets(text: &mut Vec<u8>, ring: &Ring, sets: &[MarkedSet]) -> Result<(), 
     Ok(())
 }
 
-/// The ring in a line, and the list of the sets.
+/// The text of a ring in a line, then of a list of marked sets in its variables, in braces and with a comma on a line of its own between
+/// them, and a line end.
+///
+/// # Errors
+///
+/// Only when memory runs out.
 pub fn printed_list(alloc: Global, ring: &Ring, sets: &[MarkedSet]) -> Result<Vec<u8>, AllocError>
     requires { All (λ s. s.variables ≡ length ring.now) sets.now }
     ensures { IfOk result (λ text. IsPrintedList ring.now sets.now text.items) }
@@ -119,7 +137,11 @@ pub fn printed_list(alloc: Global, ring: &Ring, sets: &[MarkedSet]) -> Result<Ve
     Ok(text)
 }
 
-/// Adds a line: what is counted, and the number.
+/// Adds a line: a label, and the number in decimal digits.
+///
+/// # Errors
+///
+/// Only when memory runs out.
 pub fn push_line(text: &mut Vec<u8>, label: &str, n: u128) -> Result<(), AllocError>
     ensures { OnOk result (text.new.items ≡ text.old.items ++ count_line label.now n) }
 {

@@ -8,7 +8,21 @@ use gf_poly::MarkedSet;
 use gf_reduced::{CheckError, require_reduced};
 use std::alloc::Global;
 
-/// The set at a place as the reduced basis that it is. Sets and members are counted in 32 bits.
+/// The reduced Gröbner basis that a marked set is, up to factors of its members and their order: its members are made monic and arranged.
+/// `place` is the number by which an error names the set.
+///
+/// # Errors
+///
+/// In this order:
+///
+/// - `Overflow`: the quotient of a coefficient by the marked one leaves its range.
+/// - `Inconsistent` if and only if no positive weight gives the marking, with multipliers that show it; `Cone` if a step of the elimination
+///   of the marking's system leaves its range.
+/// - `NotReduced` if and only if a mark divides a term other than itself: the first polynomial with such a term, and its first such term.
+/// - `NotBasis` if and only if the S-polynomial of two of the monic members has a nonzero normal form: the first such pair, with the normal
+///   form. `Overflow` or `Exponent` if the operands of an operation of these S-polynomials and their reductions don't fit.
+///
+/// `Memory`, at any time: memory runs out, or the number of the set or of its members is `2^32` or more.
 pub fn reduced_basis(alloc: Global, set: &MarkedSet, place: usize) -> Result<MarkedSet, CheckError>
     ensures ok { IfOk result (IsReducedAsRead set.now) }
     ensures err { IfErr result (IsReducedRefusal place set.now) }
@@ -19,10 +33,12 @@ pub fn reduced_basis(alloc: Global, set: &MarkedSet, place: usize) -> Result<Mar
     require_reduced(alloc, set, place as u32, &[])
 }
 
-/// The sets, each as the reduced basis that it is.
+/// The reduced Gröbner bases that marked sets are, up to factors of their members and their order, in the order of the sets; the members of
+/// each are made monic and arranged.
 ///
 /// # Errors
-/// The first set that isn't one is refused with its number; want of memory.
+///
+/// Those of `reduced_basis` for the first set that has one, with its number, counted from 0. `Memory`: memory runs out.
 pub fn reduced_bases(alloc: Global, sets: &[MarkedSet]) -> Result<Vec<MarkedSet>, CheckError>
     ensures ok { IfOk result (λ bases. AllZip IsReducedAsRead sets.now bases.items) }
     ensures err { IfErr result (λ e. IsRefusedFrom 0 sets.now e ⊎ (e ≡ CheckError.Memory)) }

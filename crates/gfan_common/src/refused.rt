@@ -15,14 +15,14 @@ use gf_tree::TreeError;
 use gf_weights::WeightError;
 use std::alloc::AllocError;
 
-/// A refusal, with the ring whose names stand in its line where it names monomials.
+/// A refusal, with the ring whose names its message uses if it has monomials.
 #[derive(Drop)]
 pub struct Refused {
     pub refusal: Refusal,
     pub ring: Option<Ring>,
 }
 
-/// Why a marked set isn't taken, as a refusal of the run.
+/// The refusal of a marked set, as one of the run.
 pub fn of_check(error: CheckError) -> Refusal
     ensures { result ≡ of_check error }
 {
@@ -62,7 +62,7 @@ pub fn of_check(error: CheckError) -> Refusal
     }
 }
 
-/// Why a weight or a witness isn't told, as a refusal of the run.
+/// The refusal of the computation of a weight or of witnesses, as one of the run.
 pub fn of_weight_error(error: WeightError) -> Refusal
     ensures { result ≡ of_weight_error error }
 {
@@ -78,7 +78,7 @@ pub fn of_weight_error(error: WeightError) -> Refusal
     }
 }
 
-/// Why rays aren't found, as a refusal of the run.
+/// The refusal of an elimination, or of finding rays, as one of the run.
 pub fn of_gordan(error: GordanError) -> Refusal
     ensures { result ≡ of_gordan error }
 {
@@ -93,7 +93,7 @@ pub fn of_gordan(error: GordanError) -> Refusal
     }
 }
 
-/// Why a basis isn't found, as a refusal of the run.
+/// The refusal of the computation of a basis, as one of the run.
 pub fn of_basis(error: BasisError) -> Refusal
     ensures { result ≡ of_basis error }
 {
@@ -105,7 +105,7 @@ pub fn of_basis(error: BasisError) -> Refusal
     }
 }
 
-/// Why a search over bases is refused, as a refusal of the run.
+/// The refusal of a search over bases, as one of the run.
 pub fn of_tree(error: TreeError) -> Refusal
     ensures { result ≡ of_tree error }
 {
@@ -124,7 +124,7 @@ pub fn of_tree(error: TreeError) -> Refusal
 }
 
 impl Refused {
-    /// Why a marked set of this ring isn't taken.
+    /// The refusal of a marked set of this ring, with the ring.
     pub fn of_check(error: CheckError, ring: Ring) -> Refused
         ensures refusal { result.refusal ≡ of_check error }
         ensures ring { result.ring ≡ Some ring }
@@ -135,7 +135,7 @@ impl Refused {
         }
     }
 
-    /// Writes the refusal's line, as far as the sink takes it. It takes no memory.
+    /// Writes the message of the refusal in a line, as far as the sink takes it. It allocates no memory.
     pub fn tell<E: Sink>(&self, faults: &mut E)
         requires { IsNamedBy self.now.ring self.now.refusal }
         ensures { WrittenAsFar (E.held faults.old) (E.held faults.new) (E.faults faults.old)

@@ -6,7 +6,7 @@ use gf_poly::Poly;
 use gf_text::Written;
 use std::alloc::{AllocError, Global};
 
-/// The polynomial; of one of which nothing remains, zero.
+/// The polynomial that is read; zero if all its terms cancel.
 fn polynomial(alloc: Global, read: &Written) -> Result<Poly, AllocError>
     ensures { IfOk result (λ f. f ≡ polynomial_of read.now) }
 {
@@ -16,7 +16,11 @@ fn polynomial(alloc: Global, read: &Written) -> Result<Poly, AllocError>
     }
 }
 
-/// The polynomials of a set.
+/// The polynomials of a set that is read, in their order, without their marks; a polynomial is zero if all its terms cancel.
+///
+/// # Errors
+///
+/// Only when memory runs out.
 pub fn polynomials(alloc: Global, set: &[Written]) -> Result<Vec<Poly>, AllocError>
     ensures { IfOk result (λ fs. fs.items ≡ generators_of set.now) }
 {
