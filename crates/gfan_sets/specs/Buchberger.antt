@@ -1,4 +1,4 @@
--- `_buchberger`: what it writes, and why it doesn't.
+-- `_buchberger`: its output, and why it is refused.
 use Rattle.std.specs.Prelude.{◌≡◌, ℕ, Bool, true, false, List, [], ◌∷◌, length, Option, None, Some, ℤ}
 use Rattle.gf_exponents.specs.Orders.{gains}
 use Rattle.gf_exponents.specs.SixOrders.{MonomialOrder}
@@ -18,7 +18,7 @@ use Rattle.gfan_common.specs.Causes.{of_basis}
 
 -- ---- the order
 
--- lex or revlex, or first the weight
+-- lex or revlex; with a weight, the weight, ties broken by lex or revlex
 abbrev pub asked_order : Bool → Option (List ℤ) → MonomialOrder
 asked_order false None = MonomialOrder.lex
 asked_order true None = MonomialOrder.revlex
@@ -27,7 +27,7 @@ asked_order true (Some weight) = MonomialOrder.weighted_revlex (gains weight)
 
 -- ---- what is written
 
--- the ring in a line, and the reduced Gröbner basis of these polynomials by the order
+-- the text is the ring in a line, and the reduced Gröbner basis of these polynomials by the order
 pub record IsBasisText (order : MonomialOrder) (ring : List (List ℕ)) (fs : List Terms) (text : List ℕ) : Type 0 where
   pub basis : MarkedPolynomials
   pub is_basis : IsArrangedBasis order (length ring) fs basis

@@ -1,4 +1,4 @@
--- `_doesidealcontain`: what it reads and writes, and why it doesn't.
+-- `_doesidealcontain`: its input, its output, and why it is refused.
 use Rattle.std.specs.Prelude.{◌≡◌, ℕ, List, [], Contains, ◌∷◌}
 use Rattle.gf_poly.specs.declared.error.PolyError.{PolyError}
 use Rattle.gf_poly.specs.Polynomial.{Terms}
@@ -23,21 +23,22 @@ use Rattle.gfan_common.specs.CheckedSets.{of_check, IsSomeReductionRefusal}
 abbrev pub AllAreMembers : ℕ → List Terms → List Terms → Type 0
 AllAreMembers n gs fs = (f : Terms) → Contains fs f → IsMember n gs f
 
--- the set is a Gröbner basis for its marking; 1 where its ideal contains each of the polynomials, and 0 where it doesn't
+-- the set is a Gröbner basis for its marking. The text is that of 1 if its ideal contains each of the polynomials, and that of 0 if it
+-- doesn't
 pub record IsContainmentText (s : MarkedPolynomials) (fs : List Terms) (text : List ℕ) : Type 0 where
   pub basis : IsMarkedGroebnerBasis s.variables s.items
   pub verdict : IsVerdictText (AllAreMembers s.variables (polys s.items) fs) text
 
--- ---- why it isn't written
+-- ---- why it is refused
 
--- the set isn't taken as a basis; or it is one, t are its members made monic and arranged, and a polynomial isn't reduced by them
+-- the set is refused as a basis; or it is one, t has its members made monic and arranged, and the reduction of a polynomial by t is refused
 pub data IsContainmentRefusal (s : MarkedPolynomials) (fs : List Terms) (e : CheckError) : Type 0 where
   at_basis : IsReducedBasisRefusal 0 s e → IsContainmentRefusal s fs e
   at_member : (t : MarkedPolynomials) (d : PolyError) → IsMarkedGroebnerBasis s.variables s.items → IsArranged (monic_set s) t →
       IsSomeReductionRefusal t.items fs d → e ≡ of_poly d → IsContainmentRefusal s fs e
 
--- the set, in its variables as any that is read, is a basis, and no operation of its checks leaves its limits, nor one of the reduction of
--- a polynomial by its members made monic and arranged
+-- the members of the set are in its variables, the set is a basis, no operation of its checks leaves its limits, nor does one of the
+-- reduction of a polynomial by its members made monic and arranged
 pub record IsContainmentWithin (s : MarkedPolynomials) (fs : List Terms) : Type 0 where
   pub variables : HaveVariables s.variables s.items
   pub basis : IsMarkedGroebnerBasis s.variables s.items

@@ -1,4 +1,4 @@
--- `_homogenize`: what it reads and writes, and why it doesn't.
+-- `_homogenize`: its input, its output, and why it is refused.
 use Rattle.std.specs.Prelude.{ℕ, All, List, [], ◌∷◌, ◌++◌, length}
 use Rattle.gf_text.specs.declared.written.Written.{Written}
 use Rattle.gf_small.specs.Homogenization.{AreHomogenizations, IsFirstExponentPastLimit, IsHomogenizedWithinLimit}
@@ -11,13 +11,14 @@ use Rattle.gf_frame.specs.Commands.{Writing, Command}
 use Rattle.gfan_common.specs.Printing.{IsPrintedSet}
 use Rattle.gfan_common.specs.ToolForms.{for_one_more}
 
--- The ring with the new variable as its last one, in a line, and the homogenisations of the polynomials in the order that was read.
+-- the text is the ring with the new variable as its last one, in a line, and the homogenizations of the polynomials in the order in which
+-- they were read
 pub record IsHomogenizedText (ring : List (List ℕ)) (ws : List Written) (name : List ℕ) (text : List ℕ) : Type 0 where
   pub set : List Written
   pub are_homogenized : AreHomogenizations ws set
   pub is_text : IsPrintedSet (ring ++ name ∷ []) set text
 
--- an exponent of the new variable passes the limit, the first one that does, or there is no memory
+-- an exponent of the new variable passes the limit, the first such exponent being reported; or memory runs out
 abbrev pub IsHomogenizeRefusal : List Written → Refusal → Type 0
 IsHomogenizeRefusal ws (refusals.ExponentOverflow o) = IsFirstExponentPastLimit ws o
 IsHomogenizeRefusal ws refusals.Memory = Unit {0}

@@ -1,4 +1,4 @@
--- `_initialforms`: what it reads and writes, and why it doesn't.
+-- `_initialforms`: its input, its output, and why it is refused.
 use Rattle.std.specs.Prelude.{◌≡◌, ℕ, List, [], ◌∷◌, length, ℤ}
 use Rattle.gf_text.specs.declared.written.Written.{Written}
 use Rattle.gf_small.specs.InitialForms.{AreInitialForms}
@@ -10,7 +10,7 @@ use Rattle.gf_frame.specs.Commands.{Writing, Command}
 use Rattle.gfan_common.specs.Printing.{IsPrintedSet}
 use Rattle.gfan_common.specs.ToolForms.{for_variables}
 
--- The ring in a line, and the initial forms of the polynomials by the vector, in the order that was read.
+-- the text is the ring in a line, and the initial forms of the polynomials by the vector, in the order in which the polynomials were read
 pub record IsFormsText (ring : List (List ℕ)) (ws : List Written) (vector : List ℤ) (text : List ℕ) : Type 0 where
   pub forms : List Written
   pub are_forms : AreInitialForms vector ws forms

@@ -1,4 +1,4 @@
--- `_leadingterms`: what it writes, and why it doesn't.
+-- `_leadingterms`: its output, and why it is refused.
 use Rattle.std.specs.Prelude.{◌≡◌, ℕ, Bool, true, false, List, [], map, ◌∷◌}
 use Rattle.gf_poly.specs.Marking.{MarkedPolynomials}
 use Rattle.gf_small.specs.LeadingTerms.{leading_set}
@@ -10,7 +10,7 @@ use Rattle.gf_frame.specs.Readings.{of_one}
 use Rattle.gf_frame.specs.Commands.{Writing, Command}
 use Rattle.gfan_common.specs.Printing.{IsPrinted, IsPrintedList}
 
--- the ring in a line, and the marked terms of the set, or of each set of a list, in the order that was read
+-- the output is the ring in a line, and the marked terms of the set, or of each set of a list, in the order in which they were read
 abbrev pub leading_command : (listed : Bool) → Command
 leading_command false = record {
   Value = List (List ℕ) × MarkedPolynomials;
@@ -33,6 +33,6 @@ leading_command true = record {
   writing = Writing.at_end;
 }
 
--- as the options say
+-- the command `_leadingterms` with these options
 abbrev pub leading_terms_command : LeadingTermsOptions → Command
 leading_terms_command o = leading_command o.listed

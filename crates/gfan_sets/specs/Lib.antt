@@ -1,12 +1,12 @@
-pub mod Buchberger  -- what `_buchberger` reads and writes
-pub mod Questions  -- how what is read is checked, and what is asked then
-pub mod Marked  -- what `_ismarkedgroebnerbasis` reads and writes
-pub mod Containment  -- what `_doesidealcontain` reads and writes
-pub mod LeadingTerms  -- what `_leadingterms` writes
-pub mod MarkPolynomialSet  -- what `_markpolynomialset` reads and writes
-pub mod InitialForms  -- what `_initialforms` reads and writes
-pub mod Homogenize  -- what `_homogenize` reads and writes
-pub mod PolynomialSetUnion  -- what `_polynomialsetunion` reads and writes
-pub mod Stats  -- what `_stats` reads and writes
-pub mod WeightVector  -- what `_weightvector` reads and writes
-pub mod Saturation  -- what `_saturation` reads and writes
+pub mod Buchberger  -- the input and output of `_buchberger`
+pub mod Questions  -- the check of what is read, and the question that it asks
+pub mod Marked  -- the input and output of `_ismarkedgroebnerbasis`
+pub mod Containment  -- the input and output of `_doesidealcontain`
+pub mod LeadingTerms  -- the output of `_leadingterms`
+pub mod MarkPolynomialSet  -- the input and output of `_markpolynomialset`
+pub mod InitialForms  -- the input and output of `_initialforms`
+pub mod Homogenize  -- the input and output of `_homogenize`
+pub mod PolynomialSetUnion  -- the input and output of `_polynomialsetunion`
+pub mod Stats  -- the input and output of `_stats`
+pub mod WeightVector  -- the input and output of `_weightvector`
+pub mod Saturation  -- the input and output of `_saturation`

@@ -1,4 +1,4 @@
--- `_markpolynomialset`: what it reads and writes, and why it doesn't.
+-- `_markpolynomialset`: its input, its output, and why it is refused.
 use Rattle.std.specs.Prelude.{◌≡◌, ℕ, List, [], ◌∷◌, length, ℤ}
 use Rattle.gf_poly.specs.Marking.{MarkedPolynomial, MarkedPolynomials, polys}
 use Rattle.gf_text.specs.declared.written.Written.{Written}
@@ -12,7 +12,8 @@ use Rattle.gf_frame.specs.Commands.{Writing, Command}
 use Rattle.gfan_common.specs.Printing.{IsPrinted}
 use Rattle.gfan_common.specs.ToolForms.{for_variables, without_zero}
 
--- The ring in a line, and the polynomials in the order that was read, each marked at its greatest term by the vector, ties by lex.
+-- the text is the ring in a line, and the polynomials in the order in which they were read, each marked at its greatest term by the vector,
+-- ties broken by lex
 pub record IsMarkedByText (ring : List (List ℕ)) (ws : List Written) (vector : List ℤ) (text : List ℕ) : Type 0 where
   pub items : List MarkedPolynomial
   pub read : AreNonzero ws items

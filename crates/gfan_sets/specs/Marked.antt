@@ -1,4 +1,4 @@
--- `_ismarkedgroebnerbasis`: what it writes, and why it doesn't.
+-- `_ismarkedgroebnerbasis`: its output, and why it is refused.
 use Rattle.std.specs.Prelude.{◌≡◌, ℕ, List, [], ◌∷◌}
 use Rattle.gf_poly.specs.Marking.{MarkedPolynomials}
 use Rattle.gf_reduced.specs.declared.error.CheckError.{CheckError}
@@ -12,7 +12,8 @@ use Rattle.gf_frame.specs.Commands.{Writing, Command}
 use Rattle.gfan_common.specs.Printing.{IsVerdictText}
 use Rattle.gfan_common.specs.CheckedSets.{of_check}
 
--- 1 where the set is a Gröbner basis of the ideal that it generates, for its marking
+-- the command `_ismarkedgroebnerbasis`. The output is 1 if the set is a Gröbner basis of the ideal that it generates, for its marking, and
+-- 0 if it isn't
 abbrev pub marked_command : Command
 marked_command = record {
   Value = List (List ℕ) × MarkedPolynomials;

@@ -1,4 +1,4 @@
--- `_polynomialsetunion`: what it reads and writes, and why it doesn't.
+-- `_polynomialsetunion`: its input, its output, and why it is refused.
 use Rattle.std.specs.Prelude.{◌≡◌, ℕ, List, [], ◌∷◌}
 use Rattle.gf_text.specs.declared.written.Written.{Written}
 use Rattle.gf_small.specs.Unions.{IsUnion}
@@ -9,7 +9,8 @@ use Rattle.gf_frame.specs.Readings.{of_one}
 use Rattle.gf_frame.specs.Commands.{Writing, Command}
 use Rattle.gfan_common.specs.Printing.{IsPrintedSet}
 
--- The ring in a line, and the polynomials of all sets in the order that was read, of equal ones the first.
+-- the text is the ring in a line, and the polynomials of all sets in the order in which they were read, but of equal polynomials only the
+-- first
 pub record IsUnionText (ring : List (List ℕ)) (sets : List (List Written)) (text : List ℕ) : Type 0 where
   pub union : List Written
   pub is_union : IsUnion sets union

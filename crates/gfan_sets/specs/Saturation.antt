@@ -1,4 +1,4 @@
--- `_saturation`: what it writes, and why it doesn't.
+-- `_saturation`: its output, and why it is refused.
 use Rattle.std.specs.Prelude.{◌≡◌, ℕ, false, List, [], ◌∷◌, length, Option, ℤ}
 use Rattle.gf_poly.specs.Polynomial.{Terms}
 use Rattle.gf_poly.specs.Marking.{MarkedPolynomials}
@@ -14,13 +14,14 @@ use Rattle.gfan_common.specs.Forms.{generators_of}
 use Rattle.gfan_common.specs.Causes.{of_basis}
 use Rattle.gfan_common.specs.Printing.{IsPrinted}
 
--- the ring in a line, and the reduced basis by deglex of the saturation of these polynomials' ideal by the product of the variables
+-- the text is the ring in a line, and the reduced basis by deglex of the saturation of these polynomials' ideal by the product of the
+-- variables
 pub record IsSaturationText (ring : List (List ℕ)) (fs : List Terms) (text : List ℕ) : Type 0 where
   pub saturation : MarkedPolynomials
   pub is_saturation : IsSaturation (length ring) fs saturation
   pub is_text : IsPrinted ring saturation text
 
--- the command, with this budget of pairs for each run
+-- the command `_saturation`, with this budget of pairs for each run
 abbrev pub saturation_command : SaturationOptions → Command
 saturation_command o = record {
   Value = List (List ℕ) × (List Written × Option (List ℤ));

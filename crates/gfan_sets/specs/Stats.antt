@@ -1,4 +1,4 @@
--- `_stats`: what it reads and writes, and why it doesn't.
+-- `_stats`: its input, its output, and why it is refused.
 use Rattle.std.specs.Prelude.{◌≡◌, ℕ, List, [], ◌∷◌, length, codes}
 use Rattle.std.specs.List.{concat}
 use Rattle.gf_poly.specs.Marking.{MarkedPolynomials}
@@ -15,7 +15,7 @@ use Rattle.gfan_common.specs.Causes.{of_gordan}
 
 -- ---- what is written
 
--- seven lines
+-- the seven lines of the statistics
 abbrev pub stats_text : Stats → List ℕ
 stats_text s = concat (
     count_line (codes "Number of reduced Groebner bases: ") s.bases
@@ -27,7 +27,7 @@ stats_text s = concat (
     ∷ count_line (codes "Maximal number of terms in a basis: ") s.max_terms
     ∷ [])
 
--- the statistics of the sets in n variables, in seven lines
+-- the text is that of the statistics of the sets in n variables, in seven lines
 pub record IsStatsText (n : ℕ) (sets : List MarkedPolynomials) (text : List ℕ) : Type 0 where
   pub stats : Stats
   pub are_stats : AreStatistics n sets stats

@@ -1,4 +1,4 @@
--- `_weightvector`: what it reads and writes, and why it doesn't.
+-- `_weightvector`: its input, its output, and why it is refused.
 use Rattle.std.specs.Prelude.{◌≡◌, ℕ, Bool, true, false, List, [], ◌∷◌, ◌++◌, length, flat_map, zip, All, Contains, ℤ, pos, ◌<ℤ◌}
 use Rattle.std.specs.List.{AllZip}
 use Rattle.gf_exponents.specs.Orders.{gains}
@@ -28,13 +28,14 @@ use Rattle.gfan_common.specs.ReducedSets.{IsReducedAsRead, AreReducedAsRead, IsR
 
 -- ---- the weights
 
--- v is the weight that is printed of that basis
+-- v is the weight that is printed for the reduced basis that s is
 pub record IsWeightOfSet (s : MarkedPolynomials) (v : List ℤ) : Type 0 where
   pub basis : MarkedPolynomials
   pub read : IsReducedAsRead s basis
   pub weight : IsPrintedWeight basis.variables basis.items v
 
--- v is positive, and the members of s made monic and arranged are the reduced Gröbner basis for v of the ideal of s
+-- v is positive, with an entry for each variable, and the members of s made monic and arranged are the reduced Gröbner basis for v of the
+-- ideal of s
 pub record GivesBasis (s : MarkedPolynomials) (v : List ℤ) : Type 0 where
   pub basis : MarkedPolynomials
   pub arranged : IsArranged (monic_set s) basis
@@ -44,43 +45,43 @@ pub record GivesBasis (s : MarkedPolynomials) (v : List ℤ) : Type 0 where
 
 -- ---- what is written
 
--- of a set and its weight the weight; where sets are echoed the set as it was read, a line end, and the weight
+-- the item of a set and its weight: the weight; if sets are echoed, the set as it was read, a line end, and the weight
 abbrev pub weight_item : Bool → List (List ℕ) → MarkedPolynomials × List ℤ → List ℕ
 weight_item false ring w = vector_text w.1
 weight_item true ring w = basis_text ring w.0.items ++ 10 ∷ vector_text w.1
 
--- the same behind a comma on a line of its own
+-- such an item after a comma on a line of its own
 abbrev pub later_weight_item : Bool → List (List ℕ) → MarkedPolynomials × List ℤ → List ℕ
 later_weight_item echoed ring w = 10 ∷ 44 ∷ 10 ∷ weight_item echoed ring w
 
--- the items of all of them
+-- the items of all sets
 abbrev pub weight_items : Bool → List (List ℕ) → List (MarkedPolynomials × List ℤ) → List ℕ
 weight_items echoed ring [] = []
 weight_items echoed ring (w ∷ ws) = weight_item echoed ring w ++ flat_map (later_weight_item echoed ring) ws
 
--- the ring's line, where sets are echoed
+-- the ring's line if sets are echoed, else nothing
 abbrev pub echoed_ring : Bool → List (List ℕ) → List ℕ
 echoed_ring false ring = []
 echoed_ring true ring = ring_text ring
 
--- a line end behind the items; of a list they stand in braces
+-- the items and a line end; the items of a list are in braces
 abbrev pub enclosed : Bool → List ℕ → List ℕ
 enclosed false items = items ++ 10 ∷ []
 enclosed true items = 123 ∷ (items ++ 125 ∷ 10 ∷ [])
 
--- what is written: the line of the ring where sets are echoed, and the items
+-- the line of the ring if sets are echoed, and the items
 abbrev pub weights_text : Bool → Bool → List (List ℕ) → List (MarkedPolynomials × List ℤ) → List ℕ
 weights_text listed echoed ring ws = echoed_ring echoed ring ++ enclosed listed (weight_items echoed ring ws)
 
--- the weights of the sets, in their order
+-- the text is that of the sets with their weights, in their order
 pub record IsWeightsText (listed echoed : Bool) (ring : List (List ℕ)) (sets : List MarkedPolynomials) (text : List ℕ) : Type 0 where
   pub weights : List (List ℤ)
   pub are_weights : AllZip IsWeightOfSet sets weights
   pub is_text : text ≡ weights_text listed echoed ring (zip sets weights)
 
--- ---- why it isn't written
+-- ---- why it is refused
 
--- the weight of one of the sets isn't told
+-- the weight of one of the sets can't be computed
 pub record IsSomeWeightCause (sets : List MarkedPolynomials) (e : WeightError) : Type 0 where
   pub set : MarkedPolynomials
   pub contained : Contains sets set
@@ -88,14 +89,15 @@ pub record IsSomeWeightCause (sets : List MarkedPolynomials) (e : WeightError) :
   pub read : IsReducedAsRead set basis
   pub cause : IsWeightCause basis.variables basis.items e
 
--- a set isn't taken; or all are, and a weight isn't told; or there is no memory
+-- a set is refused as a reduced basis; or none is, and a weight can't be computed; or memory runs out
 pub data IsUnweighed (sets : List MarkedPolynomials) (r : Refusal) : Type 0 where
   at_set : (e : CheckError) → IsRefusedFrom 0 sets e → r ≡ of_check e → IsUnweighed sets r
   at_weight : (e : WeightError) → AreReducedAsRead sets →
       IsSomeWeightCause sets e → r ≡ of_weight_error e → IsUnweighed sets r
   no_memory : r ≡ refusals.Memory → IsUnweighed sets r
 
--- the set, in its variables as any that is read, is reduced and a basis, and no operation of its checks or of its weight leaves its limits
+-- the members of the set are in its variables, the set is a reduced basis, and no operation of its checks or of its weight leaves its
+-- limits
 pub record IsWeighedWithin (s : MarkedPolynomials) : Type 0 where
   pub variables : HaveVariables s.variables s.items
   pub basis : IsMarkedGroebnerBasis s.variables s.items
@@ -105,7 +107,7 @@ pub record IsWeighedWithin (s : MarkedPolynomials) : Type 0 where
 
 -- ---- the command
 
--- of a set, or of each set of a list
+-- the command for a single set, or for each set of a list
 abbrev pub weights_command : (listed echoed : Bool) → Command
 weights_command false echoed = record {
   Value = List (List ℕ) × MarkedPolynomials;
@@ -128,6 +130,6 @@ weights_command true echoed = record {
   writing = Writing.at_end;
 }
 
--- as the options say
+-- the command `_weightvector` with these options
 abbrev pub weight_vector_command : WeightVectorOptions → Command
 weight_vector_command o = weights_command o.listed o.echoed

@@ -1,4 +1,4 @@
-//! What `_buchberger` writes for an input.
+//! The output of `_buchberger` for an input.
 ghost use Rattle.std.specs.Prelude.{◌≡◌, ◌⊎◌, ◌∷◌, [], length, IfOk, IfErr, OnOk};
 ghost use Rattle.std.specs.Option.{ForSome};
 ghost use Rattle.gf_text.specs.Sets.{AreIn};
@@ -23,7 +23,7 @@ use gfan_common::refused::{Refused, of_basis};
 use gfan_common::written_sets::polynomials;
 use std::alloc::Global;
 
-/// What is to be worked out: the basis of these polynomials by this order.
+/// The question of a run: the reduced Gröbner basis of these polynomials by this order.
 #[derive(Drop)]
 struct Question {
     generators: Vec<Poly>,
@@ -32,7 +32,7 @@ struct Question {
 
 // ---- the form
 
-/// Whether the weight has an entry for each of `n` variables.
+/// Checks that the weight, if there is one, has an entry for each of `n` variables.
 fn check_length(n: u32, weight: &Option<IntVec>) -> Result<(), Refusal>
     ensures ok { OnOk result (FitsVariables n weight.now) }
     ensures err { IfErr result (IsLengthRefusal n weight.now) }
@@ -43,7 +43,7 @@ fn check_length(n: u32, weight: &Option<IntVec>) -> Result<(), Refusal>
     check_entries(n, weight)
 }
 
-/// Lex or revlex, or first the weight.
+/// Lex or revlex; with a weight, the weight, ties broken by lex or revlex.
 fn chosen(revlex: bool, weight: Option<IntVec>) -> Result<Order, NotTermOrder>
     requires { ForSome weight IsCountable }
     ensures order { IfOk result (λ order. order ≡ asked_order revlex weight) }
@@ -58,7 +58,7 @@ fn chosen(revlex: bool, weight: Option<IntVec>) -> Result<Order, NotTermOrder>
     }
 }
 
-/// The polynomials, and the order that takes them.
+/// The polynomials, and an order whose conditions they meet.
 fn checked(
     alloc: Global,
     n: u32,
@@ -81,7 +81,7 @@ fn checked(
 
 // ---- the job
 
-/// The answer to what is read.
+/// The output for what is read.
 fn job(
     alloc: Global,
     ring: &Ring,
@@ -112,21 +112,22 @@ fn job(
     Ok(text)
 }
 
-/// The ring of the source in a line, and then the reduced Gröbner basis of its set: by lex, or with `revlex` by revlex; with
-/// `weighted` by the weight that stands behind the set, and ties by lex or revlex. The budget of each run of
-/// Buchberger's algorithm, and of each flip of a walk that is tried where numbers don't fit, is `pairs` pairs.
+/// The ring of the source in a line, and then the reduced Gröbner basis of the ideal of its set: by lex, or with the option `revlex` by
+/// revlex; with `weighted` by the weight that follows the set, ties broken by lex or revlex. Each run of Buchberger's algorithm, and each
+/// flip of a walk that is tried if numbers don't fit, may settle `pairs` pairs.
 ///
 /// # Errors
 ///
-/// - `Syntax`, `TooWide`, `UnknownName` and `TooManyVariables` exactly where the source isn't the text of a ring, of a set in it
-///   and of a weight where one is read, at the first token after which no such text goes on.
-/// - `Dimensions` exactly where the weight has another number of entries than the ring has variables.
-/// - `NotTermOrder` exactly where an entry of the weight is below 0, or before revlex below 1, at the first one.
-/// - `NotHomogeneous` exactly where the order is revlex without a weight and a polynomial isn't homogeneous: the first one,
-///   counting zero polynomials, its deglex greatest monomial, and the first one after that of another degree.
-/// - `Overflow` and `ExponentOverflow` only at a sum of the text, or at an operation that a run of Buchberger's algorithm on the
-///   set by this order may have, and whose operands don't fit.
-/// - `PairBudget` only where a run on the set by this order would have to settle more than `pairs` pairs.
+/// - `Syntax`, `TooWide`, `UnknownName`, `TooManyVariables` if and only if the source isn't the text of a ring, of a set in it and, with
+///   `weighted`, of a weight: at the first token after which no such text continues.
+/// - `Dimensions` if and only if the weight has another number of entries than the ring has variables.
+/// - `NotTermOrder` if and only if an entry of the weight is below 0, or with `revlex` below 1: the first one.
+/// - `NotHomogeneous` if and only if the order is revlex without a weight and a polynomial isn't homogeneous: the index of the first one,
+///   where zero polynomials count, its deglex greatest monomial, and the first one after that of another degree.
+/// - `Overflow`, `ExponentOverflow`: the operands of a sum of the text, or of an operation of a run of Buchberger's algorithm on the set by
+///   this order, don't fit.
+/// - `PairBudget`: such a run has more than `pairs` pairs to settle.
+/// - `Memory`: memory runs out.
 pub fn answer(alloc: Global, source: &[u8], options: BuchbergerOptions) -> Result<Vec<u8>, Refused>
     ensures ok { IfOk result (λ text. IsAnswered (buchberger_command options) (source.now ∷ []) text.items) }
     ensures err { IfErr result (λ e. IsRefusedOn (buchberger_command options) (source.now ∷ []) e.refusal) }

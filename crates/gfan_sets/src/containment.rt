@@ -1,4 +1,4 @@
-//! What `_doesidealcontain` writes for an input.
+//! The output of `_doesidealcontain` for an input.
 ghost use Rattle.std.specs.Prelude.{◌↔◌, IfOk, IfErr, IsTrue, [], ◌∷◌};
 ghost use Rattle.gf_poly.specs.Marking.{polys};
 ghost use Rattle.gf_ideal.specs.Membership.{IsMember};
@@ -33,7 +33,7 @@ fn contains_one(alloc: Global, basis: &MarkedSet, read: &Written) -> Result<bool
     }
 }
 
-/// Whether it contains each of them.
+/// Whether the ideal of the basis contains each of the polynomials.
 fn contains_all(alloc: Global, basis: &MarkedSet, set: &[Written]) -> Result<bool, PolyError>
     requires basis { IsBasis basis.now.variables (polys basis.now.items) basis.now.items }
     requires variables { AreIn basis.now.variables set.now }
@@ -49,8 +49,8 @@ fn contains_all(alloc: Global, basis: &MarkedSet, set: &[Written]) -> Result<boo
     Ok(true)
 }
 
-/// Whether the ideal of a marked set contains each of the polynomials, where the set is a Gröbner basis for its marking. Its members
-/// are counted in 32 bits.
+/// Whether the ideal of a marked set contains each of the polynomials, if the set is a Gröbner basis for its marking. It has fewer than
+/// `2^32` members.
 fn decided(alloc: Global, marked: &MarkedSet, set: &[Written]) -> Result<bool, CheckError>
     requires { AreIn marked.now.variables set.now }
     ensures basis { IfOk result (λ _. IsMarkedGroebnerBasis marked.now.variables marked.now.items) }
@@ -65,21 +65,22 @@ fn decided(alloc: Global, marked: &MarkedSet, set: &[Written]) -> Result<bool, C
     Ok(are)
 }
 
-/// `1` and a line end where the ideal that the marked set of the source generates contains each polynomial of the set behind it, and
-/// `0` and a line end where it doesn't: a whole multiple of the polynomial is a sum of multiples of the members by polynomials with
-/// whole coefficients. The marked set is a Gröbner basis for its marking; it needn't be reduced.
+/// `1` and a line end if the ideal that the marked set of the source generates contains each polynomial of the set that follows it; `0` and
+/// a line end if it doesn't. A polynomial is in the ideal if its product with some nonzero integer is a sum of multiples of the members by
+/// polynomials with integer coefficients. The marked set is a Gröbner basis for its marking; it need not be reduced.
 ///
 /// # Errors
 ///
-/// - `Syntax`, `TooWide`, `UnknownName` and `TooManyVariables` exactly where the source isn't the text of a ring and of two
-///   sets in it, at the first token after which no such text goes on.
-/// - `ZeroPolynomial` where nothing remains of a polynomial of the marked set, with the index of the first one.
-/// - `Inconsistent` exactly where no positive weight gives the marking, with multipliers that show it.
-/// - `NotBasis` exactly where one does, and the S-polynomial of two members made monic has another normal form than zero: the first
-///   such pair, with that normal form.
-/// - `Overflow` and `ExponentOverflow` only at a sum of the text, or at an operation of the checks or of the reduction of a polynomial
-///   whose operands don't fit.
-/// - `ConeOverflow` only at a step of the elimination of the marking's system.
+/// - `Syntax`, `TooWide`, `UnknownName`, `TooManyVariables` if and only if the source isn't the text of a ring and of two sets in it: at
+///   the first token after which no such text continues.
+/// - `ZeroPolynomial` if all terms of a polynomial of the marked set cancel: the index of the first one.
+/// - `Inconsistent` if and only if no positive weight gives the marking, with multipliers that show it.
+/// - `NotBasis` if and only if some positive weight does, and the S-polynomial of two members made monic has a nonzero normal form: the
+///   first such pair, with the normal form.
+/// - `Overflow`, `ExponentOverflow`: the operands of a sum of the text, or of an operation of the checks or of the reduction of a
+///   polynomial, don't fit.
+/// - `ConeOverflow`: a step of the elimination of the marking's system leaves its range.
+/// - `Memory`: memory runs out.
 pub fn answer(alloc: Global, source: &[u8]) -> Result<Vec<u8>, Refused>
     ensures ok { IfOk result (λ text. IsAnswered containment_command (source.now ∷ []) text.items) }
     ensures err { IfErr result (λ e. IsRefusedOn containment_command (source.now ∷ []) e.refusal) }

@@ -1,4 +1,4 @@
-//! What `_homogenize` writes for an input.
+//! The output of `_homogenize` for an input.
 ghost use Rattle.std.specs.Prelude.{◌≡◌, true, false, length, None, IfOk, IfErr, [], ◌∷◌};
 ghost use Rattle.gf_text.specs.RingText.{is_name, has};
 ghost use Rattle.gf_text.specs.Sets.{AreIn};
@@ -14,7 +14,7 @@ use gfan_common::printing::printed_set;
 use gfan_common::refused::Refused;
 use std::alloc::Global;
 
-/// What is written for what is read.
+/// The output for what is read.
 fn text_of(alloc: Global, ring: &Ring, set: &[Written], name: &[u8]) -> Result<Vec<u8>, Refusal>
     requires variables { AreIn (length ring.now) set.now }
     requires named { is_name name.now ≡ true }
@@ -35,16 +35,19 @@ fn text_of(alloc: Global, ring: &Ring, set: &[Written], name: &[u8]) -> Result<V
     Ok(text)
 }
 
-/// The ring of the source with the variable whose name stands behind the set as its last one, in a line, and the set in the order that was
-/// read, each polynomial made homogeneous of its total degree by powers of that variable. What was marked stays marked.
+/// The ring of the source in a line, with a new last variable whose name follows the set, and the homogenizations of the polynomials of the
+/// set, in the order in which they were read: each is made homogeneous of its total degree by powers of the new variable. Its mark is the
+/// term that the marked term becomes.
 ///
 /// # Errors
 ///
-/// - `Syntax`, `TooWide`, `UnknownName` and `TooManyVariables` exactly where the source isn't the text of a ring, of a set in it and of a
-///   name that the ring doesn't have, at the first token after which no such text goes on; a name that it has is a repeated one.
-/// - `TooManyVariables` too, with the new number, exactly where the source is such a text and the ring has `MOST_VARIABLES` variables.
-/// - `Overflow` only at a sum of the text. `ExponentOverflow` only at such a sum, or at the first power of the new variable that passes
-///   `2^31 - 1`, with that limit and what the power is more.
+/// - `Syntax`, `TooWide`, `UnknownName`, `TooManyVariables` if and only if the source isn't the text of a ring, of a set in it and of a
+///   name that the ring doesn't have: at the first token after which no such text continues; a name that the ring has is a repeated one.
+/// - `TooManyVariables`, with the new number, also if and only if the source is such a text and the ring has `MOST_VARIABLES` variables.
+/// - `Overflow`: the operands of a sum of the text don't fit.
+/// - `ExponentOverflow`: the operands of a sum of the text don't fit; or the first power of the new variable that is greater than
+///   `2^31 - 1`, with that limit and the difference of the power and the limit.
+/// - `Memory`: memory runs out.
 pub fn answer(alloc: Global, source: &[u8]) -> Result<Vec<u8>, Refused>
     ensures ok { IfOk result (λ text. IsAnswered homogenize_command (source.now ∷ []) text.items) }
     ensures err { IfErr result (λ e. IsRefusedOn homogenize_command (source.now ∷ []) e.refusal) }

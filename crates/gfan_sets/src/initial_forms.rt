@@ -1,4 +1,4 @@
-//! What `_initialforms` writes for an input.
+//! The output of `_initialforms` for an input.
 ghost use Rattle.std.specs.Prelude.{length, None, IfOk, IfErr, [], ◌∷◌};
 ghost use Rattle.gf_text.specs.Sets.{AreIn};
 ghost use Rattle.gf_text.specs.Vectors.{AreEntriesWithin};
@@ -15,7 +15,7 @@ use gfan_common::printing::printed_set;
 use gfan_common::refused::Refused;
 use std::alloc::Global;
 
-/// What is written for what is read.
+/// The output for what is read.
 fn text_of(alloc: Global, ring: &Ring, set: &[Written], vector: &IntVec) -> Result<Vec<u8>, Refusal>
     requires variables { AreIn (length ring.now) set.now }
     requires within { AreEntriesWithin vector.now }
@@ -29,16 +29,17 @@ fn text_of(alloc: Global, ring: &Ring, set: &[Written], vector: &IntVec) -> Resu
     Ok(text)
 }
 
-/// The ring of the source in a line, and the initial forms of its set by the vector behind it, in the order that was read: of each polynomial
-/// the sum of the terms that are greatest by the vector. The marked term stays marked where it is one of these; else the greatest by
-/// degree and then lex is. The initial form of zero is zero.
+/// The ring of the source in a line, and the initial forms of the polynomials of its set by the vector that follows the set, in the order
+/// in which they were read: of each polynomial the sum of the terms of greatest weight. The mark of an initial form is the marked term of
+/// the polynomial if the initial form has it, and else its deglex greatest term. The initial form of zero is zero.
 ///
 /// # Errors
 ///
-/// - `Syntax`, `TooWide`, `UnknownName` and `TooManyVariables` exactly where the source isn't the text of a ring, of a set in it and of a
-///   vector, at the first token after which no such text goes on.
-/// - `Dimensions` exactly where the vector has another number of entries than the ring has variables.
-/// - `Overflow` and `ExponentOverflow` only at a sum of the text.
+/// - `Syntax`, `TooWide`, `UnknownName`, `TooManyVariables` if and only if the source isn't the text of a ring, of a set in it and of a
+///   vector: at the first token after which no such text continues.
+/// - `Dimensions` if and only if the vector has another number of entries than the ring has variables.
+/// - `Overflow`, `ExponentOverflow`: the operands of a sum of the text don't fit.
+/// - `Memory`: memory runs out.
 pub fn answer(alloc: Global, source: &[u8]) -> Result<Vec<u8>, Refused>
     ensures ok { IfOk result (λ text. IsAnswered initial_forms_command (source.now ∷ []) text.items) }
     ensures err { IfErr result (λ e. IsRefusedOn initial_forms_command (source.now ∷ []) e.refusal) }

@@ -1,4 +1,4 @@
-//! What `_leadingterms` writes for an input.
+//! The output of `_leadingterms` for an input.
 ghost use Rattle.std.specs.Prelude.{◌≡◌, true, false, map, IfOk, IfErr, [], ◌∷◌};
 ghost use Rattle.gf_small.specs.LeadingTerms.{leading_set};
 ghost use Rattle.gf_frame.specs.Commands.{IsAnswered, IsRefusedOn};
@@ -24,7 +24,7 @@ fn leading_sets(alloc: Global, sets: &[MarkedSet]) -> Result<Vec<MarkedSet>, All
     Ok(found)
 }
 
-/// What is written for a source with one set.
+/// The output for a source with a single set.
 fn of_set(alloc: Global, source: &[u8]) -> Result<Vec<u8>, Refused>
     ensures ok { IfOk result (λ text. IsAnswered (leading_command false) (source.now ∷ []) text.items) }
     ensures err { IfErr result (λ e. IsRefusedOn (leading_command false) (source.now ∷ []) e.refusal) }
@@ -36,7 +36,7 @@ fn of_set(alloc: Global, source: &[u8]) -> Result<Vec<u8>, Refused>
     Ok(text)
 }
 
-/// What is written for a source with a list of sets.
+/// The output for a source with a list of sets.
 fn of_list(alloc: Global, source: &[u8]) -> Result<Vec<u8>, Refused>
     ensures ok { IfOk result (λ text. IsAnswered (leading_command true) (source.now ∷ []) text.items) }
     ensures err { IfErr result (λ e. IsRefusedOn (leading_command true) (source.now ∷ []) e.refusal) }
@@ -48,16 +48,17 @@ fn of_list(alloc: Global, source: &[u8]) -> Result<Vec<u8>, Refused>
     Ok(text)
 }
 
-/// The ring of the source in a line, and the marked terms of its marked set, or where a list is asked for of each set of its list,
-/// with their coefficients, in the order that was read.
+/// The ring of the source in a line, and the marked terms of its marked set, or with the option `listed` of each set of its list, with
+/// their coefficients, in the order in which they were read.
 ///
 /// # Errors
 ///
-/// - `Syntax`, `TooWide`, `UnknownName` and `TooManyVariables` exactly where the source isn't the text of a ring and of a
-///   set, or a list of sets, in it, at the first token after which no such text goes on.
-/// - `ZeroPolynomial` where nothing remains of a polynomial, with the number of the first set that has such a one, and the index of the
-///   first one in it.
-/// - `Overflow` and `ExponentOverflow` only at a sum of the text.
+/// - `Syntax`, `TooWide`, `UnknownName`, `TooManyVariables` if and only if the source isn't the text of a ring and of a set, or a list of
+///   sets, in it: at the first token after which no such text continues.
+/// - `ZeroPolynomial` if all terms of a polynomial cancel: the number of the first set with such a polynomial, and the index of the first
+///   one in it.
+/// - `Overflow`, `ExponentOverflow`: the operands of a sum of the text don't fit.
+/// - `Memory`: memory runs out.
 pub fn answer(
     alloc: Global,
     source: &[u8],

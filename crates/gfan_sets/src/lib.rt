@@ -1,6 +1,7 @@
-//! The commands on sets of polynomials and on single bases, each a module: from the bytes of the input to the text of the answer.
+//! The commands on sets of polynomials and on single bases, each a module with a function from the bytes of the input to the bytes of the
+//! output.
 //!
-//! What each writes, and why it doesn't, is said in `specs/`, a command a file.
+//! `specs/` has a file for each command: its output, and why it is refused.
 #![tactic(auto)]
 
 pub mod buchberger;

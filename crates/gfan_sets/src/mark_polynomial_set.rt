@@ -1,4 +1,4 @@
-//! What `_markpolynomialset` writes for an input.
+//! The output of `_markpolynomialset` for an input.
 ghost use Rattle.std.specs.Prelude.{[], length, None, IfOk, IfErr, ◌∷◌};
 ghost use Rattle.gf_text.specs.Sets.{AreIn};
 ghost use Rattle.gf_text.specs.Vectors.{AreEntriesWithin};
@@ -17,7 +17,7 @@ use gfan_common::printing::printed;
 use gfan_common::refused::Refused;
 use std::alloc::Global;
 
-/// What is written for what is read.
+/// The output for what is read.
 fn text_of(
     alloc: Global,
     ring: &Ring,
@@ -39,16 +39,18 @@ fn text_of(
     Ok(text)
 }
 
-/// The ring of the source in a line, and its set in the order that was read, each polynomial marked at the term that is greatest by the
-/// vector behind the set; where several are, at the greatest of them by lex.
+/// The ring of the source in a line, and the polynomials of its set in the order in which they were read, each marked at its term of
+/// greatest weight by the vector that follows the set, ties broken by lex.
 ///
 /// # Errors
 ///
-/// - `Syntax`, `TooWide`, `UnknownName` and `TooManyVariables` exactly where the source isn't the text of a ring, of a set in it and of a
-///   vector, at the first token after which no such text goes on.
-/// - `Dimensions` exactly where the vector has another number of entries than the ring has variables.
-/// - `ZeroPolynomial` exactly where the vector has its length and nothing remains of a polynomial, with the index of the first one.
-/// - `Overflow` and `ExponentOverflow` only at a sum of the text.
+/// - `Syntax`, `TooWide`, `UnknownName`, `TooManyVariables` if and only if the source isn't the text of a ring, of a set in it and of a
+///   vector: at the first token after which no such text continues.
+/// - `Dimensions` if and only if the vector has another number of entries than the ring has variables.
+/// - `ZeroPolynomial` if and only if the vector has an entry for each variable and all terms of a polynomial cancel: the index of the first
+///   one.
+/// - `Overflow`, `ExponentOverflow`: the operands of a sum of the text don't fit.
+/// - `Memory`: memory runs out.
 pub fn answer(alloc: Global, source: &[u8]) -> Result<Vec<u8>, Refused>
     ensures ok { IfOk result (λ text. IsAnswered mark_polynomial_set_command (source.now ∷ []) text.items) }
     ensures err { IfErr result (λ e. IsRefusedOn mark_polynomial_set_command (source.now ∷ []) e.refusal) }

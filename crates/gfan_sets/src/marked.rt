@@ -1,4 +1,4 @@
-//! What `_ismarkedgroebnerbasis` writes for an input.
+//! The output of `_ismarkedgroebnerbasis` for an input.
 ghost use Rattle.std.specs.Prelude.{IfOk, IfErr, [], ◌∷◌};
 ghost use Rattle.gf_frame.specs.Commands.{IsAnswered, IsRefusedOn};
 ghost use Rattle.gfan_common.specs.Refused.{IsOfSource};
@@ -10,16 +10,18 @@ use gfan_common::printing::verdict;
 use gfan_common::refused::Refused;
 use std::alloc::Global;
 
-/// `1` and a line end where the marked set of the source is a Gröbner basis of the ideal that it generates, for its marking, and `0`
-/// and a line end where it isn't, as `is_marked_basis` of `gf_reduced` has it.
+/// `1` and a line end if the marked set of the source is a Gröbner basis of the ideal that it generates, for its marking; `0` and a line
+/// end if it isn't. It is one if some positive weight sets each marked monomial above the other ones of its polynomial, and for each member
+/// of the ideal each monomial of greatest weight is divisible by a marked monomial.
 ///
 /// # Errors
 ///
-/// - `Syntax`, `TooWide`, `UnknownName` and `TooManyVariables` exactly where the source isn't the text of a ring and of a
-///   set in it, at the first token after which no such text goes on.
-/// - `ZeroPolynomial` where nothing remains of a polynomial of the set, with the index of the first one.
-/// - `Overflow` and `ExponentOverflow` only at a sum of the text, or at an operation of the test whose operands don't fit.
-/// - `ConeOverflow` only at a step of the elimination of the marking's system.
+/// - `Syntax`, `TooWide`, `UnknownName`, `TooManyVariables` if and only if the source isn't the text of a ring and of a set in it: at the
+///   first token after which no such text continues.
+/// - `ZeroPolynomial` if all terms of a polynomial of the set cancel: the index of the first one.
+/// - `Overflow`, `ExponentOverflow`: the operands of a sum of the text, or of an operation of the test, don't fit.
+/// - `ConeOverflow`: a step of the elimination of the marking's system leaves its range.
+/// - `Memory`: memory runs out.
 pub fn answer(alloc: Global, source: &[u8]) -> Result<Vec<u8>, Refused>
     ensures ok { IfOk result (λ text. IsAnswered marked_command (source.now ∷ []) text.items) }
     ensures err { IfErr result (λ e. IsRefusedOn marked_command (source.now ∷ []) e.refusal) }

@@ -1,4 +1,4 @@
-//! What `_saturation` writes for an input.
+//! The output of `_saturation` for an input.
 ghost use Rattle.std.specs.Prelude.{◌∷◌, [], None, length, IfOk, IfErr};
 ghost use Rattle.gf_text.specs.Sets.{AreIn};
 ghost use Rattle.gf_frame.specs.Commands.{IsAnswerFor, IsUnanswered, IsAnswered, IsRefusedOn};
@@ -14,7 +14,7 @@ use gfan_common::refused::{Refused, of_basis};
 use gfan_common::written_sets::polynomials;
 use std::alloc::Global;
 
-/// What is written for what is read.
+/// The output for what is read.
 fn text_of(
     alloc: Global,
     ring: &Ring,
@@ -35,16 +35,17 @@ fn text_of(
     Ok(text)
 }
 
-/// The ring of the source in a line, and then the reduced Gröbner basis by deglex of the saturation of its set's ideal by the product of all
-/// variables. The options give the budget of pairs of each run of Buchberger's algorithm.
+/// The ring of the source in a line, and then the reduced Gröbner basis by deglex of the saturation of the ideal of its set by the product
+/// of all variables. Each run of Buchberger's algorithm may settle as many pairs as the options say.
 ///
 /// # Errors
 ///
-/// - `Syntax`, `TooWide`, `UnknownName` and `TooManyVariables` exactly where the source isn't the text of a ring and of a set in it, at
-///   the first token after which no such text goes on.
-/// - `Overflow` and `ExponentOverflow` only at a sum of the text, or at an operation that a run of Buchberger's algorithm may have on what one
-///   of the variables is taken out of, or at the end on what generates the saturation, and whose operands don't fit.
-/// - `PairBudget` only where such a run would have to settle more pairs than that.
+/// - `Syntax`, `TooWide`, `UnknownName`, `TooManyVariables` if and only if the source isn't the text of a ring and of a set in it: at the
+///   first token after which no such text continues.
+/// - `Overflow`, `ExponentOverflow`: the operands of a sum of the text don't fit, or those of an operation of a run of Buchberger's
+///   algorithm, on the polynomials from which one of the variables is taken out or, at the end, on those that generate the saturation.
+/// - `PairBudget`: such a run has more pairs to settle.
+/// - `Memory`: memory runs out.
 pub fn answer(alloc: Global, source: &[u8], options: SaturationOptions) -> Result<Vec<u8>, Refused>
     ensures ok { IfOk result (λ text. IsAnswered (saturation_command options) (source.now ∷ []) text.items) }
     ensures err { IfErr result (λ e. IsRefusedOn (saturation_command options) (source.now ∷ []) e.refusal) }

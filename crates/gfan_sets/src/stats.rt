@@ -1,4 +1,4 @@
-//! What `_stats` writes for an input.
+//! The output of `_stats` for an input.
 ghost use Rattle.std.specs.Prelude.{◌≡◌, IfOk, IfErr, [], ◌∷◌};
 ghost use Rattle.gf_frame.specs.Commands.{IsAnswered, IsRefusedOn};
 ghost use Rattle.gfan_common.specs.Refused.{IsOfSource};
@@ -53,16 +53,17 @@ fn printed_stats(alloc: Global, stats: &Stats) -> Result<Vec<u8>, AllocError>
     Ok(text)
 }
 
-/// Seven lines with numbers of the list of marked sets of the source.
+/// Seven lines with statistics of the list of marked sets of the source.
 ///
 /// # Errors
 ///
-/// - `Syntax`, `TooWide`, `UnknownName` and `TooManyVariables` exactly where the source isn't the text of a ring and of a list of sets in
-///   it, at the first token after which no such text goes on.
-/// - `ZeroPolynomial` where nothing remains of a polynomial, with the number of the first set that has such a one, and the index of the
-///   first one in it.
-/// - `Overflow` and `ExponentOverflow` only at a sum of the text.
-/// - `ConeOverflow` only at a step of the elimination that gives the dimension of the homogeneity space.
+/// - `Syntax`, `TooWide`, `UnknownName`, `TooManyVariables` if and only if the source isn't the text of a ring and of a list of sets in it:
+///   at the first token after which no such text continues.
+/// - `ZeroPolynomial` if all terms of a polynomial cancel: the number of the first set with such a polynomial, and the index of the first
+///   one in it.
+/// - `Overflow`, `ExponentOverflow`: the operands of a sum of the text don't fit.
+/// - `ConeOverflow`: a step of the elimination that gives the dimension of the homogeneity space leaves its range.
+/// - `Memory`: memory runs out.
 pub fn answer(alloc: Global, source: &[u8]) -> Result<Vec<u8>, Refused>
     ensures ok { IfOk result (λ text. IsAnswered stats_command (source.now ∷ []) text.items) }
     ensures err { IfErr result (λ e. IsRefusedOn stats_command (source.now ∷ []) e.refusal) }

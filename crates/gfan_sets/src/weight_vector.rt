@@ -1,4 +1,4 @@
-//! What `_weightvector` writes for an input.
+//! The output of `_weightvector` for an input.
 ghost use Rattle.std.specs.Prelude.{◌≡◌, ◌⊎◌, ◌++◌, All, Contains, length, flat_map, zip, true, false, IfOk, IfErr, OnOk, [], ◌∷◌};
 ghost use Rattle.std.specs.List.{AllZip};
 ghost use Rattle.gf_poly.specs.Marking.{MarkedPolynomials};
@@ -35,7 +35,7 @@ fn weights_of(alloc: Global, bases: &[MarkedSet]) -> Result<Vec<IntVec>, WeightE
     Ok(weights)
 }
 
-/// The weights of the sets: first each is checked, then each is weighed.
+/// The weights of the sets: first each set is checked, then each weight is computed.
 fn weighed(alloc: Global, sets: &[MarkedSet]) -> Result<Vec<IntVec>, Refusal>
     ensures ok { IfOk result (λ weights. AllZip IsWeightOfSet sets.now weights.items) }
     ensures err { IfErr result (IsUnweighed sets.now) }
@@ -52,7 +52,7 @@ fn weighed(alloc: Global, sets: &[MarkedSet]) -> Result<Vec<IntVec>, Refusal>
 
 // ---- the text
 
-/// Adds the line of the ring where sets are echoed.
+/// Adds the line of the ring if sets are echoed.
 fn push_ring(text: &mut Vec<u8>, ring: &Ring, echoed: bool) -> Result<(), AllocError>
     ensures { OnOk result (text.new.items ≡ text.old.items ++ echoed_ring echoed ring.now) }
 {
@@ -62,7 +62,7 @@ fn push_ring(text: &mut Vec<u8>, ring: &Ring, echoed: bool) -> Result<(), AllocE
     Ok(())
 }
 
-/// Adds a weight, behind its set where that is echoed.
+/// Adds a weight, after its set if sets are echoed.
 fn push_item(
     text: &mut Vec<u8>,
     ring: &Ring,
@@ -81,7 +81,7 @@ fn push_item(
     Ok(())
 }
 
-/// Adds them, each behind a comma on a line of its own.
+/// Adds items, each after a comma on a line of its own.
 fn push_later_items(
     text: &mut Vec<u8>,
     ring: &Ring,
@@ -100,7 +100,7 @@ fn push_later_items(
     Ok(())
 }
 
-/// Adds them, with a comma on a line of its own between them.
+/// Adds items, with a comma on a line of its own between them.
 fn push_items(
     text: &mut Vec<u8>,
     ring: &Ring,
@@ -119,7 +119,7 @@ fn push_items(
     Ok(())
 }
 
-/// Adds them and a line end, and of a list braces round them.
+/// Adds items and a line end; the items of a list are in braces.
 fn push_enclosed(
     text: &mut Vec<u8>,
     ring: &Ring,
@@ -143,7 +143,7 @@ fn push_enclosed(
     Ok(())
 }
 
-/// What is written of the sets.
+/// The output for the sets.
 fn text_of(
     alloc: Global,
     ring: &Ring,
@@ -165,7 +165,7 @@ fn text_of(
     Ok(text)
 }
 
-/// What is written for a source with one set.
+/// The output for a source with a single set.
 fn of_set(alloc: Global, source: &[u8], echoed: bool) -> Result<Vec<u8>, Refused>
     ensures ok { IfOk result (λ text. IsAnswered (weights_command false echoed) (source.now ∷ []) text.items) }
     ensures err { IfErr result (λ e. IsRefusedOn (weights_command false echoed) (source.now ∷ []) e.refusal) }
@@ -181,7 +181,7 @@ fn of_set(alloc: Global, source: &[u8], echoed: bool) -> Result<Vec<u8>, Refused
     }
 }
 
-/// What is written for a source with a list of sets.
+/// The output for a source with a list of sets.
 fn of_list(alloc: Global, source: &[u8], echoed: bool) -> Result<Vec<u8>, Refused>
     ensures ok { IfOk result (λ text. IsAnswered (weights_command true echoed) (source.now ∷ []) text.items) }
     ensures err { IfErr result (λ e. IsRefusedOn (weights_command true echoed) (source.now ∷ []) e.refusal) }
@@ -197,23 +197,25 @@ fn of_list(alloc: Global, source: &[u8], echoed: bool) -> Result<Vec<u8>, Refuse
     }
 }
 
-/// The weight of the marked set of the source, or where a list is asked for of each set of its list: the sum of the primitive vectors
-/// along the extreme rays of its cone, cut with the non-negative orthant. Each set is a reduced Gröbner basis for its marking, but
-/// for factors of its members and their order. Where sets are echoed the ring stands first in a line, and each set, as it was read,
+/// The weight of the marked set of the source, or with the option `listed` of each set of its list: the sum of the primitive vectors along
+/// the extreme rays of the intersection of its cone with the non-negative orthant. Each set is a reduced Gröbner basis for its marking, up
+/// to factors of its members and their order. With the option `echoed` the ring comes first, in a line, and each set, as it was read,
 /// before its weight.
 ///
 /// # Errors
 ///
-/// - `Syntax`, `TooWide`, `UnknownName` and `TooManyVariables` exactly where the source isn't the text of a ring and of a
-///   set, or a list of sets, in it, at the first token after which no such text goes on.
-/// - `ZeroPolynomial` where nothing remains of a polynomial, with the number of the first set that has such a one, and the index of the
-///   first one in it.
-/// - Then of the first set that isn't such a basis: `Inconsistent` exactly where no positive weight gives its marking; `NotReduced`
-///   exactly where one does, and a mark divides a term that it shouldn't; `NotBasis` exactly where none does, and the S-polynomial of
-///   two members made monic has another normal form than zero; each with its first place.
-/// - `Overflow` and `ExponentOverflow` only at a sum of the text or an operation of these checks; `ConeOverflow` only at a step of
-///   the elimination of a marking's system, or where all sets are taken at an operation of finding the rays of a set's cone; `WideVector`
-///   only where all sets are taken, at the first sum of two entries of a set's rays that leaves the range.
+/// - `Syntax`, `TooWide`, `UnknownName`, `TooManyVariables` if and only if the source isn't the text of a ring and of a set, or a list of
+///   sets, in it: at the first token after which no such text continues.
+/// - `ZeroPolynomial` if all terms of a polynomial cancel: the number of the first set with such a polynomial, and the index of the first
+///   one in it.
+/// - Then for the first set that isn't such a basis: `Inconsistent` if and only if no positive weight gives its marking; `NotReduced` if
+///   and only if some does, and a mark divides a term other than itself; `NotBasis` if and only if no mark does, and the S-polynomial of
+///   two members made monic has a nonzero normal form. Each has the first such place.
+/// - `Overflow`, `ExponentOverflow`: the operands of a sum of the text, or of an operation of these checks, don't fit.
+/// - `ConeOverflow`: a step of the elimination of a marking's system leaves its range; or all sets are such bases, and an operation of
+///   finding the rays of a set's cone does.
+/// - `WideVector`: all sets are such bases, and this is the first sum of two entries of a set's rays that leaves the range.
+/// - `Memory`: memory runs out.
 pub fn answer(
     alloc: Global,
     source: &[u8],
