@@ -1,4 +1,4 @@
--- `_tropicalintersection`, and with `--basistest`: what it writes, and why it doesn't.
+-- `_tropicalintersection`, also with `--basistest`: its output, and why it is refused.
 use Rattle.std.specs.Prelude.{◌≡◌, ℕ, Bool, true, false, List, [], ◌∷◌, ◌++◌, length, Option, None, ℤ}
 use Rattle.gf_poly.specs.Polynomial.{Terms}
 use Rattle.gf_tropical.specs.Refusals.{NoneIsZero}
@@ -30,7 +30,7 @@ use Rattle.gfan_fans.specs.Tropical.{of_tropical, tropical_command}
 
 -- ---- refusals
 
--- a refusal at a basis and a cone as one of the run
+-- the refusal at a basis and a cone, as one of the run
 abbrev pub of_initial : InitialError → Refusal
 of_initial (initial_errors.Cone o) = refusals.ConeOverflow o.row o.op o.left o.right
 of_initial (initial_errors.Wide w) = refusals.WideVector w
@@ -38,7 +38,7 @@ of_initial (initial_errors.Entry index value) = refusals.WideRoot index value
 of_initial (initial_errors.Saturation e) = of_basis e
 of_initial initial_errors.Memory = refusals.Memory
 
--- a refusal of the test as one of the run
+-- the refusal of the test, as one of the run
 abbrev pub of_basis_test : BasisTestError → Refusal
 of_basis_test (test_errors.Prevariety e) = of_tropical e
 of_basis_test (test_errors.Root e) = of_basis e
@@ -48,19 +48,19 @@ of_basis_test test_errors.Memory = refusals.Memory
 
 -- ---- what is written
 
--- 1 in a line; or 0 in a line, and the vector in another
+-- 1 in a line; or 0 in a line, and the vector in the next one
 abbrev pub basis_test_text : Verdict → List ℕ
 basis_test_text verdicts.Yes = 49 ∷ 10 ∷ []
 basis_test_text (verdicts.No v) = 48 ∷ 10 ∷ (vector_text v ++ 10 ∷ [])
 
--- the verdict on these polynomials, and where it is no the first vector that fails
+-- the text is that of the verdict on these polynomials; if the verdict is no, its vector is the first that fails
 pub record IsBasisTestText (n : ℕ) (fs : List Terms) (text : List ℕ) : Type 0 where
   pub verdict : Verdict
   pub right : IsVerdict n fs verdict
   pub first : IsFirstVerdict n fs verdict
   pub is_text : text ≡ basis_test_text verdict
 
--- a refusal of the test of these polynomials, none of which is zero
+-- r is a refusal of the test of these polynomials, none of which is zero
 pub record IsNoBasisTestText (n : ℕ) (fs : List Terms) (r : Refusal) : Type 0 where
   pub error : BasisTestError
   pub told : r ≡ of_basis_test error
@@ -69,11 +69,12 @@ pub record IsNoBasisTestText (n : ℕ) (fs : List Terms) (r : Refusal) : Type 0 
 
 -- ---- the command
 
--- the check that each polynomial is homogeneous; else the first one that isn't is told, with its first two degrees
+-- the check that each polynomial is homogeneous; the refusal has the first one that isn't, with two of its monomials of different degrees
 abbrev pub of_one_degree : List Terms → Check
 of_one_degree fs = record { Holds = AreTaken true None fs; Fails = IsDegreeRefusal true None fs }
 
--- whether the polynomials of a set, none of them zero and each homogeneous, are a tropical basis
+-- the command `_tropicalintersection --basistest`: whether the polynomials of a set, none of them zero and each homogeneous, are a tropical
+-- basis
 abbrev pub basis_test_command : Command
 basis_test_command = record {
   Value = List (List ℕ) × (List Written × Option (List ℤ));
@@ -86,11 +87,11 @@ basis_test_command = record {
   writing = Writing.at_end;
 }
 
--- the fan, or the test
+-- the test of a tropical basis, or the fan
 abbrev pub intersection_by : (basis_test : Bool) → Command
 intersection_by false = tropical_command fans.Intersection
 intersection_by true = basis_test_command
 
--- as the options say
+-- the command `_tropicalintersection` with these options
 abbrev pub intersection_command : TropicalIntersectionOptions → Command
 intersection_command o = intersection_by o.basis_test

@@ -1,4 +1,4 @@
--- `_fancommonrefinement`: what it writes for the texts of its two files, and why it doesn't.
+-- `_fancommonrefinement`: its output for the texts of its two files, and why it is refused.
 use Rattle.std.specs.Prelude.{◌≡◌, ℕ, List, [], ◌∷◌}
 use Rattle.gf_vec.specs.declared.error.WideVector.{WideVector}
 use Rattle.gf_fan.specs.FanLists.{FanLists}
@@ -21,9 +21,9 @@ use Rattle.gf_frame.specs.Readings.{of_two}
 use Rattle.gf_frame.specs.Commands.{Writing, Command}
 use Rattle.gfan_fans.specs.FanTexts.{IsWritingWithin}
 
--- ---- refusals as ones of the run
+-- ---- refusals of other crates, as ones of the run
 
--- why a file has no fan
+-- the refusal of a fan file, as one of the run
 abbrev pub of_fan_file : FanFileError → Refusal
 of_fan_file (file_errors.Syntax s) = refusals.Syntax s
 of_fan_file (file_errors.TooWide at) = refusals.TooWide at
@@ -38,7 +38,7 @@ of_fan_file (file_errors.BadCertificate cone) = refusals.BadCertificate cone
 of_fan_file (file_errors.Wide w) = refusals.WideVector w
 of_fan_file file_errors.Memory = refusals.Memory
 
--- why two fans have no refinement
+-- the refusal of a refinement, as one of the run
 abbrev pub of_refine : RefineError → Refusal
 of_refine (refine_errors.Cone o) = refusals.ConeOverflow o.row o.op o.left o.right
 of_refine (refine_errors.Dimensions left right) = refusals.Dimensions left right
@@ -46,7 +46,7 @@ of_refine refine_errors.Memory = refusals.Memory
 
 -- ---- what is written
 
--- two texts say fans of vectors of the same length, and this is the text of the fan of the meets of their cones
+-- both texts describe fans, of vectors of the same length, and the text is that of the common refinement of the two fans
 pub record IsRefinementText (a b text : List ℕ) : Type 0 where
   pub first : FanLists
   pub second : FanLists
@@ -57,10 +57,10 @@ pub record IsRefinementText (a b text : List ℕ) : Type 0 where
   pub refined : IsRefinementOf first second common
   pub is_text : text ≡ fan_text (parts_of_fan common)
 
--- ---- why it isn't written
+-- ---- why it is refused
 
--- the first text says no fan; or it does, and the second says none; or both do, and the fan of the meets of their cones isn't found; or it is,
--- and a sum leaves the range where the rays of one of its maximal cones are added up; or there is no memory
+-- the first text describes no fan; or it does, and the second describes none; or both do, and their refinement is refused; or it isn't, and
+-- the sum of the rays of one of its maximal cones leaves the range; or memory runs out
 pub data IsRefinementRefused (a b : List ℕ) (r : Refusal) : Type 0 where
   in_first : (e : FanFileError) → IsFanFileRefusal a e → r ≡ of_fan_file e → IsRefinementRefused a b r
   in_second : (f : FanLists) (e : FanFileError) → IsFanOfText a f → IsFanFileRefusal b e → r ≡ of_fan_file e → IsRefinementRefused a b r
@@ -68,7 +68,7 @@ pub data IsRefinementRefused (a b : List ℕ) (r : Refusal) : Type 0 where
   in_writing : (f g h : FanLists) (w : WideVector) → IsFanOfText a f → IsFanOfText b g → IsRefinementOf f g h → IsWritingStep h w → r ≡ refusals.WideVector w → IsRefinementRefused a b r
   no_memory : r ≡ refusals.Memory → IsRefinementRefused a b r
 
--- what is found without an operation on vectors: faults of a text, a version that isn't known, sections that aren't there, and lengths
+-- the refusal is found without operations on vectors: a fault of the text, an unknown version, a missing section, or a wrong length
 abbrev pub IsOfWords : FanFileError → Type 0
 IsOfWords (file_errors.Syntax s) = Unit {0}
 IsOfWords (file_errors.TooWide at) = Unit {0}
@@ -78,14 +78,15 @@ IsOfWords (file_errors.Missing section) = Unit {0}
 IsOfWords (file_errors.Dimensions left right) = Unit {0}
 IsOfWords _ = ⊥
 
--- the text says no fan, which is found so
+-- the text describes no fan, and r is a refusal that is found without operations on vectors
 pub record IsRefusedInWords (a : List ℕ) (r : Refusal) : Type 0 where
   pub error : FanFileError
   pub of_words : IsOfWords error
   pub refused : IsFanFileRefusal a error
   pub is : r ≡ of_fan_file error
 
--- the text says a file whose rows lie inside its cones and whose cones have a fan, and no operation on it leaves the range
+-- the text describes a file whose cones can be built, and whose interior vectors, if it has any, lie in these cones. The intersection of
+-- any two of the cones is a face of both, and no operation on the file leaves the range
 pub record IsFanTextWithin (source : List ℕ) : Type 0 where
   pub file : FanFile
   pub is_file : IsFileOf source file
@@ -94,7 +95,8 @@ pub record IsFanTextWithin (source : List ℕ) : Type 0 where
   pub meeting : AreFileConesMeeting file
   pub within : IsFileWithinLimits file
 
--- both texts say fans, of vectors of the same length, and no operation on them leaves the range, nor one of writing what is found
+-- both texts describe fans, of vectors of the same length, and no operation on them leaves the range, nor does one of writing their
+-- refinement
 pub record IsRefinementWithin (a b : List ℕ) : Type 0 where
   pub first : IsFanTextWithin a
   pub second : IsFanTextWithin b
@@ -104,7 +106,7 @@ pub record IsRefinementWithin (a b : List ℕ) : Type 0 where
 
 -- ---- the command
 
--- the first text says a file with rows of one length
+-- the check that the first text describes a file, with rows of one length
 abbrev pub in_words : List ℕ → Check
 in_words a = record { Holds = (r : Refusal) → IsRefusedInWords a r → ⊥; Fails = λ r. IsRefusedInWords a r }
 

@@ -13,29 +13,29 @@ use Rattle.gf_fanfile.specs.FanTexts.{IsWritingStep}
 use Rattle.gf_front.specs.declared.refusal.Refusal.{Refusal}
 use Rattle.gf_front.specs.declared.refusal.Refusal.TheVariants as refusals
 
--- why cones have no fan
+-- the refusal of a fan of cones, as one of the run
 abbrev pub of_fan : FanError → Refusal
 of_fan (fan_errors.Cone o) = refusals.ConeOverflow o.row o.op o.left o.right
 of_fan (fan_errors.NotAFan first second) = refusals.NotAFan first second
 of_fan fan_errors.Memory = refusals.Memory
 
--- why a fan isn't written
+-- the refusal of writing a fan, as one of the run
 abbrev pub of_writing : VecError → Refusal
 of_writing (vec_errors.Wide w) = refusals.WideVector w
 of_writing vec_errors.Memory = refusals.Memory
 
--- the cones have no fan; or they have one, and a sum leaves the range where the rays of one of its maximal cones are added up; or there is
--- no memory
+-- the cones have no fan, or finding it is refused; or they have one, and the sum of the rays of one of its maximal cones leaves the range;
+-- or memory runs out
 pub data IsNoFanText (n : ℕ) (cones : List RowsAndRays) (r : Refusal) : Type 0 where
   no_fan : (e : FanError) → IsFanRefusal n cones e → r ≡ of_fan e → IsNoFanText n cones r
   too_wide : (f : FanLists) (w : WideVector) → IsFanOf n cones f → IsWritingStep f w → r ≡ refusals.WideVector w → IsNoFanText n cones r
   no_memory : r ≡ refusals.Memory → IsNoFanText n cones r
 
--- no sum of the rays of one of its maximal cones leaves the range
+-- for no maximal cone of the fan the sum of its rays leaves the range
 abbrev pub IsWritingWithin : FanLists → Type 0
 IsWritingWithin f = (w : WideVector) → IsWritingStep f w → ⊥
 
--- no operation of finding the fan of the cones leaves its range, nor one of writing it
+-- no operation of finding the fan of the cones leaves its range, nor does one of writing it
 pub record IsFanOfConesWithin (n : ℕ) (cones : List RowsAndRays) : Type 0 where
   pub finding : IsFanWithinLimits n cones
   pub writing : (f : FanLists) → IsFanOf n cones f → IsWritingWithin f

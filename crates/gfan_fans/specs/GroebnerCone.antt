@@ -1,4 +1,4 @@
--- `_groebnercone`: what it reads and writes, and why it doesn't.
+-- `_groebnercone`: its input, its output, and why it is refused.
 use Rattle.std.specs.Prelude.{◌≡◌, ℕ, Bool, true, false, List, [], ◌∷◌, ◌++◌, ℤ}
 use Rattle.gf_poly.specs.Marking.{MarkedPolynomials, HaveVariables}
 use Rattle.gf_facets.specs.Normals.{AreNormals}
@@ -18,7 +18,8 @@ use Rattle.gfan_fans.specs.ToldCones.{IsConeTold, IsUntold, IsTellingWithin}
 
 -- ---- the cone of a marked reduced basis
 
--- the set is the reduced Gröbner basis for its marking, and the text tells the cone of all vectors on which none of its normals is negative
+-- the set is the reduced Gröbner basis for its marking, and the text describes its closed cone, the vectors on which none of its normals is
+-- negative
 pub record IsBasisConeText (o : GroebnerConeOptions) (s : MarkedPolynomials) (text : List ℕ) : Type 0 where
   pub basis : IsMarkedGroebnerBasis s.variables s.items
   pub reduced : AreReduced s.items
@@ -26,14 +27,14 @@ pub record IsBasisConeText (o : GroebnerConeOptions) (s : MarkedPolynomials) (te
   pub are_normals : AreNormals s.items normals
   pub cone : IsConeTold o s.variables normals [] text
 
--- the set isn't taken as a reduced basis; or it is one, and its cone isn't told
+-- the set is refused as a reduced basis; or it is one, and the description of its cone is refused
 pub data IsBasisConeCause (o : GroebnerConeOptions) (s : MarkedPolynomials) (r : Refusal) : Type 0 where
   at_check : (e : CheckError) → IsReducedRefusal 0 s e → r ≡ of_check e → IsBasisConeCause o s r
   at_cone : (normals : List (List ℤ)) → IsMarkedGroebnerBasis s.variables s.items → AreReduced s.items → AreNormals s.items normals →
       IsUntold o s.variables normals [] r → IsBasisConeCause o s r
 
--- the set, in its variables as any that is read, is a reduced basis, and no operation of its checks leaves its limits, nor one that tells
--- its cone
+-- the members of the set are in its variables, the set is a reduced basis, no operation of its checks leaves its limits, nor does one of
+-- describing its cone
 pub record IsBasisConeWithin (o : GroebnerConeOptions) (s : MarkedPolynomials) : Type 0 where
   pub variables : HaveVariables s.variables s.items
   pub basis : IsMarkedGroebnerBasis s.variables s.items
@@ -43,8 +44,8 @@ pub record IsBasisConeWithin (o : GroebnerConeOptions) (s : MarkedPolynomials) :
 
 -- ---- the command
 
--- the cone of a marked reduced basis; or with vectors for input that of the inequalities and equations in a space of the dimension that is
--- read, each of them with an entry for each variable, the inequalities looked at first
+-- the command for the cone of a marked reduced basis; or, with vectors as input, for the cone of inequalities and equations in a space of
+-- the dimension that is read, each of which has an entry for each variable, where the inequalities are checked first
 abbrev pub cone_command : (vector_input : Bool) → GroebnerConeOptions → Command
 cone_command false o = record {
   Value = List (List ℕ) × MarkedPolynomials;
@@ -67,6 +68,6 @@ cone_command true o = record {
   writing = Writing.at_end;
 }
 
--- as the options say
+-- the command `_groebnercone` with these options
 abbrev pub groebner_cone_command : GroebnerConeOptions → Command
 groebner_cone_command o = cone_command o.vector_input o

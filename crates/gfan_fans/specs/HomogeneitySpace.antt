@@ -1,4 +1,4 @@
--- `_homogeneityspace`: what it reads and writes, and why it doesn't.
+-- `_homogeneityspace`: its input, its output, and why it is refused.
 use Rattle.std.specs.Prelude.{◌≡◌, ℕ, false, List, [], ◌∷◌, flat_map, length, Option, ℤ}
 use Rattle.gf_poly.specs.Marking.{MarkedPolynomial}
 use Rattle.gf_gordan.specs.declared.error.GordanError.{GordanError}
@@ -20,17 +20,17 @@ use Rattle.gfan_fans.specs.FanTexts.{IsNoFanText, IsFanOfConesWithin}
 
 -- ---- the space
 
--- a polynomial with its mark; none where nothing remains of it
+-- the polynomial with its mark; none if it is zero
 abbrev pub marked_of : Written → List MarkedPolynomial
 marked_of written.Zero = []
 marked_of (written.Nonzero m) = m ∷ []
 
--- the polynomials of a set of which something remains
+-- the nonzero polynomials of a set
 abbrev pub nonzero_of : List Written → List MarkedPolynomial
 nonzero_of ws = flat_map marked_of ws
 
--- c is the homogeneity space of these polynomials, in n variables: a cone without inequalities, whose equations are the marked exponent
--- vector of a polynomial less each other one, and whose lineality basis is one of that space
+-- c is the homogeneity space of these polynomials in n variables, as a cone without inequalities. Its equations are the differences of the
+-- marked exponent vector of a polynomial and each other one, and its lineality basis is a basis of the space
 pub record IsSpaceCone (n : ℕ) (bs : List MarkedPolynomial) (c : RowsAndRays) : Type 0 where
   pub ambient : c.ambient ≡ n
   pub inequalities : c.inequalities ≡ []
@@ -41,28 +41,28 @@ pub record IsSpaceCone (n : ℕ) (bs : List MarkedPolynomial) (c : RowsAndRays) 
 
 -- ---- what is written
 
--- the text is that of the fan of the homogeneity space alone
+-- the text is that of the fan whose only cone is the homogeneity space
 pub record IsSpaceText (n : ℕ) (bs : List MarkedPolynomial) (text : List ℕ) : Type 0 where
   pub cone : RowsAndRays
   pub is_cone : IsSpaceCone n bs cone
   pub fan : IsFanText n (cone ∷ []) text
 
--- ---- why it isn't written
+-- ---- why it is refused
 
--- the space isn't found; or it is, and its fan isn't, or isn't written; or there is no memory
+-- the space isn't found; or it is, and its fan isn't found or isn't written; or memory runs out
 pub data IsNoSpace (n : ℕ) (bs : List MarkedPolynomial) (r : Refusal) : Type 0 where
   at_space : (e : GordanError) → IsSpaceCause n bs e → r ≡ of_gordan e → IsNoSpace n bs r
   at_fan : (c : RowsAndRays) → IsSpaceCone n bs c → IsNoFanText n (c ∷ []) r → IsNoSpace n bs r
   no_memory : r ≡ refusals.Memory → IsNoSpace n bs r
 
--- no operation of finding the space leaves its range, nor one of finding its fan or of writing it
+-- no operation of finding the space leaves its range, nor does one of finding its fan or of writing it
 pub record IsSpaceWithin (n : ℕ) (bs : List MarkedPolynomial) : Type 0 where
   pub space : AreRaysWithinLimits n [] (rows_of_polynomials bs)
   pub fan : (c : RowsAndRays) → IsSpaceCone n bs c → IsFanOfConesWithin n (c ∷ [])
 
 -- ---- the command
 
--- the homogeneity space of a set; zero polynomials put no condition
+-- the command `_homogeneityspace`; zero polynomials impose no condition
 abbrev pub homogeneity_space_command : Command
 homogeneity_space_command = record {
   Value = List (List ℕ) × (List Written × Option (List ℤ));

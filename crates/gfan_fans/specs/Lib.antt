@@ -1,9 +1,9 @@
 pub mod FanTexts  -- why there is no fan, as a refusal of the run
-pub mod ToPolyhedralFan  -- what `_topolyhedralfan` reads and writes
-pub mod HomogeneitySpace  -- what `_homogeneityspace` reads and writes
-pub mod Tropical  -- what `_tropicalhypersurface`, `_tropicalintersection` and `_minkowskisum` read and write
-pub mod BasisTest  -- what `_tropicalintersection --basistest` reads and writes
-pub mod ToldCones  -- what `_groebnercone` tells of a cone
-pub mod GroebnerCone  -- what `_groebnercone` reads and writes
-pub mod CommonRefinement  -- what `_fancommonrefinement` reads and writes
-pub mod MigrateFan  -- what `_migratefan` reads and writes
+pub mod ToPolyhedralFan  -- the input and output of `_topolyhedralfan`
+pub mod HomogeneitySpace  -- the input and output of `_homogeneityspace`
+pub mod Tropical  -- the input and output of `_tropicalhypersurface`, `_tropicalintersection` and `_minkowskisum`
+pub mod BasisTest  -- the input and output of `_tropicalintersection --basistest`
+pub mod ToldCones  -- the descriptions of cones by `_groebnercone`
+pub mod GroebnerCone  -- the input and output of `_groebnercone`
+pub mod CommonRefinement  -- the input and output of `_fancommonrefinement`
+pub mod MigrateFan  -- the input and output of `_migratefan`

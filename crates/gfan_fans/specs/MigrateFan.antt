@@ -1,4 +1,4 @@
--- `_migratefan`: what it reads and writes, and why it doesn't.
+-- `_migratefan`: its input, its output, and why it is refused.
 use Rattle.std.specs.Prelude.{◌≡◌, ℕ, List, [], ◌∷◌}
 use Rattle.gf_fan.specs.FanLists.{FanLists}
 use Rattle.gf_fanfile.specs.declared.error.FanFileError.{FanFileError}
@@ -11,20 +11,20 @@ use Rattle.gf_frame.specs.Commands.{Writing, Command}
 use Rattle.gfan_fans.specs.FanTexts.{IsWritingWithin}
 use Rattle.gfan_fans.specs.CommonRefinement.{of_fan_file, IsOfWords, IsFanTextWithin, in_words}
 
--- the fan of the source isn't found, but by an operation on vectors; or it isn't written
+-- r is a refusal of the migration that isn't found without operations on vectors
 pub record IsNoMigration (source : List ℕ) (r : Refusal) : Type 0 where
   pub error : FanFileError
   pub of_work : IsOfWords error → ⊥
   pub refused : IsMigrationRefusal source error
   pub is : r ≡ of_fan_file error
 
--- the source says a fan, and no operation on it leaves the range, nor one of writing it
+-- the source describes a fan, and no operation on it leaves the range, nor does one of writing it
 pub record IsMigrationWithin (source : List ℕ) : Type 0 where
   pub reading : IsFanTextWithin source
   pub writing : (f : FanLists) → IsFanOfText source f → IsWritingWithin f
 
--- The fan that a fan file says, in the version 2. It has the same cones as the fan that is read of what is written, and what is written is
--- written of that as well.
+-- the command `_migratefan`: the fan that a fan file describes, in the version 2. The fan that is read from the output has the same cones,
+-- and its migration is the same text
 abbrev pub migrate_fan_command : Command
 migrate_fan_command = record {
   Value = List ℕ;

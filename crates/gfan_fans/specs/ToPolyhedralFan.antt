@@ -1,4 +1,4 @@
--- `_topolyhedralfan`: what it reads and writes, and why it doesn't.
+-- `_topolyhedralfan`: its input, its output, and why it is refused.
 use Rattle.std.specs.Prelude.{◌≡◌, ℕ, Bool, true, false, List, [], ◌++◌, length, Contains, ℤ, ◌∷◌}
 use Rattle.std.specs.List.{AllZip}
 use Rattle.gf_poly.specs.Marking.{MarkedPolynomials}
@@ -24,13 +24,13 @@ use Rattle.gfan_fans.specs.FanTexts.{IsNoFanText, IsFanOfConesWithin}
 
 -- ---- the cones
 
--- the inequalities of the closed cone of a marked set, none of which is negative there: its normals, and behind them the unit vectors
--- where it is cut with the non-negative orthant
+-- the inequalities of the closed cone of a marked set: its normals, and after them, if the cone is intersected with the non-negative
+-- orthant, the unit vectors
 abbrev pub inequalities_of : Bool → ℕ → List (List ℤ) → List (List ℤ)
 inequalities_of false n normals = normals
 inequalities_of true n normals = normals ++ units n n
 
--- c is that cone, by its rows, its rays and its lineality space
+-- c is the closed cone of s, by its rows, its rays and its lineality space
 pub record IsConeOfSet (cut : Bool) (s : MarkedPolynomials) (c : RowsAndRays) : Type 0 where
   pub normals : List (List ℤ)
   pub are_normals : AreNormals s.items normals
@@ -42,14 +42,14 @@ pub record IsConeOfSet (cut : Bool) (s : MarkedPolynomials) (c : RowsAndRays) : 
 
 -- ---- what is written
 
--- the sets in n variables are reduced bases, and the text is that of the fan of their cones
+-- the sets, in n variables, are reduced bases, and the text is that of the fan of their closed cones
 pub record IsFanOfSetsText (cut : Bool) (n : ℕ) (sets : List MarkedPolynomials) (text : List ℕ) : Type 0 where
   pub reduced : AreReducedAsRead sets
   pub cones : List RowsAndRays
   pub are_cones : AllZip (IsConeOfSet cut) sets cones
   pub fan : IsFanText n cones text
 
--- ---- why it isn't written
+-- ---- why it is refused
 
 -- an operation of finding the rays of the cone of a set leaves its range
 pub record IsConeStepOfSet (cut : Bool) (s : MarkedPolynomials) (o : ConeOverflow) : Type 0 where
@@ -57,14 +57,14 @@ pub record IsConeStepOfSet (cut : Bool) (s : MarkedPolynomials) (o : ConeOverflo
   pub are_normals : AreNormals s.items normals
   pub step : IsRaysStep s.variables (inequalities_of cut s.variables normals) [] o
 
--- of one of the sets
+-- an operation of finding the rays of the cone of one of the sets leaves its range
 pub record IsConeStepOfSets (cut : Bool) (sets : List MarkedPolynomials) (o : ConeOverflow) : Type 0 where
   pub set : MarkedPolynomials
   pub contained : Contains sets set
   pub step : IsConeStepOfSet cut set o
 
--- a set isn't taken as a reduced basis; or all are, and the rays of the cone of one aren't found; or they are, and there is no fan of
--- these cones, or it isn't found, or isn't written; or there is no memory
+-- a set is refused as a reduced basis; or none is, and the rays of the cone of one aren't found; or they are, and the cones have no fan, or
+-- it isn't found or isn't written; or memory runs out
 pub data IsNoFanOfSets (cut : Bool) (n : ℕ) (sets : List MarkedPolynomials) (r : Refusal) : Type 0 where
   at_set : (e : CheckError) → IsRefusedFrom 0 sets e → r ≡ of_check e → IsNoFanOfSets cut n sets r
   at_cone : (o : ConeOverflow) → AreReducedAsRead sets → IsConeStepOfSets cut sets o → r ≡ refusals.ConeOverflow o.row o.op o.left o.right →
@@ -77,8 +77,8 @@ pub record IsSetWithin (cut : Bool) (s : MarkedPolynomials) : Type 0 where
   pub checked : IsCheckedWithin s
   pub cone : (o : ConeOverflow) → IsConeStepOfSet cut s o → ⊥
 
--- so it is with all sets; the meet of the cones of any two is a face of both, and no operation of finding the fan or of writing it leaves its
--- range
+-- each set is a reduced basis, and no operation of its checks or of finding the rays of its cone leaves its limits. The intersection of the
+-- cones of any two is a face of both. No operation of finding the fan, or of writing it, leaves its range
 pub record AreSetsWithin (cut : Bool) (n : ℕ) (sets : List MarkedPolynomials) : Type 0 where
   pub each : (s : MarkedPolynomials) → Contains sets s → IsSetWithin cut s
   pub meeting : (cones : List RowsAndRays) → AllZip (IsConeOfSet cut) sets cones → AreMeeting n cones
@@ -86,7 +86,8 @@ pub record AreSetsWithin (cut : Bool) (n : ℕ) (sets : List MarkedPolynomials) 
 
 -- ---- the command
 
--- the fan of the cones of a list of marked reduced bases, each of them cut with the non-negative orthant where that is asked for
+-- the command `_topolyhedralfan`: the fan of the closed cones of a list of marked reduced bases, each intersected with the non-negative
+-- orthant if the option says so
 abbrev pub to_polyhedral_fan_command : ToPolyhedralFanOptions → Command
 to_polyhedral_fan_command o = record {
   Value = List (List ℕ) × List MarkedPolynomials;

@@ -1,4 +1,4 @@
--- `_tropicalhypersurface`, `_tropicalintersection` and `_minkowskisum`: what they read and write, and why they don't.
+-- `_tropicalhypersurface`, `_tropicalintersection` and `_minkowskisum`: their input and output, and why they are refused.
 use Rattle.std.specs.Prelude.{◌≡◌, ◌≢◌, ℕ, false, List, [], ◌∷◌, map, length, Option, ℤ}
 use Rattle.gf_vec.specs.declared.error.WideVector.{WideVector}
 use Rattle.gf_gordan.specs.declared.error.ConeOverflow.{ConeOverflow}
@@ -27,68 +27,68 @@ use Rattle.gfan_common.specs.Forms.{generators_of}
 use Rattle.gfan_fans.specs.FanTexts.{IsWritingWithin}
 use Rattle.gfan_common.specs.ToolForms.{without_zero}
 
--- ---- the form
+-- ---- the number of polynomials
 
--- there are as many polynomials as the fan is of: one has a hypersurface
+-- a hypersurface is that of a single polynomial; there is no condition for the other fans
 abbrev pub HasNumber : TropicalFan → ℕ → Type 0
 HasNumber fans.Hypersurface count = count ≡ 1
 HasNumber fans.Intersection count = Unit {0}
 HasNumber fans.MinkowskiSum count = Unit {0}
 
--- else their number is told, where 1 is needed
+-- the refusal for another number of polynomials: it has this number and 1
 abbrev pub IsNumberRefusal : TropicalFan → ℕ → Refusal → Type 0
 IsNumberRefusal fans.Hypersurface count (refusals.Dimensions left right) = (left ≡ count) × (right ≡ 1) × (count ≢ 1)
 IsNumberRefusal fans.Hypersurface count _ = ⊥
 IsNumberRefusal fans.Intersection count r = ⊥
 IsNumberRefusal fans.MinkowskiSum count r = ⊥
 
--- the check that there are as many polynomials as the fan is of
+-- the check that the number of polynomials is one that the fan may have
 abbrev pub for_number : TropicalFan → ℕ → Check
 for_number which count = record { Holds = HasNumber which count; Fails = IsNumberRefusal which count }
 
 -- ---- the fan
 
--- the exponents of each polynomial of a set, as whole vectors
+-- the exponents of each polynomial of a set, as integer vectors
 abbrev pub points_of_each : List Terms → List (List (List ℤ))
 points_of_each fs = map points fs
 
--- h is the fan of the prevariety of the polynomials, which is of a single one its hypersurface; or their Minkowski fan
+-- h is the fan of the prevariety of the polynomials, which for a single one is its hypersurface; or their Minkowski fan
 abbrev pub IsFanOfPolynomials : TropicalFan → ℕ → List Terms → FanLists → Type 0
 IsFanOfPolynomials fans.Hypersurface n fs h = IsPrevarietyFan n (points_of_each fs) h
 IsFanOfPolynomials fans.Intersection n fs h = IsPrevarietyFan n (points_of_each fs) h
 IsFanOfPolynomials fans.MinkowskiSum n fs h = IsMinkowskiFanOf n (points_of_each fs) h
 
--- the text is that of this fan of the polynomials
+-- the text is that of the fan of the polynomials
 pub record IsTropicalText (which : TropicalFan) (n : ℕ) (fs : List Terms) (text : List ℕ) : Type 0 where
   pub fan : FanLists
   pub is_fan : IsFanOfPolynomials which n fs fan
   pub is_text : text ≡ fan_text (parts_of_fan fan)
 
--- ---- why it isn't written
+-- ---- why it is refused
 
--- the systems of rows that such a fan is made from
+-- the systems of rows whose cones make up the fan
 abbrev pub systems_of : TropicalFan → ℕ → List (List (List ℤ)) → Rows → Type 0
 systems_of fans.Hypersurface = IsPairSystem
 systems_of fans.Intersection = IsPairSystem
 systems_of fans.MinkowskiSum = IsSingleSystem
 
--- an operation of finding the rays of one of them
+-- s is an operation of finding the rays of one of these systems, and it leaves its range
 abbrev pub IsTropicalStep : TropicalFan → ℕ → List Terms → ConeOverflow → Type 0
 IsTropicalStep which n fs s = IsSystemStep (systems_of which n (points_of_each fs)) n s
 
--- an operation of finding the rays of one of these systems leaves its range; or the fan is found, and a sum leaves the range where the rays
--- of one of its maximal cones are added up; or there is no memory
+-- an operation of finding the rays of one of these systems leaves its range; or the fan is found, and the sum of the rays of one of its
+-- maximal cones leaves the range; or memory runs out
 pub data IsNoTropicalText (which : TropicalFan) (n : ℕ) (fs : List Terms) (r : Refusal) : Type 0 where
   in_system : (o : ConeOverflow) → IsTropicalStep which n fs o → r ≡ refusals.ConeOverflow o.row o.op o.left o.right → IsNoTropicalText which n fs r
   too_wide : (h : FanLists) (w : WideVector) → IsFanOfPolynomials which n fs h → IsWritingStep h w → r ≡ refusals.WideVector w → IsNoTropicalText which n fs r
   no_memory : r ≡ refusals.Memory → IsNoTropicalText which n fs r
 
--- none of these operations leaves its range
+-- no operation of finding the fan, or of writing it, leaves its range
 pub record IsTropicalWithin (which : TropicalFan) (n : ℕ) (fs : List Terms) : Type 0 where
   pub systems : (o : ConeOverflow) → IsTropicalStep which n fs o → ⊥
   pub writing : (h : FanLists) → IsFanOfPolynomials which n fs h → IsWritingWithin h
 
--- a refusal of such a fan as one of the run
+-- the refusal of the fan, as one of the run
 abbrev pub of_tropical : TropicalError → Refusal
 of_tropical (tropical_errors.Cone o) = refusals.ConeOverflow o.row o.op o.left o.right
 of_tropical (tropical_errors.ZeroPolynomial set index) = refusals.ZeroPolynomial set index
@@ -96,7 +96,8 @@ of_tropical tropical_errors.Memory = refusals.Memory
 
 -- ---- the commands
 
--- the tropical hypersurface of the one polynomial of a set, the meet of the hypersurfaces of all, or the Minkowski fan of all
+-- the command for the tropical hypersurface of a single polynomial, for the intersection of the hypersurfaces of all polynomials of a set,
+-- or for their Minkowski fan
 abbrev pub tropical_command : TropicalFan → Command
 tropical_command which = record {
   Value = List (List ℕ) × (List Written × Option (List ℤ));

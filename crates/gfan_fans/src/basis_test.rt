@@ -1,4 +1,4 @@
-//! What `_tropicalintersection --basistest` writes for an input.
+//! The output of `_tropicalintersection --basistest` for an input.
 ghost use Rattle.std.specs.Prelude.{◌≡◌, ◌∷◌, [], None, length, IfOk, IfErr};
 ghost use Rattle.gf_text.specs.Sets.{AreIn};
 ghost use Rattle.gf_frame.specs.Commands.{IsAnswerFor, IsUnanswered, IsAnswered, IsRefusedOn};
@@ -19,7 +19,7 @@ use std::thread::Threads;
 /// The budget of pairs of each run of Buchberger's algorithm, and of each flip.
 const PAIRS: u64 = 100_000_000;
 
-/// Why a basis and a cone have no verdict, as a refusal of the run.
+/// The refusal at a basis and a cone, as one of the run.
 fn of_initial(error: InitialError) -> Refusal
     ensures { result ≡ of_initial error }
 {
@@ -40,7 +40,7 @@ fn of_initial(error: InitialError) -> Refusal
     }
 }
 
-/// Why there is no verdict, as a refusal of the run.
+/// The refusal of the test, as one of the run.
 fn of_basis_test(error: BasisTestError) -> Refusal
     ensures { result ≡ of_basis_test error }
 {
@@ -69,7 +69,7 @@ fn verdict_text(alloc: Global, verdict: &Verdict) -> Result<Vec<u8>, AllocError>
     Ok(text)
 }
 
-/// What is written for what is read.
+/// The output for what is read.
 fn text_of<R: Threads + Sync>(
     rt: &R,
     alloc: Global,
@@ -91,22 +91,24 @@ fn text_of<R: Threads + Sync>(
     Ok(text)
 }
 
-/// `1` and a line end where the polynomials of the source's set are a tropical basis of their ideal; else `0`, and on the next line a vector of their
-/// tropical prevariety at which the initial ideal has a polynomial of one term: the first one that the test comes to. The
-/// budget of each run of Buchberger's algorithm, and of each flip, is 100,000,000 pairs.
+/// `1` and a line end if the polynomials of the source's set are a tropical basis of their ideal. Otherwise `0`, and in the next line a
+/// vector of their tropical prevariety at which the initial ideal has a polynomial with a single term: the first one at which the test
+/// arrives. Each run of Buchberger's algorithm, and each flip, may settle 100,000,000 pairs.
 ///
 /// # Errors
 ///
-/// - `Syntax`, `TooWide`, `UnknownName` and `TooManyVariables` exactly where the source isn't the text of a ring and of a set in it, at
-///   the first token after which no such text goes on.
-/// - `ZeroPolynomial` exactly where nothing remains of a polynomial, with the index of the first one.
-/// - `NotHomogeneous` exactly where no polynomial is zero and one isn't homogeneous: the first one, its deglex greatest monomial, and the
-///   first one after that of another degree.
-/// - `Overflow` and `ExponentOverflow` only at a sum of the text, or at an operation of a run or a flip whose operands don't fit; `PairBudget` only
-///   where such a run would have to settle more pairs.
-/// - `ConeOverflow` only at an operation of finding the rays of a system of the prevariety, or of what a maximal cone of it shares with the closed
-///   cone of a basis, or at one of the system of a normal; `WideVector` only at a partial sum of the rays of a face.
-/// - `WideRoot` exactly at the first entry past `2^63` in absolute value of a vector that the test comes to.
+/// - `Syntax`, `TooWide`, `UnknownName`, `TooManyVariables` if and only if the source isn't the text of a ring and of a set in it: at the
+///   first token after which no such text continues.
+/// - `ZeroPolynomial` if and only if all terms of a polynomial cancel: the index of the first one.
+/// - `NotHomogeneous` if and only if no polynomial is zero and one isn't homogeneous: the index of the first one, its deglex greatest
+///   monomial, and the first one after that of another degree.
+/// - `Overflow`, `ExponentOverflow`: the operands of a sum of the text, or of an operation of a run or a flip, don't fit.
+/// - `PairBudget`: a run or a flip has more pairs to settle.
+/// - `ConeOverflow`: an operation leaves its range that finds the rays of a system of the prevariety, or those of the intersection of a
+///   maximal cone of the prevariety with the closed cone of a basis; or one of the system of a normal does.
+/// - `WideVector`: a partial sum of the rays of a face leaves the range.
+/// - `WideRoot` for the first entry, of the first such vector at which the test arrives, that is greater than `2^63` in absolute value.
+/// - `Memory`: memory runs out.
 pub fn answer<R: Threads + Sync>(rt: &R, alloc: Global, source: &[u8]) -> Result<Vec<u8>, Refused>
     ensures ok { IfOk result (λ text. IsAnswered basis_test_command (source.now ∷ []) text.items) }
     ensures err { IfErr result (λ e. IsRefusedOn basis_test_command (source.now ∷ []) e.refusal) }

@@ -1,4 +1,4 @@
-//! What `_fancommonrefinement` writes for the texts of its two files.
+//! The output of `_fancommonrefinement` for the texts of its two files.
 ghost use Rattle.std.specs.Prelude.{◌≡◌, None, IfOk, IfErr};
 ghost use Rattle.gfan_common.specs.Refused.{IsNamedBy, IsUnnamed};
 ghost use Rattle.gfan_fans.specs.CommonRefinement.{IsRefinementText, IsRefinementRefused, of_fan_file, of_refine};
@@ -11,7 +11,7 @@ use gfan_common::refused::Refused;
 use std::alloc::Global;
 use std::thread::Threads;
 
-/// Why a file has no fan, as a refusal of the run.
+/// The refusal of a fan file, as one of the run.
 pub(crate) fn of_fan_file(error: FanFileError) -> Refusal
     ensures { result ≡ of_fan_file error }
 {
@@ -36,7 +36,7 @@ pub(crate) fn of_fan_file(error: FanFileError) -> Refusal
     }
 }
 
-/// Why two fans have no refinement, as a refusal of the run.
+/// The refusal of a refinement, as one of the run.
 fn of_refine(error: RefineError) -> Refusal
     ensures { result ≡ of_refine error }
 {
@@ -52,7 +52,7 @@ fn of_refine(error: RefineError) -> Refusal
     }
 }
 
-/// What is written for two texts.
+/// The output for two texts.
 fn text_of<R: Threads + Sync>(rt: &R, alloc: Global, a: &[u8], b: &[u8]) -> Result<Vec<u8>, Refusal>
     ensures ok { IfOk result (λ text. IsRefinementText a.now b.now text.items) }
     ensures err { IfErr result (IsRefinementRefused a.now b.now) }
@@ -76,13 +76,16 @@ fn text_of<R: Threads + Sync>(rt: &R, alloc: Global, a: &[u8], b: &[u8]) -> Resu
     }
 }
 
-/// The text of the fan of the meets of the cones of two fans, one of each. The first text is judged before the second.
+/// The text of the common refinement of two fans, the fan of the intersections of a cone of the first fan and one of the second. The first
+/// text is checked before the second.
 ///
 /// # Errors
 ///
-/// - Those of the first text, then of the second, as `read` of `gf_fanfile` has them.
-/// - `Dimensions` exactly where both say fans, of vectors of different lengths; `ConeOverflow` only at an operation of finding the fan of
-///   the meets, `WideVector` only at a sum of the rays of one of its maximal cones.
+/// - Those of `read` of `gf_fanfile`, for the first text and then for the second.
+/// - `Dimensions` if and only if both texts describe fans, of vectors of different lengths.
+/// - `ConeOverflow`: an operation of finding the refinement leaves its range.
+/// - `WideVector`: the sum of the rays of one of its maximal cones leaves the range.
+/// - `Memory`: memory runs out.
 pub fn answer<R: Threads + Sync>(
     rt: &R,
     alloc: Global,

@@ -12,12 +12,12 @@ use gf_rays::Rays;
 use gf_vec::VecError;
 use std::alloc::Global;
 
-/// The text of the fan of all faces of these cones of vectors of `n` entries, as `write` of `gf_fanfile` has it. Cones are
-/// counted in 32 bits.
+/// The text, as `write` of `gf_fanfile` has it, of the fan of all faces of these cones of vectors of `n` entries. There are fewer than
+/// `2^32` cones.
 ///
 /// # Errors
-/// Those of `Fan::from_cones`; `WideVector`: the first sum of two entries that leaves the range, where the rays of a maximal cone are added
-/// up from the left.
+/// Those of `Fan::from_cones`. `WideVector`: the rays of a maximal cone are added from the left, and this is the first sum of two entries
+/// that leaves the range.
 pub(crate) fn fan_text(alloc: Global, n: u32, cones: Vec<Rays>) -> Result<Vec<u8>, Refusal>
     requires ambient { n ≤ MOST_VARIABLES }
     requires cones { AreOfAmbient n cones.items }
@@ -37,7 +37,7 @@ pub(crate) fn fan_text(alloc: Global, n: u32, cones: Vec<Rays>) -> Result<Vec<u8
     }
 }
 
-/// Why there is no fan, as a refusal of the run.
+/// The refusal of a fan of cones, as one of the run.
 fn of_fan(error: FanError) -> Refusal
     ensures { result ≡ of_fan error }
 {
@@ -53,7 +53,7 @@ fn of_fan(error: FanError) -> Refusal
     }
 }
 
-/// Why a fan isn't written, as a refusal of the run.
+/// The refusal of writing a fan, as one of the run.
 pub(crate) fn of_writing(error: VecError) -> Refusal
     ensures { result ≡ of_writing error }
 {

@@ -1,4 +1,4 @@
-//! What `_groebnercone` writes for an input.
+//! The output of `_groebnercone` for an input.
 ghost use Rattle.std.specs.Prelude.{◌≡◌, ◌≤◌, true, false, IfOk, IfErr, [], ◌∷◌};
 ghost use Rattle.gf_cone.specs.Cones.{all_rows};
 ghost use Rattle.gf_gordan.specs.Alternative.{AreRows};
@@ -19,7 +19,7 @@ use gfan_common::checks::{check_each, check_space};
 use gfan_common::refused::{Refused, of_check};
 use std::alloc::Global;
 
-/// The rows of a cone that are told, of its vectors: its normals, and the unit vectors behind them where it is cut with the non-negative
+/// The rows of a cone that its description has: its normals, followed by the unit vectors if it is intersected with the non-negative
 /// orthant.
 fn rows_told<'a>(cone: &'a Cone, vectors: &'a [IntVec], cut: bool) -> &'a [IntVec]
     requires value { vectors.now ≡ all_rows cone.now }
@@ -30,7 +30,7 @@ fn rows_told<'a>(cone: &'a Cone, vectors: &'a [IntVec], cut: bool) -> &'a [IntVe
     if cut { vectors } else { cone.normals() }
 }
 
-/// The text of the cone of a marked set, where it is the reduced Gröbner basis for its marking. Its members are counted in 32 bits.
+/// The description of the cone of a marked set, if it is the reduced Gröbner basis for its marking. It has fewer than `2^32` members.
 fn basis_cone(
     alloc: Global,
     n: u32,
@@ -61,7 +61,7 @@ fn basis_cone(
     )
 }
 
-/// The text of the cone of inequalities and equations in `n` variables, each with an entry for each variable.
+/// The description of the cone of inequalities and equations in `n` variables, each with an entry for each variable.
 fn vector_cone(
     alloc: Global,
     n: u32,
@@ -81,7 +81,7 @@ fn vector_cone(
     told(alloc, n, rows.as_slice(), equations, options)
 }
 
-/// What is written for a source with a marked set.
+/// The output for a source with a marked set.
 fn of_basis(alloc: Global, source: &[u8], options: GroebnerConeOptions) -> Result<Vec<u8>, Refused>
     ensures ok { IfOk result (λ text. IsAnswered (cone_command false options) (source.now ∷ []) text.items) }
     ensures err { IfErr result (λ e. IsRefusedOn (cone_command false options) (source.now ∷ []) e.refusal) }
@@ -97,7 +97,7 @@ fn of_basis(alloc: Global, source: &[u8], options: GroebnerConeOptions) -> Resul
     }
 }
 
-/// What is written for a source with inequalities and equations.
+/// The output for a source with inequalities and equations.
 fn of_vectors(
     alloc: Global,
     source: &[u8],
@@ -118,26 +118,28 @@ fn of_vectors(
     Ok(text)
 }
 
-/// The sections of a cone, as `cone_text` of `gf_sections` has them: of the cone of the marked set of the source, on which none of the
-/// set's normals is negative; or with vectors for input of the cone of the inequalities and equations of the source. The marked set
-/// is the reduced Gröbner basis for its marking, where marked coefficients may be any. The cone may be cut with the non-negative orthant.
-/// As a fan, the fan of all faces of the cone is told in place of its sections.
+/// The sections, as `cone_text` of `gf_sections` has them, of a cone: of the closed cone of the marked set of the source, on which none of
+/// the set's normals is negative; or, with vectors as input, of the cone of the inequalities and equations of the source. The marked set is
+/// the reduced Gröbner basis for its marking; marked coefficients may be any nonzero fractions. With the option `restricted` the cone is
+/// intersected with the non-negative orthant. With `as_fan` the output is the fan of all faces of the cone in place of the sections.
 ///
 /// # Errors
 ///
-/// - `Syntax`, `TooWide`, `UnknownName` and `TooManyVariables` exactly where the source isn't the text of a ring and of a set in it,
-///   or with vectors for input of a dimension and of two lists of vectors, at the first token after which no such text goes on.
-/// - `ZeroPolynomial` where nothing remains of a polynomial of the set, with the index of the first one.
-/// - `Dimensions` exactly where the dimension is 0, or else where a vector has another number of entries: the first such inequality,
-///   or else the first such equation.
-/// - `Inconsistent` exactly where no positive weight gives the marking, with multipliers that show it.
-/// - `NotReduced` exactly where one does, and a marked monomial divides a term of another polynomial, or an unmarked term of its own:
-///   the first such polynomial, and its first such term.
-/// - `NotBasis` exactly where there is no such term, and the S-polynomial of two members made monic has another normal form than
-///   zero: the first such pair, with that normal form.
-/// - `Overflow` and `ExponentOverflow` only at a sum of the text, or at an operation of the checks whose operands don't fit.
-/// - `ConeOverflow` only at an operation of the elimination of the marking's system, of finding the rays of the cone, or of the
-///   elimination of a system for a combination; `WideVector` only for the first sum of rays of a facet that leaves its range.
+/// - `Syntax`, `TooWide`, `UnknownName`, `TooManyVariables` if and only if the source isn't the text of a ring and of a set in it, or with
+///   vectors as input of a dimension and of two lists of vectors: at the first token after which no such text continues.
+/// - `ZeroPolynomial` if all terms of a polynomial of the set cancel: the index of the first one.
+/// - `Dimensions` if and only if the dimension is 0, or a vector has another number of entries: the first such inequality, or if there is
+///   none the first such equation.
+/// - `Inconsistent` if and only if no positive weight gives the marking, with multipliers that show it.
+/// - `NotReduced` if and only if some positive weight does, and a marked monomial divides a term of another polynomial, or an unmarked term
+///   of its own: the first such polynomial, and its first such term.
+/// - `NotBasis` if and only if there is no such term, and the S-polynomial of two members made monic has a nonzero normal form: the first
+///   such pair, with the normal form.
+/// - `Overflow`, `ExponentOverflow`: the operands of a sum of the text, or of an operation of the checks, don't fit.
+/// - `ConeOverflow`: an operation of the elimination of the marking's system, of finding the rays of the cone, or of the elimination of a
+///   system for a combination leaves its range.
+/// - `WideVector`: the first sum of rays of a facet, or with `as_fan` of a maximal cone, that leaves its range.
+/// - `Memory`: memory runs out.
 pub fn answer(
     alloc: Global,
     source: &[u8],

@@ -1,4 +1,4 @@
-//! What `_homogeneityspace` writes for an input.
+//! The output of `_homogeneityspace` for an input.
 ghost use Rattle.std.specs.Prelude.{◌≡◌, ◌≤◌, ◌∷◌, ◌++◌, [], IfOk, IfErr, OnOk};
 ghost use Rattle.gf_text.specs.declared.TheConstants.{MOST_VARIABLES};
 ghost use Rattle.gf_text.specs.Sets.{AreIn};
@@ -18,7 +18,7 @@ use gf_text::Written;
 use gfan_common::refused::{Refused, of_gordan};
 use std::alloc::{AllocError, Global};
 
-/// Adds a polynomial, where something of it remains.
+/// Adds a polynomial if it isn't zero.
 fn push_nonzero(found: &mut Vec<Marked>, read: &Written) -> Result<(), AllocError>
     ensures { OnOk result (found.new.items ≡ found.old.items ++ marked_of read.now) }
 {
@@ -29,7 +29,7 @@ fn push_nonzero(found: &mut Vec<Marked>, read: &Written) -> Result<(), AllocErro
     Ok(())
 }
 
-/// The polynomials of a set of which something remains.
+/// The nonzero polynomials of a set.
 fn nonzero(alloc: Global, set: &[Written]) -> Result<Vec<Marked>, AllocError>
     ensures { IfOk result (λ found. found.items ≡ nonzero_of set.now) }
 {
@@ -54,7 +54,7 @@ fn space_of(alloc: Global, n: u32, set: &[Written]) -> Result<Rays, GordanError>
     Ok(space)
 }
 
-/// One cone.
+/// A list of a single cone.
 pub(crate) fn alone(alloc: Global, cone: Rays) -> Result<Vec<Rays>, AllocError>
     ensures { IfOk result (λ cones. cones.items ≡ cone ∷ []) }
 {
@@ -79,15 +79,17 @@ fn space_text(alloc: Global, n: u32, set: &[Written]) -> Result<Vec<u8>, Refusal
     Ok(text)
 }
 
-/// The homogeneity space of the set of the source, the vectors by which each of its polynomials is homogeneous, as a fan file of one cone.
-/// Zero polynomials put no condition.
+/// The homogeneity space of the set of the source, the vectors by which each of its polynomials is homogeneous, as a fan file with a single
+/// cone. Zero polynomials impose no condition.
 ///
 /// # Errors
 ///
-/// - `Syntax`, `TooWide`, `UnknownName` and `TooManyVariables` exactly where the source isn't the text of a ring and of a set in it, at
-///   the first token after which no such text goes on.
-/// - `Overflow` and `ExponentOverflow` only at a sum of the text; `ConeOverflow` only at an operation of finding the space, or its one
-///   face; `WideVector` only at a sum of the rays of that.
+/// - `Syntax`, `TooWide`, `UnknownName`, `TooManyVariables` if and only if the source isn't the text of a ring and of a set in it: at the
+///   first token after which no such text continues.
+/// - `Overflow`, `ExponentOverflow`: the operands of a sum of the text don't fit.
+/// - `ConeOverflow`: an operation of finding the space, or its only face, leaves its range.
+/// - `WideVector`: a sum of the rays of that face leaves the range.
+/// - `Memory`: memory runs out.
 pub fn answer(alloc: Global, source: &[u8]) -> Result<Vec<u8>, Refused>
     ensures ok { IfOk result (λ text. IsAnswered homogeneity_space_command (source.now ∷ []) text.items) }
     ensures err { IfErr result (λ e. IsRefusedOn homogeneity_space_command (source.now ∷ []) e.refusal) }

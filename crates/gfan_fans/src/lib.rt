@@ -1,6 +1,6 @@
-//! The commands on cones and fans, each a module: from the bytes of the input, or of two files, to the text of the answer.
+//! The commands on cones and fans, each a module with a function from the bytes of the input, or of two files, to the bytes of the output.
 //!
-//! What each writes, and why it doesn't, is said in `specs/`, a command a file.
+//! `specs/` has a file for each command: its output, and why it is refused.
 #![tactic(auto)]
 
 pub mod basis_test;

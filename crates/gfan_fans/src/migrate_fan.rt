@@ -1,4 +1,4 @@
-//! What `_migratefan` writes for an input.
+//! The output of `_migratefan` for an input.
 ghost use Rattle.std.specs.Prelude.{◌∷◌, [], None, IfOk, IfErr};
 ghost use Rattle.gf_frame.specs.Commands.{IsAnswered, IsRefusedOn};
 ghost use Rattle.gfan_common.specs.Refused.{IsNamedBy, IsOfSource};
@@ -10,7 +10,7 @@ use gf_front::Refusal;
 use gfan_common::refused::Refused;
 use std::alloc::Global;
 
-/// What is written for a text.
+/// The output for a text.
 fn text_of(alloc: Global, source: &[u8]) -> Result<Vec<u8>, Refusal>
     ensures ok { IfOk result (λ text. IsAnswered migrate_fan_command (source.now ∷ []) text.items) }
     ensures err { IfErr result (IsRefusedOn migrate_fan_command (source.now ∷ [])) }
@@ -22,14 +22,15 @@ fn text_of(alloc: Global, source: &[u8]) -> Result<Vec<u8>, Refusal>
     }
 }
 
-/// The fan that the source, a fan file, says, in the version 2: what is read of it has the same cones, each of them, and to migrate it once
-/// more changes nothing.
+/// The fan that the source, a fan file, describes, in the version 2. The fan that is read from this text has the same cones, and migrating
+/// it again gives the same text.
 ///
 /// # Errors
 ///
-/// - Those of a fan file, as `read` of `gf_fanfile` has them: `Syntax`, `TooWide`, `TooManyVariables`, `BadVersion`, `Missing` and
-///   `Dimensions` exactly where the source has such a fault.
-/// - `WideVector` also at a sum of the rays of a maximal cone.
+/// - Those of `read` of `gf_fanfile`. `Syntax`, `TooWide`, `TooManyVariables`, `BadVersion`, `Missing` and `Dimensions` if and only if the
+///   source has such a fault.
+/// - `WideVector` also if a sum of the rays of a maximal cone leaves the range.
+/// - `Memory`: memory runs out.
 pub fn answer(alloc: Global, source: &[u8]) -> Result<Vec<u8>, Refused>
     ensures ok { IfOk result (λ text. IsAnswered migrate_fan_command (source.now ∷ []) text.items) }
     ensures err { IfErr result (λ e. IsRefusedOn migrate_fan_command (source.now ∷ []) e.refusal) }

@@ -1,4 +1,4 @@
-//! What `_topolyhedralfan` writes for an input.
+//! The output of `_topolyhedralfan` for an input.
 ghost use Rattle.std.specs.Prelude.{◌≡◌, ◌≤◌, [], All, IfOk, IfErr, ◌∷◌};
 ghost use Rattle.std.specs.List.{AllZip};
 ghost use Rattle.gf_gordan.specs.Steps.{Failed};
@@ -46,7 +46,7 @@ fn cones_of(alloc: Global, sets: &[MarkedSet], cut: bool) -> Result<Vec<Rays>, G
     Ok(cones)
 }
 
-/// The text of the fan of the cones of marked sets in `n` variables, where each is a reduced basis: first all are checked.
+/// The text of the fan of the cones of marked sets in `n` variables, each of which is a reduced basis: first all sets are checked.
 fn fan_of_sets(alloc: Global, n: u32, sets: &[MarkedSet], cut: bool) -> Result<Vec<u8>, Refusal>
     requires few { n ≤ MOST_VARIABLES }
     requires variables { All (λ s. s.variables ≡ n) sets.now }
@@ -67,22 +67,25 @@ fn fan_of_sets(alloc: Global, n: u32, sets: &[MarkedSet], cut: bool) -> Result<V
 }
 
 /// The fan of all faces of the closed cones of the marked sets of the source, as a fan file. Each set is a reduced Gröbner basis for its
-/// marking, but for factors of its members and their order; on its cone none of its normals is negative, and where it is cut no entry
-/// either.
+/// marking, up to factors of its members and their order. On its cone none of its normals is negative; with the option `restrict` no entry
+/// is negative either.
 ///
 /// # Errors
 ///
-/// - `Syntax`, `TooWide`, `UnknownName` and `TooManyVariables` exactly where the source isn't the text of a ring and of a list of sets
-///   in it, at the first token after which no such text goes on.
-/// - `ZeroPolynomial` where nothing remains of a polynomial, with the number of the first set that has such a one, and the index of the
-///   first one in it.
-/// - Then of the first set that isn't such a basis: `Inconsistent` exactly where no positive weight gives its marking; `NotReduced`
-///   exactly where one does, and a mark divides a term that it shouldn't; `NotBasis` exactly where none does, and the S-polynomial of
-///   two members made monic has another normal form than zero; each with its first place.
-/// - `NotAFan` exactly where all sets are taken, and the meet of two of their cones isn't a face of both: the first such pair.
-/// - `Overflow` and `ExponentOverflow` only at a sum of the text or an operation of the checks; `ConeOverflow` only at a step of
-///   the elimination of a marking's system, or where all sets are taken at an operation of finding the rays of a cone, of the meet of two
-///   or of a face of one; `WideVector` only at a sum of the rays of a maximal cone.
+/// - `Syntax`, `TooWide`, `UnknownName`, `TooManyVariables` if and only if the source isn't the text of a ring and of a list of sets in it:
+///   at the first token after which no such text continues.
+/// - `ZeroPolynomial` if all terms of a polynomial cancel: the number of the first set with such a polynomial, and the index of the first
+///   one in it.
+/// - Then for the first set that isn't such a basis: `Inconsistent` if and only if no positive weight gives its marking; `NotReduced` if
+///   and only if some does, and a mark divides a term other than itself; `NotBasis` if and only if no mark does, and the S-polynomial of
+///   two members made monic has a nonzero normal form. Each has the first such place.
+/// - `NotAFan` if and only if all sets are such bases, and the intersection of two of their cones isn't a face of both: the first such
+///   pair.
+/// - `Overflow`, `ExponentOverflow`: the operands of a sum of the text, or of an operation of the checks, don't fit.
+/// - `ConeOverflow`: a step of the elimination of a marking's system leaves its range; or all sets are such bases, and an operation of
+///   finding the rays of a cone, of the intersection of two, or of a face does.
+/// - `WideVector`: a sum of the rays of a maximal cone leaves the range.
+/// - `Memory`: memory runs out.
 pub fn answer(
     alloc: Global,
     source: &[u8],

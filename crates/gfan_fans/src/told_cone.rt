@@ -1,4 +1,4 @@
-//! What `_groebnercone` tells of a cone.
+//! The descriptions of cones by `_groebnercone`.
 ghost use Rattle.std.specs.Prelude.{◌≡◌, ◌≤◌, IfOk, IfErr};
 ghost use Rattle.gf_gordan.specs.Alternative.{AreRows};
 ghost use Rattle.gf_text.specs.declared.TheConstants.{MOST_VARIABLES};
@@ -13,7 +13,7 @@ use gf_vec::IntVec;
 use gfan_common::refused::of_gordan;
 use std::alloc::{AllocError, Global};
 
-/// Why the sections of a cone aren't told, as a refusal of the run.
+/// The refusal of the sections of a cone, as one of the run.
 fn of_sections(error: SectionsError) -> Refusal
     ensures { result ≡ of_sections error }
 {
@@ -29,7 +29,7 @@ fn of_sections(error: SectionsError) -> Refusal
     }
 }
 
-/// The inequalities, with the unit vectors behind them where the cone is cut with the non-negative orthant.
+/// The inequalities, followed by the unit vectors if the cone is intersected with the non-negative orthant.
 pub(crate) fn restricted(
     alloc: Global,
     n: u32,
@@ -67,7 +67,7 @@ fn cone_fan(
     Ok(text)
 }
 
-/// What is told of the cone of inequalities and equations in `n` variables.
+/// The description of the cone of inequalities and equations in `n` variables.
 pub(crate) fn told(
     alloc: Global,
     n: u32,

@@ -1,4 +1,4 @@
-//! What `_tropicalhypersurface`, `_tropicalintersection` and `_minkowskisum` write for an input.
+//! The output of `_tropicalhypersurface`, `_tropicalintersection` and `_minkowskisum` for an input.
 ghost use Rattle.std.specs.Prelude.{◌≡◌, ◌≢◌, ◌⊎◌, ◌<◌, ◌≤◌, ◌^◌, [], All, length, None, IfOk, IfErr, OnOk, ◌∷◌};
 ghost use Rattle.gf_poly.specs.Polynomial.{HasVariables};
 ghost use Rattle.gf_tropical.specs.Refusals.{IsTropicalRefusal};
@@ -24,18 +24,18 @@ use gfan_common::refused::Refused;
 use std::alloc::Global;
 use std::thread::Threads;
 
-/// Which fan of the polynomials of a set.
+/// A fan of the polynomials of a set.
 #[derive(Clone, Copy, Debug)]
 pub enum TropicalFan {
-    /// The tropical hypersurface of the one polynomial.
+    /// The tropical hypersurface of a single polynomial.
     Hypersurface,
-    /// The meet of the tropical hypersurfaces.
+    /// The intersection of the tropical hypersurfaces.
     Intersection,
     /// The normal fan of the Minkowski sum of the Newton polytopes.
     MinkowskiSum,
 }
 
-/// Why there is no fan of polynomials, as a refusal of the run.
+/// The refusal of a fan of polynomials, as one of the run.
 pub(crate) fn of_tropical(error: TropicalError) -> Refusal
     ensures { result ≡ of_tropical error }
 {
@@ -51,7 +51,7 @@ pub(crate) fn of_tropical(error: TropicalError) -> Refusal
     }
 }
 
-/// Whether there are as many polynomials as the fan is of.
+/// Checks that the number of polynomials is one that the fan may have.
 fn check_number(which: TropicalFan, count: usize) -> Result<(), Refusal>
     ensures ok { OnOk result (HasNumber which count) }
     ensures err { IfErr result (IsNumberRefusal which count) }
@@ -71,7 +71,7 @@ fn check_number(which: TropicalFan, count: usize) -> Result<(), Refusal>
     }
 }
 
-/// The polynomials of a set in `n` variables, of which none is zero. They are counted in 32 bits.
+/// The polynomials of a set in `n` variables, none of which is zero. There are fewer than `2^32`.
 pub(crate) fn nonzero_polynomials(
     alloc: Global,
     n: u32,
@@ -116,7 +116,7 @@ fn fan_of<R: Threads + Sync>(
     }
 }
 
-/// What is written for what is read.
+/// The output for what is read.
 fn text_of<R: Threads + Sync>(
     rt: &R,
     alloc: Global,
@@ -142,19 +142,21 @@ fn text_of<R: Threads + Sync>(
     }
 }
 
-/// A fan of the polynomials of the set of the source, as a fan file, by the maximum convention: the tropical hypersurface of its one
-/// polynomial, the meet of the hypersurfaces of all of them, or the normal fan of the Minkowski sum of their Newton polytopes.
+/// A fan of the polynomials of the set of the source, as a fan file, by the maximum convention: the tropical hypersurface of its only
+/// polynomial, the intersection of the hypersurfaces of all of them, or the normal fan of the Minkowski sum of their Newton polytopes.
 ///
 /// # Errors
 ///
-/// - `Syntax`, `TooWide`, `UnknownName` and `TooManyVariables` exactly where the source isn't the text of a ring and of a set in it, at
-///   the first token after which no such text goes on.
-/// - `Dimensions` exactly where a hypersurface is asked for and the set hasn't just one polynomial, with their number and 1.
-/// - `ZeroPolynomial` exactly where there are as many polynomials as are asked for and nothing remains of one, with the index of the
-///   first one.
-/// - `Overflow` and `ExponentOverflow` only at a sum of the text; `ConeOverflow` only at an operation of finding the rays of a cone that
-///   the fan is made from: the cone of one or two exponents of a polynomial, the whole space, a face of a cone, or the meet of two;
-///   `WideVector` only at a sum of the rays of a maximal cone.
+/// - `Syntax`, `TooWide`, `UnknownName`, `TooManyVariables` if and only if the source isn't the text of a ring and of a set in it: at the
+///   first token after which no such text continues.
+/// - `Dimensions` if and only if the fan is a hypersurface and the set hasn't exactly one polynomial: their number and 1.
+/// - `ZeroPolynomial` if and only if the number of polynomials is one that the fan may have, and all terms of a polynomial cancel: the
+///   index of the first one.
+/// - `Overflow`, `ExponentOverflow`: the operands of a sum of the text don't fit.
+/// - `ConeOverflow`: an operation leaves its range that finds the rays of a cone from which the fan is made: the cone of one or two
+///   exponents of a polynomial, the whole space, a face of a cone, or the intersection of two.
+/// - `WideVector`: a sum of the rays of a maximal cone leaves the range.
+/// - `Memory`: memory runs out.
 pub fn answer<R: Threads + Sync>(
     rt: &R,
     alloc: Global,

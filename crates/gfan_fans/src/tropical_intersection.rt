@@ -1,4 +1,4 @@
-//! What `_tropicalintersection` writes for an input.
+//! The output of `_tropicalintersection` for an input.
 ghost use Rattle.std.specs.Prelude.{◌∷◌, [], IfOk, IfErr};
 ghost use Rattle.gf_frame.specs.Commands.{IsAnswered, IsRefusedOn};
 ghost use Rattle.gfan_common.specs.Refused.{IsOfSource};
@@ -11,11 +11,12 @@ use gfan_common::refused::Refused;
 use std::alloc::Global;
 use std::thread::Threads;
 
-/// The fan of the tropical prevariety of the source's set; or whether the set is a tropical basis of its ideal.
+/// The fan of the tropical prevariety of the source's set, as a fan file; with the option `basis_test` whether the set is a tropical basis
+/// of its ideal: `1`, or `0` and in the next line a vector of the prevariety that shows that it isn't.
 ///
 /// # Errors
 ///
-/// As those of `tropical::answer`, or of `basis_test::answer`.
+/// Those of `tropical::answer` for the intersection; with `basis_test` those of `basis_test::answer`.
 pub fn answer<R: Threads + Sync>(
     rt: &R,
     alloc: Global,
