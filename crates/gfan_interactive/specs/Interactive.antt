@@ -1,5 +1,5 @@
--- `_interactive`: what it reads, how its session goes, and why it is cut off. What the input and the output show before and after stands in
--- this order.
+-- `_interactive`: its input, its session, and why it is cut off. The arguments are in this order: the input before and after, and the
+-- output before and after.
 use Rattle.std.specs.Prelude.{◌≡◌, ℕ, List, [], ◌∷◌, ◌++◌, length, Option}
 use Rattle.std.specs.Io.KnownBytes.{Appends}
 use Rattle.gf_poly.specs.Marking.{MarkedPolynomials, HaveVariables, polys}
@@ -32,18 +32,19 @@ use Rattle.gfan_common.specs.ReducedSets.{IsReducedAsRead, IsCheckedWithin}
 
 -- ---- where a session begins
 
--- the set, in its variables as any that is read, is the reduced basis where a session begins, but for factors of its members and their order
+-- the members of s are in its variables, and start is the reduced basis that s is, up to factors of its members and their order
 pub record IsStart (s start : MarkedPolynomials) : Type 0 where
   pub variables : HaveVariables s.variables s.items
   pub read : IsReducedAsRead s start
 
--- the ring in a line, and what is told of the first basis
+-- the text is the ring in a line, and what is printed for the first basis
 pub record IsOpening (ring : List (List ℕ)) (start : MarkedPolynomials) (text : List ℕ) : Type 0 where
   pub prompt : List ℕ
   pub told : IsPrompt ring start 0 prompt
   pub is_text : text ≡ ring_text ring ++ prompt
 
--- the set isn't taken as a reduced basis; or it is, and a step of the system of a normal of the basis leaves its range; or there is no memory
+-- the set is refused as a reduced basis; or it is one, and a step of the system of a normal of the basis leaves its range; or memory runs
+-- out
 pub data IsUnopened (pairs : ℕ) (s : MarkedPolynomials) (r : Refusal) : Type 0 where
   at_set : (e : CheckError) → IsReducedRefusal 0 s e → r ≡ of_check e → IsUnopened pairs s r
   at_start : (start : MarkedPolynomials) (e : TreeError) → IsReducedAsRead s start → IsRefusedAtBasis (all_positive start.variables) pairs start e → r ≡ of_tree e → IsUnopened pairs s r
@@ -51,12 +52,12 @@ pub data IsUnopened (pairs : ℕ) (s : MarkedPolynomials) (r : Refusal) : Type 0
 
 -- ---- the session
 
--- a walk that begins at a basis
+-- the walk that consists of its first basis
 abbrev pub walk_from : MarkedPolynomials → Trail MarkedPolynomials
 walk_from start = record { here = start; before = [] }
 
--- The opening is written, and the session that begins at this basis ended: at the line `q` or at the end of the input, with the answers to all
--- lines that were taken before. No more was taken than an input may have, and no fault is counted.
+-- The opening was written, and the session from this basis ended: at the line `q` or at the end of the input, with the answers to all lines
+-- that were read before. At most as many bytes were read as an input may have, and no fault was counted.
 pub record IsSessionHeld (ring : List (List ℕ)) (start : MarkedPolynomials) (i j : InputSeen) (o k : OutputSeen) : Type 0 where
   pub text : List ℕ
   pub opening : IsOpening ring start text
@@ -66,7 +67,7 @@ pub record IsSessionHeld (ring : List (List ℕ)) (start : MarkedPolynomials) (i
   pub short : TookAtMost i.left j.left i.given j.given 67108864
   pub calm : j.faults ≡ i.faults
 
--- why a session is cut off, as a refusal of the run
+-- the refusal by which a session is cut off, as one of the run
 abbrev pub of_session : SessionError TreeError → Refusal
 of_session errors.ReadFault = refusals.ReadFault
 of_session errors.InputTooLong = refusals.InputTooLong
@@ -74,8 +75,8 @@ of_session errors.WriteFault = refusals.WriteFault
 of_session errors.Memory = refusals.Memory
 of_session (errors.Refused e) = of_tree e
 
--- The opening isn't written whole, since a write failed, and no line is taken; or it is, and the session is cut off, with the answers to all
--- lines before the last one, and where a write failed a prefix of them all.
+-- A write of the opening failed, a prefix of it was written, and no line was read. Or the opening was written, and the session was cut off,
+-- with the answers to all lines before the last one; if a write failed, with a prefix of them.
 pub data IsSessionCutOff (pairs : ℕ) (ring : List (List ℕ)) (start : MarkedPolynomials) (i j : InputSeen) (o k : OutputSeen) (r : Refusal) : Type 0 where
   in_opening : (text : List ℕ) → IsOpening ring start text → r ≡ refusals.WriteFault → Rose o.faults k.faults → AppendsPrefix o.held k.held text → j ≡ i →
       IsSessionCutOff pairs ring start i j o k r
@@ -84,19 +85,19 @@ pub data IsSessionCutOff (pairs : ℕ) (ring : List (List ℕ)) (start : MarkedP
       IsWithinInput i.left j.left i.given j.given e → IsReadCalm i.faults j.faults e → IsWriteCalm o.faults k.faults e → r ≡ of_session e →
       IsSessionCutOff pairs ring start i j o k r
 
--- a session from the basis that the set is
+-- a session from the basis that the set is was held to its end
 pub record IsHeldFrom (ring : List (List ℕ)) (s : MarkedPolynomials) (i j : InputSeen) (o k : OutputSeen) : Type 0 where
   pub start : MarkedPolynomials
   pub is_start : IsStart s start
   pub held : IsSessionHeld ring start i j o k
 
--- it is cut off
+-- a session from the basis that the set is was cut off
 pub record IsCutFrom (pairs : ℕ) (ring : List (List ℕ)) (s : MarkedPolynomials) (i j : InputSeen) (o k : OutputSeen) (r : Refusal) : Type 0 where
   pub start : MarkedPolynomials
   pub is_start : IsStart s start
   pub cut : IsSessionCutOff pairs ring start i j o k r
 
--- the set is a reduced basis, no operation of its checks leaves its limits, and none of the search over the bases of its ideal
+-- the set is a reduced basis, no operation of its checks leaves its limits, nor does one of the search over the bases of its ideal
 pub record IsWalkedWithin (pairs n : ℕ) (s : MarkedPolynomials) : Type 0 where
   pub checked : IsCheckedWithin s
   pub same : s.variables ≡ n
@@ -126,14 +127,14 @@ interactive_command name pairs = record {
 abbrev pub input_seen : Option (List ℕ) → ℕ → ℕ → InputSeen
 input_seen left given faults = record { left = left; given = given; faults = faults }
 
--- the text says a ring and a set, and a session over it ended
+-- the text is that of a ring and a set, and a session over it ended
 pub record IsConversed (source : List ℕ) (i j : InputSeen) (o k : OutputSeen) : Type 0 where
   pub value : List (List ℕ) × MarkedPolynomials
   pub read : IsTextOf ring_marked_set source value
   pub held : IsHeldFrom value.0 value.1 i j o k
   pub calm : k.faults ≡ o.faults
 
--- the command is refused on the text, and nothing moved; or the session is cut off
+-- the command is refused for the text, and neither the input nor the output has changed; or the session is cut off
 pub data IsNotConversed (name : List ℕ) (pairs : ℕ) (source : List ℕ) (i j : InputSeen) (o k : OutputSeen) (r : Refusal) : Type 0 where
   on_text : IsRefusedOn (interactive_command name pairs) (source ∷ []) r → j ≡ i → k ≡ o → IsNotConversed name pairs source i j o k r
   in_turns : (v : List (List ℕ) × MarkedPolynomials) → IsTextOf ring_marked_set source v → IsCutFrom pairs v.0 v.1 i j o k r → IsNotConversed name pairs source i j o k r

@@ -1,1 +1,1 @@
-pub mod Interactive  -- what `_interactive` reads and writes, and how its session goes
+pub mod Interactive  -- the input, the output and the session of `_interactive`

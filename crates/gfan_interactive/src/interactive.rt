@@ -1,4 +1,4 @@
-//! What `_interactive` does: a session over the bases of an ideal, from the basis of a file on.
+//! The command `_interactive`: a session over the bases of an ideal, which starts at the basis of a file.
 ghost use Rattle.std.specs.Prelude.{◌≡◌, ℕ, List, length, IfOk, IfErr, OnOk};
 ghost use Rattle.gf_basis_places.specs.BasisRules.{IsBasisPlace};
 ghost use Rattle.gf_frame.specs.Seen.{output_seen};
@@ -18,7 +18,7 @@ use gfan_common::reduced_sets::reduced_basis;
 use gfan_common::refused::{Refused, of_check, of_tree};
 use std::alloc::{AllocError, Global};
 
-/// Why a session is cut off, as a refusal of the run.
+/// The refusal by which a session is cut off, as one of the run.
 fn of_session(error: SessionError<TreeError>) -> Refusal
     ensures { result ≡ of_session error }
 {
@@ -31,7 +31,7 @@ fn of_session(error: SessionError<TreeError>) -> Refusal
     }
 }
 
-/// The basis of the set, as the place where a session begins.
+/// The basis of the set, as the place at which a session starts.
 fn start_of(alloc: Global, set: &MarkedSet) -> Result<BasisPlace, Refusal>
     ensures ok { IfOk result (IsReducedAsRead set.now) }
     ensures err { (pairs : ℕ) → IfErr result (IsUnopened pairs set.now) }
@@ -46,7 +46,7 @@ fn start_of(alloc: Global, set: &MarkedSet) -> Result<BasisPlace, Refusal>
     }
 }
 
-/// What stands before the first line: the ring in a line, and what is told of the first basis.
+/// The text before the first line: the ring in a line, and what is printed for the first basis.
 fn opening(alloc: Global, ring: &Ring, start: &BasisPlace) -> Result<Vec<u8>, AllocError>
     requires { start.now.variables ≡ length ring.now }
     ensures { IfOk result (λ text. IsOpening ring.now start.now text.items) }
@@ -89,32 +89,38 @@ fn talk<S: Source, K: Sink>(
     }
 }
 
-/// Holds a session over the bases of the ideal of a file's basis, whose text this is: writes the ring in a line and what is told of the basis,
-/// and then takes lines, one byte a read, and answers each before it takes the next, until `q` or the end of the input.
+/// Holds a session over the bases of the ideal of a file's basis; `source` is the text of the file. It writes the ring in a line and the
+/// lines for the basis. Then it reads lines, one byte with each read, and answers each line before it reads the next, until `q` or the end
+/// of the input.
 ///
-/// The set of the text is a reduced Gröbner basis for its marking, but for factors of its members and their order; it is shown monic and
-/// arranged. Of a basis are told the normals that a flip may cross, each with its number, and how many crossings aren't undone. A number
-/// crosses to the basis on the other side, `u` goes back to the one before: by a flip back, which gives that basis.
+/// The set of the text is a reduced Gröbner basis for its marking, up to factors of its members and their order; it is printed monic and
+/// arranged. For a basis the normals that a flip may cross are printed, each with its number, and how many crossings were not undone. A
+/// number crosses to the basis on the other side; `u` goes back to the previous basis, by a flip back, which gives exactly that basis. Each
+/// flip may settle `pairs` pairs.
 ///
 /// # Errors
 ///
 /// Before anything is written, and before the input is read:
 ///
-/// - `Syntax`, `TooWide`, `UnknownName`, `TooManyVariables` and `ZeroPolynomial` as `ring_and_marked` has them.
-/// - `Inconsistent`, `NotReduced` and `NotBasis` exactly where the set isn't such a basis, each with its first place, unless numbers of the checks
-///   don't fit.
+/// - `Syntax`, `TooWide`, `UnknownName`, `TooManyVariables` if and only if `source` isn't the text of a ring and of a set in it: at the
+///   first token after which no such text continues. `ZeroPolynomial` if all terms of a polynomial of the set cancel: the index of the
+///   first one.
+/// - `Inconsistent`, `NotReduced`, `NotBasis` if and only if the set isn't such a basis, each with the first place, unless numbers of the
+///   checks don't fit.
 ///
-/// In the session, where a piece ends, so that each line before the last one has its answer and nothing of the last one's stands:
+/// In the session, at the end of a piece, so that each line before the last one has its answer and nothing of the answer to the last one is
+/// written:
 ///
-/// - `ReadFault` only where a read failed; `InputTooLong` exactly where one byte more than 67,108,864 was taken.
+/// - `ReadFault`: a read failed.
+/// - `InputTooLong` if and only if more than 67,108,864 bytes were read.
 ///
 /// And at any time:
 ///
-/// - `Overflow`, `ExponentOverflow` and `ConeOverflow` only at an operation of the text or the checks, of a flip across a facet of a basis
-///   that the last line looks at, or of the system that tells whether a flip may cross it; `PairBudget` only where a run of such a flip has
-///   more pairs to settle.
-/// - `WriteFault` only where a write failed, or took nothing; a prefix of the transcript stands.
-/// - `Memory` at any growth.
+/// - `Overflow`, `ExponentOverflow`, `ConeOverflow`: the operands of an operation of the text or the checks don't fit; or those of a flip
+///   across a facet of a basis to which the last line refers, or of the system that decides whether a flip may cross it.
+/// - `PairBudget`: such a flip has more pairs to settle.
+/// - `WriteFault`: a write failed, or wrote nothing; a prefix of the transcript is written.
+/// - `Memory`: memory runs out.
 pub fn perform<S: Source, K: Sink>(
     alloc: Global,
     source: &[u8],

@@ -1,6 +1,6 @@
 //! The command that takes turns with its input: a session over the bases of an ideal, line by line.
 //!
-//! How it goes, and why it is cut off, is said in `specs/`.
+//! `specs/Interactive.antt` defines its course, and when it is cut off.
 #![tactic(auto)]
 
 pub mod interactive;
