@@ -1,4 +1,4 @@
--- What the certificates show that `_bases` writes. Laws: proofs/CertifiedLaws.antt.
+-- The meaning of the certificates that `_bases` writes. Laws: proofs/CertifiedLaws.antt.
 -- Source: Fukuda, Jensen, Thomas, Computing Gröbner fans, 2 and 4.
 use Rattle.std.specs.Prelude.{◌≡◌, ◌↔◌, ℕ, Bool, true, List, ◌++◌, length, All, Contains, ℤ, pos, ◌<ℤ◌, Option}
 use Rattle.std.specs.List.{AllZip}
@@ -20,8 +20,9 @@ use Rattle.gfan_lists.specs.Bases.{list_text, IsTextOfBasesIn, IsTextOfBases}
 use Rattle.gfan.specs.Commands.{list_job, IsAnswerTo}
 use Rattle.gfan.specs.ListSources.{HasPolynomials}
 
--- what is printed behind a basis of the ideal of fs: a positive weight, for which it is the ideal's reduced basis; and exactly the facets
--- that a flip may cross, their normals ascending, each with a positive vector that is zero on its normal and positive on all others
+-- the text is that of the basis b of the ideal of fs, followed by certificates. The weight is positive, and b is the reduced basis of the
+-- ideal for it. The facets are exactly those that a flip may cross, in ascending order of their normals. Each has a positive vector that is
+-- orthogonal to its normal and positive on all other normals
 pub record HasCertificates (ring : List (List ℕ)) (fs : List Terms) (b : MarkedPolynomials) (text : List ℕ) : Type 0 where
   pub weight : List ℤ
   pub facets : List FacetWitness
@@ -33,8 +34,9 @@ pub record HasCertificates (ring : List (List ℕ)) (fs : List Terms) (b : Marke
   pub exactly : (a : List ℤ) → Contains (normals_of facets) a ↔ IsFlippable (length ring) (all_positive (length ring)) b.items a
   pub inside : (f : FacetWitness) → Contains facets f → IsInRegion (length ring) (all_positive (length ring)) f.witness × IsInsideFacet b.items f.normal f.witness
 
--- so it is in a region: the weight is in it, and exactly the facets are printed that a flip may cross there, each with a witness in the
--- region
+-- the text is that of the basis b of the ideal of fs, followed by certificates in the region k. The weight is in the region, and b is the
+-- reduced basis of the ideal for it. The facets are exactly those that a flip may cross in the region, in ascending order of their normals.
+-- Each has a vector of the region in its relative interior
 pub record HasCertificatesIn (ring : List (List ℕ)) (k : Region) (fs : List Terms) (b : MarkedPolynomials) (text : List ℕ) : Type 0 where
   pub weight : List ℤ
   pub facets : List FacetWitness
@@ -45,22 +47,22 @@ pub record HasCertificatesIn (ring : List (List ℕ)) (k : Region) (fs : List Te
   pub exactly : (a : List ℤ) → Contains (normals_of facets) a ↔ IsFlippable (length ring) k b.items a
   pub inside : (f : FacetWitness) → Contains facets f → IsInRegion (length ring) k f.witness × IsInsideFacet b.items f.normal f.witness
 
--- the text is that of all bases of the ideal of fs in a region, and so it is with what is printed behind each of them
+-- the text is that of the list of all bases of the ideal of fs in a region, each followed by certificates in the region
 abbrev pub IsCertifiedListIn : List (List ℕ) → Region → List Terms → List ℕ → Type 0
 IsCertifiedListIn ring k fs text = (list : List MarkedPolynomials) × AreAllBasesIn (length ring) k fs list × ((items : List (List ℕ)) × AllZip (HasCertificatesIn ring k fs) list items × (text ≡ list_text ring items))
 
--- the same for all positive weights
+-- the text is that of the list of all bases of the ideal of fs, each followed by certificates
 abbrev pub IsCertifiedList : List (List ℕ) → List Terms → List ℕ → Type 0
 IsCertifiedList ring fs text = (list : List MarkedPolynomials) × AreAllBases (length ring) fs list × ((items : List (List ℕ)) × AllZip (HasCertificates ring fs) list items × (text ≡ list_text ring items))
 
--- so it is with a list that is written with certificates, of polynomials in the variables of the ring; and with the answer of
--- `_bases --certificates` for a source
+-- each list that is written with certificates, of polynomials in the variables of the ring, has certificates in this sense; so has the
+-- output of `_bases --certificates` for each source
 pub record CertificatesHold : Type 0 where
   pub of_lists : (limit : Option ℕ) (ring : List (List ℕ)) (fs : List Terms) (text : List ℕ) → AreInVariables (length ring) fs → IsTextOfBases true limit ring fs text → IsCertifiedList ring fs text
   pub of_answers : (from_basis : Bool) (o : ListOptions) (workers : ℕ) (source text : List ℕ) → o.certified ≡ true → IsAnswerTo (list_job from_basis o workers) source text →
       (ring : List (List ℕ)) × (fs : List Terms) × HasPolynomials from_basis source ring fs × IsCertifiedList ring fs text
 
--- so it is with a list in a region, of polynomials in the variables of the ring
+-- each list in a region that is written with certificates, of polynomials in the variables of the ring, has certificates in this sense
 abbrev pub RegionCertificatesHold : Type 0
 RegionCertificatesHold = (limit : Option ℕ) (ring : List (List ℕ)) (k : Region) (fs : List Terms) (text : List ℕ) → AreInVariables (length ring) fs → IsRegion (length ring) k →
     IsTextOfBasesIn true limit ring k fs text → IsCertifiedListIn ring k fs text

@@ -40,11 +40,11 @@ use Rattle.gfan_lists.specs.Generated.{generated_command}
 use Rattle.gfan_sets.specs.Saturation.{saturation_command}
 use Rattle.gfan_interactive.specs.Interactive.{interactive_command}
 
--- what `_bases` is asked, besides what it reads and how many workers there are
+-- the options on which the list of `_bases` depends: not the files that are read, nor the number of workers
 abbrev pub list_options : BasesOptions → ListOptions
 list_options o = record { limit = o.limit; pairs = o.pairs; certified = o.certificates }
 
--- the job of `_bases` that asks this for all positive weights, from a basis or from generators
+-- the job of `_bases` with these options, for all positive weights, from a basis or from generators
 abbrev pub list_job : Bool → ListOptions → ℕ → Job
 list_job from_basis o workers = jobs.Bases (record {
   from_basis = from_basis;
@@ -56,7 +56,7 @@ list_job from_basis o workers = jobs.Bases (record {
   after = None;
 })
 
--- the command without options
+-- the commands without options
 abbrev pub plain_command : PlainCommand → Command
 plain_command plains.IsMarkedGroebnerBasis = marked_command
 plain_command plains.DoesIdealContain = containment_command
@@ -70,7 +70,7 @@ plain_command plains.TropicalHypersurface = tropical_command fans.Hypersurface
 plain_command plains.MinkowskiSum = tropical_command fans.MinkowskiSum
 plain_command plains.MigrateFan = migrate_fan_command
 
--- what a list is of: the input, behind the file of its region where one is named
+-- the sources of a list: the input, and before it the file of its region if one is named
 abbrev pub list_sources : Option (List ℕ) → List Origin
 list_sources None = Origin.the_input ∷ []
 list_sources (Some name) = Origin.a_file name ∷ (Origin.the_input ∷ [])
@@ -80,22 +80,22 @@ abbrev pub list_command : Bool → ListOptions → Command
 list_command false o = bases_command o
 list_command true o = given_bases_command o
 
--- the list of those in the region of the file of this name
+-- the list of the bases in the region of the file with this name
 abbrev pub within_command : List ℕ → Bool → ListOptions → Command
 within_command name false o = bases_within_command name o
 within_command name true o = given_within_command name o
 
--- the list, in a region where one is named
+-- the list, in a region if one is named
 abbrev pub bases_of : Option (List ℕ) → Bool → ListOptions → Command
 bases_of None from_basis o = list_command from_basis o
 bases_of (Some name) from_basis o = within_command name from_basis o
 
--- the list behind the basis of a file where one is named
+-- the list; if a file is named, what follows the basis of this file in it
 abbrev pub list_of : Option (List ℕ) → Option (List ℕ) → Bool → ListOptions → Command
 list_of None within from_basis o = bases_of within from_basis o
 list_of (Some after) within from_basis o = after_command from_basis (is_some within) (after_sources within after) o
 
--- the command of each job; those of `_bases` and `_generated` are the same for every number of workers
+-- the command of each job. The commands of `_bases` and `_generated` don't depend on the number of workers
 abbrev pub command_of : Job → Command
 command_of (jobs.Plain c) = plain_command c
 command_of (jobs.Buchberger o) = buchberger_command o
@@ -110,22 +110,22 @@ command_of (jobs.Generated o) = generated_command o
 command_of (jobs.Saturation o) = saturation_command o
 command_of (jobs.Interactive o) = interactive_command o.file o.pairs
 
--- the job reads the input alone
+-- the job reads only the input
 abbrev pub ReadsInputAlone : Job → Type 0
 ReadsInputAlone job = (command_of job).reads ≡ Origin.the_input ∷ []
 
--- the text is what the job writes for this source, the only one
+-- the text is the output of the job for this source, which is its only one
 abbrev pub IsAnswerTo : Job → List ℕ → List ℕ → Type 0
 IsAnswerTo job source text = IsAnswered (command_of job) (source ∷ []) text
 
--- the texts are what the list is of, and nothing that may be done with them leaves its limits, but the list goes on past this limit
+-- the texts are the sources of the list, the list continues after this limit, and no operation until then leaves its limits
 abbrev pub AreTextsPast : Bool → ListOptions → List (List ℕ) → ℕ → Type 0
 AreTextsPast false o texts most =
     (v : List (List ℕ) × (List Written × Option (List ℤ))) × IsReadOfOne (ring_set_vector false) texts v × IsListPast o (length v.0) (generators_of v.1.0) most
 AreTextsPast true o texts most =
     (v : List (List ℕ) × MarkedPolynomials) × IsReadOfOne ring_marked_set texts v × IsGivenListPast o (length v.0) v.1 most
 
--- so it is in the region of the first text
+-- the same for the list in the region of the first text
 abbrev pub AreTextsPastWithin : Bool → ListOptions → List (List ℕ) → ℕ → Type 0
 AreTextsPastWithin from_basis o [] most = ⊥
 AreTextsPastWithin false o (file ∷ texts) most =
@@ -135,17 +135,17 @@ AreTextsPastWithin true o (file ∷ texts) most =
     (rows : List (List ℤ)) × (v : List (List ℕ) × MarkedPolynomials) × IsTextOf vectors_alone file rows × IsReadOfOne ring_marked_set texts v
     × IsGivenPastWithin o (length v.0) rows v.1 most
 
--- in a region where one is named
+-- the same for the list of all bases, or for the list in a region if one is named
 abbrev pub AreTextsPastIn : Option (List ℕ) → Bool → ListOptions → List (List ℕ) → ℕ → Type 0
 AreTextsPastIn None from_basis o texts most = AreTextsPast from_basis o texts most
 AreTextsPastIn (Some name) from_basis o texts most = AreTextsPastWithin from_basis o texts most
 
--- of the whole list, or behind the basis of a file
+-- the same for the whole list, or for what follows the basis of a file in it if one is named
 abbrev pub AreTextsPastOf : Option (List ℕ) → Option (List ℕ) → Bool → ListOptions → List (List ℕ) → ℕ → Type 0
 AreTextsPastOf None within from_basis o texts most = AreTextsPastIn within from_basis o texts most
 AreTextsPastOf (Some after) within from_basis o texts most = AreTextsPastAfter from_basis (is_some within) o texts most
 
--- the job is `_bases`, and so it is with its list
+-- the job is `_bases`, its list continues after its limit, and no operation until then leaves its limits
 abbrev pub IsPastReach : Job → List (List ℕ) → ℕ → Type 0
 IsPastReach (jobs.Bases o) texts most = AreTextsPastOf o.after o.within o.from_basis (list_options o) texts most
 IsPastReach _ texts most = ⊥

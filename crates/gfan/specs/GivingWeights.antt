@@ -8,7 +8,7 @@ use Rattle.gf_items.specs.Sources.{ring_marked_set, ring_marked_sets}
 use Rattle.gfan_sets.specs.WeightVector.{GivesBasis, weights_text}
 use Rattle.gfan.specs.Commands.{IsAnswerTo}
 
--- the source is the text of the ring and of a set in it, the only one, or of a list of sets
+-- the source is the text of the ring and of a single set in it, or of a list of sets
 abbrev pub HasSets : Bool → List ℕ → List (List ℕ) → List MarkedPolynomials → Type 0
 HasSets false source ring sets = (s : MarkedPolynomials) × (sets ≡ s ∷ []) × IsTextOf ring_marked_set source (ring, s)
 HasSets true source ring sets = IsTextOf ring_marked_sets source (ring, sets)
@@ -22,6 +22,6 @@ pub record HasGivingWeights (listed echoed : Bool) (source text : List ℕ) : Ty
   pub is_text : text ≡ weights_text listed echoed ring (zip sets weights)
   pub give : AllZip GivesBasis sets weights
 
--- so it is with all that `_weightvector` writes
+-- each output of `_weightvector` is such a text
 abbrev pub WrittenWeightsGiveBases : Type 0
 WrittenWeightsGiveBases = (listed echoed : Bool) (source text : List ℕ) → IsAnswerTo (jobs.WeightVector (record { listed = listed; echoed = echoed })) source text → HasGivingWeights listed echoed source text

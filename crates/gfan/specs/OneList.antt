@@ -1,4 +1,4 @@
--- An ideal has one list of all bases, and `_bases` writes one text for a source.
+-- An ideal has exactly one list of all bases, and `_bases` writes exactly one text for a source.
 -- Laws: OneListLaws of gfan_lists, proofs/OneTextLaws.antt.
 use Rattle.std.specs.Prelude.{◌≡◌, ℕ, Bool, List, [], ◌∷◌}
 use Rattle.gf_poly.specs.Polynomial.{Terms}
@@ -14,22 +14,23 @@ use Rattle.gfan.specs.Commands.{list_job, within_command, IsAnswerTo}
 abbrev pub ListsExist : Type 0
 ListsExist = (n : ℕ) (fs : List Terms) → AreInVariables n fs → (list : List MarkedPolynomials) × AreAllBases n fs list
 
--- an ideal has no two lists of all its bases, so that what is written for it is one text
+-- an ideal has at most one list of all its bases
 abbrev pub ListsAreOne : Type 0
 ListsAreOne = (n : ℕ) (fs : List Terms) (list other : List MarkedPolynomials) → AreInVariables n fs → AreAllBases n fs list → AreAllBases n fs other → list ≡ other
 
--- two runs of `_bases`, both with certificates or both without, that come to the end of the list of one source have written the same
--- text, whatever the numbers of their workers were, and their limits and budgets
+-- two runs of `_bases`, both with `-g` or both without it, and both with certificates or both without, that write the whole list for the
+-- same source have written the same text. The numbers of their workers, their limits and their budgets may differ
 abbrev pub TextsAreOne : Type 0
 TextsAreOne = (from_basis : Bool) (o u : ListOptions) (workers others : ℕ) (source text same : List ℕ) → u.certified ≡ o.certified → IsAnswerTo (list_job from_basis o workers) source text →
     IsAnswerTo (list_job from_basis u others) source same → text ≡ same
 
--- so it is in each region: an ideal has no two lists of the bases in it
+-- an ideal has at most one list of its bases in a region
 abbrev pub RegionListsAreOne : Type 0
 RegionListsAreOne = (n : ℕ) (k : Region) (fs : List Terms) (list other : List MarkedPolynomials) → AreInVariables n fs → IsRegion n k → AreAllBasesIn n k fs list → AreAllBasesIn n k fs other → list ≡ other
 
--- and two runs of `_bases --within` that come to the end of the list of one source for one file of vectors, under whatever names, have
--- written the same text
+-- two runs of `_bases --within`, both with `-g` or both without it, and both with certificates or both without, that write the whole list
+-- for the same source and the same vectors have written the same text. The names of the file of the vectors, the limits and the budgets may
+-- differ
 abbrev pub RegionTextsAreOne : Type 0
 RegionTextsAreOne = (name other : List ℕ) (from_basis : Bool) (o u : ListOptions) (file source text same : List ℕ) → u.certified ≡ o.certified → IsAnswered (within_command name from_basis o) (file ∷ (source ∷ [])) text →
     IsAnswered (within_command other from_basis u) (file ∷ (source ∷ [])) same → text ≡ same

@@ -1,4 +1,4 @@
--- What `_buchberger` and `_bases` read, where each polynomial is written as a monomial or as the difference of two, without numbers.
+-- The inputs of `_buchberger` and `_bases` whose polynomials are written as monomials or differences of two monomials, without numbers.
 -- Laws: proofs/PlainInputLaws.antt.
 use Rattle.std.specs.Prelude.{ℕ, List, [], ◌∷◌, Option, None, Some}
 use Rattle.gf_text.specs.declared.tree.WrittenTerm.{WrittenTerm}
@@ -11,7 +11,8 @@ use Rattle.gf_front.specs.declared.command_line.Job.{Job}
 use Rattle.gf_front.specs.declared.command_line.Job.TheVariants as jobs
 use Rattle.gf_items.specs.Items.{from}
 
--- the source begins with the text of a ring, behind it that of a set, and each polynomial of the set is written so
+-- the source begins with the text of a ring and of a set in it, each of whose polynomials is written as a monomial or a difference of two,
+-- without numbers
 pub record BeginsPlainly (source : List ℕ) : Type 0 where
   pub ring : List (List ℕ)
   pub behind : ℕ
@@ -21,36 +22,37 @@ pub record BeginsPlainly (source : List ℕ) : Type 0 where
   pub is_set : Reads (IsSetText ring) (lexemes (ring_more ring) source behind) said place
   pub plain : ArePlainlyWritten said
 
--- it is the only text
+-- there is only one text, and it is such a source
 abbrev pub IsPlainSource : List (List ℕ) → Type 0
 IsPlainSource [] = ⊥
 IsPlainSource (source ∷ []) = BeginsPlainly source
 IsPlainSource (source ∷ (other ∷ others)) = ⊥
 
--- the texts of a list are so: the only one, or that behind the file of a region
+-- the text after that of the region, if there is a region, is the only one, and it is such a source
 abbrev pub IsPlainList : Option (List ℕ) → List (List ℕ) → Type 0
 IsPlainList None texts = IsPlainSource texts
 IsPlainList (Some name) [] = ⊥
 IsPlainList (Some name) (file ∷ texts) = IsPlainSource texts
 
--- so are the text of the basis that a list goes on behind, and the only one behind it
+-- the first text, that of the basis after which a list continues, is such a source, and so is the only text that follows
 abbrev pub ArePlainBehind : List (List ℕ) → Type 0
 ArePlainBehind [] = ⊥
 ArePlainBehind (after ∷ texts) = BeginsPlainly after × IsPlainSource texts
 
--- they stand behind the file of a region, where one is named
+-- the texts after that of the region, if there is a region, are two such sources
 abbrev pub IsPlainAfter : Option (List ℕ) → List (List ℕ) → Type 0
 IsPlainAfter None texts = ArePlainBehind texts
 IsPlainAfter (Some name) [] = ⊥
 IsPlainAfter (Some name) (file ∷ texts) = ArePlainBehind texts
 
--- the texts of a list are so, from its first basis on or behind that of a file
+-- the texts of a list are such sources, apart from that of the region: the input, and the basis after which the list continues if there is
+-- one
 abbrev pub IsPlainFrom : Option (List ℕ) → Option (List ℕ) → List (List ℕ) → Type 0
 IsPlainFrom None within texts = IsPlainList within texts
 IsPlainFrom (Some after) within texts = IsPlainAfter within texts
 
--- the job is `_buchberger`, or `_bases` from generators or from a basis, on such a source, and behind such a basis where it goes on; or
--- `_generated`, whose generators are such
+-- the job is `_buchberger` or `_bases`, and its texts are such sources; or it is `_generated`, whose generators are pure difference
+-- binomials
 abbrev pub IsOnBinomials : Job → List (List ℕ) → Type 0
 IsOnBinomials (jobs.Buchberger o) texts = IsPlainSource texts
 IsOnBinomials (jobs.Bases o) texts = IsPlainFrom o.after o.within texts

@@ -1,5 +1,6 @@
--- The line that tells a refusal of a run. The words, the bytes of files by their names, what is left of the input before and after, how many
--- bytes it gave before and after, and what the sink of faults holds before and after stand in this order.
+-- The line of a refusal of a run. The arguments are in this order: the arguments of the program, the bytes of files by their names, the
+-- rest of the input before and after, the number of bytes that were read of it before and after, and the content of the sink of faults
+-- before and after.
 use Rattle.std.specs.Prelude.{◌≡◌, ◌⊎◌, ℕ, ◌≤◌, List, [], ◌∷◌, length, IfSome, Option, Some}
 use Rattle.std.specs.Io.KnownBytes.{IsAtEnd, Keeps}
 use Rattle.gf_outside.specs.Moved.{Took}
@@ -12,7 +13,7 @@ use Rattle.gfan_common.specs.declared.refused.Refused.{Refused}
 use Rattle.gfan_common.specs.Refused.{IsUnnamed, names_of, IsNamedBy, IsRingOf, IsOfSource, WrittenAsFar}
 use Rattle.gfan.specs.Commands.{command_of}
 
--- these bytes are all that was left of the input, and no more than an input may have
+-- these bytes are all the rest of the input, and are no more than an input may have
 pub record ReadWhole (left leaves : Option (List ℕ)) (given gives : ℕ) (source : List ℕ) : Type 0 where
   pub took : Took left leaves given gives source
   pub end : IsAtEnd leaves
@@ -24,7 +25,7 @@ pub record IsRingOfInput (left leaves : Option (List ℕ)) (given gives : ℕ) (
   pub read : ReadWhole left leaves given gives source
   pub ring : IsRingOf source names
 
--- the words ask for a job that loads one file alone, and that begins with the text of this ring
+-- the arguments request a job that reads a single file, and this file begins with the text of this ring
 pub record IsRingOfFile (words : List (List ℕ)) (bytes : List ℕ → Option (List ℕ)) (names : List (List ℕ)) : Type 0 where
   pub job : Job
   pub asked : IsJobOf words job
@@ -34,21 +35,21 @@ pub record IsRingOfFile (words : List (List ℕ)) (bytes : List ℕ → Option (
   pub is : Keeps (bytes name) (Some source)
   pub ring : IsRingOf source names
 
--- the refusal can be told, and the ring is that of the input, or of the one file that the job reads
+-- the refusal has a message, and its ring is that of the input or of the only file that the job reads
 pub record IsOfSources (words : List (List ℕ)) (bytes : List ℕ → Option (List ℕ)) (left leaves : Option (List ℕ)) (given gives : ℕ) (refused : Refused) : Type 0 where
   pub named : IsNamedBy refused.ring refused.refusal
   pub ring : IfSome refused.ring (λ names. IsRingOfInput left leaves given gives names ⊎ IsRingOfFile words bytes names)
 
--- the refusal can be told; of the input alone, or behind a file, whose text this is, with the ring of the text, and of any other sources
--- without a ring
+-- the refusal has a message. If the input is read last, after at most two files, its ring is that of the text of the input; for other
+-- sources it has no ring
 abbrev pub IsOfLoaded : List Origin → List (List ℕ) → Refused → Type 0
 IsOfLoaded (Origin.the_input ∷ []) (source ∷ []) refused = IsOfSource source refused
 IsOfLoaded (Origin.a_file name ∷ (Origin.the_input ∷ [])) (file ∷ (source ∷ [])) refused = IsOfSource source refused
 IsOfLoaded (Origin.a_file name ∷ (Origin.a_file other ∷ (Origin.the_input ∷ []))) (file ∷ (second ∷ (source ∷ []))) refused = IsOfSource source refused
 IsOfLoaded origins texts refused = IsUnnamed refused
 
--- The sink of faults gained a prefix of the line of the refusal, and the whole line unless its count of faults rose.
--- Monomials are told with the names of the ring that the input begins with, or the one file that the job reads.
+-- A prefix of the line of the refusal was appended to the sink of faults, and the whole line unless its count of faults rose. Monomials are
+-- printed with the names of the ring with which the input begins, or the only file that the job reads.
 pub record IsTold (words : List (List ℕ)) (refusal : Refusal) (bytes : List ℕ → Option (List ℕ)) (left leaves : Option (List ℕ)) (given gives : ℕ) (held holds : Option (List ℕ)) (before now : ℕ) : Type 0 where
   pub ring : Option (List (List ℕ))
   pub of_sources : IsOfSources words bytes left leaves given gives (record { refusal = refusal; ring = ring })

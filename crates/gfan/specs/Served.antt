@@ -1,4 +1,4 @@
--- What the list that `_bases` writes for a source has for each weight and each term order. Laws: proofs/ServedLaws.antt.
+-- The bases in the list that `_bases` writes for a source, for each weight and each term order. Laws: proofs/ServedLaws.antt.
 -- Source: Fukuda, Jensen, Thomas, Computing Gröbner fans, 2.
 use Rattle.std.specs.Prelude.{◌≡◌, ◌↔◌, ℕ, Bool, List, length, All, ℤ, pos, ◌<ℤ◌}
 use Rattle.gf_exponents.specs.Exponents.{Exponents}
@@ -16,9 +16,9 @@ use Rattle.gfan_lists.specs.Bases.{AreItemTexts, list_text}
 use Rattle.gfan.specs.Commands.{list_job, IsAnswerTo}
 use Rattle.gfan.specs.ListSources.{HasPolynomials}
 
--- a basis is listed exactly where some positive weight gives it; for each positive weight for which monomials generate the initial ideal, and
--- for each term order, the reduced basis is listed, and no other listed basis is one for it; each positive weight lies in the closed cone of
--- a listed basis
+-- a basis is in the list if and only if some positive weight gives it. For each positive weight for which monomials generate the initial
+-- ideal, and for each term order, exactly one basis of the list is the reduced basis. Each positive weight is in the closed cone of a basis
+-- of the list
 pub record ServesWeights (n : ℕ) (fs : List Terms) (list : List MarkedPolynomials) : Type 0 where
   pub exactly : (x : MarkedPolynomials) → Among list x ↔ IsGivenByWeight n fs x
   pub monomial : (w : List ℤ) → length w ≡ n → All (λ k. pos 0 <ℤ k) w → IsMonomialAt n fs w →
@@ -29,7 +29,7 @@ pub record ServesWeights (n : ℕ) (fs : List Terms) (list : List MarkedPolynomi
       × ((y : MarkedPolynomials) → Among list y → IsReducedBasisFor n fs (below_by less) y.items → x ≡ y)
   pub cones : (w : List ℤ) → length w ≡ n → All (λ k. pos 0 <ℤ k) w → (x : MarkedPolynomials) × Among list x × IsInClosedCone w x.items
 
--- the text is that of all bases of the ideal that the source says, and their list has all this
+-- the text is that of the list of all bases of the ideal of the source, and the list has this property
 pub record HasServingList (from_basis certificates : Bool) (source text : List ℕ) : Type 0 where
   pub ring : List (List ℕ)
   pub ideal : List Terms
@@ -41,7 +41,7 @@ pub record HasServingList (from_basis certificates : Bool) (source text : List �
   pub is_text : text ≡ list_text ring items
   pub serves : ServesWeights (length ring) ideal list
 
--- so it is with the answer of `_bases` for a source
+-- each output of `_bases` for a source is such a text
 abbrev pub WrittenListsServe : Type 0
 WrittenListsServe = (from_basis : Bool) (o : ListOptions) (workers : ℕ) (source text : List ℕ) →
     IsAnswerTo (list_job from_basis o workers) source text → HasServingList from_basis o.certified source text

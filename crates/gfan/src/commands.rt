@@ -1,4 +1,4 @@
-//! What the program does for each job.
+//! The work of the program for each job.
 ghost use Rattle.std.specs.Prelude.{◌≡◌, [], ◌∷◌, length, true, None, is_some, IfOk, IfErr, OnOk};
 ghost use Rattle.std.specs.Option.{option_copied};
 ghost use Rattle.gf_front.specs.Jobs.{HasNumbersInRange};
@@ -32,7 +32,7 @@ use gfan_sets::{
 use std::alloc::Global;
 use std::thread::Threads;
 
-/// The texts of what a list is of: of the file of its region, where one is named, and then of the input.
+/// The texts of the sources of a list: that of the file of its region, if one is named, and then that of the input.
 fn list_texts<S: Source, F: Files>(
     alloc: Global,
     within: Option<&Name>,
@@ -62,8 +62,8 @@ fn list_texts<S: Source, F: Files>(
     }
 }
 
-/// The texts of what the list behind the basis of a file is of: of the file of its region, where one is named, of that of the basis, and then
-/// of the input.
+/// The texts of the sources of a list that continues after the basis of a file: that of the file of its region, if one is named, that of
+/// the file of the basis, and then that of the input.
 fn after_texts<'n, S: Source, F: Files>(
     alloc: Global,
     within: Option<&'n Name>,
@@ -99,11 +99,14 @@ fn after_texts<'n, S: Source, F: Files>(
     }
 }
 
-/// The texts of what the job reads, each loaded whole before the next: of its files, or of the input, or of one or two files and then of the input.
+/// The texts of the sources of the job, each read to its end before the next: of its files, of the input, or of one or two files and then
+/// of the input.
 ///
 /// # Errors
 ///
-/// As `load_all` of `gf_frame` has them.
+/// - `OpenFault`: a file can't be opened. `ReadFault`: a read fails.
+/// - `InputTooLong`: a source has more than 67,108,864 bytes.
+/// - `Memory`: memory runs out.
 pub(crate) fn texts_for<S: Source, F: Files>(
     alloc: Global,
     job: &Job,
@@ -146,7 +149,7 @@ pub(crate) fn texts_for<S: Source, F: Files>(
     }
 }
 
-/// What a command without options writes for the source.
+/// The output of a command without options for the source.
 fn plain_answer<R: Threads + Sync>(
     rt: &R,
     alloc: Global,
@@ -176,7 +179,7 @@ fn plain_answer<R: Threads + Sync>(
     }
 }
 
-/// What a job on the input that writes once writes for the source.
+/// The output, for the source, of a job that reads only the input and writes once.
 fn input_answer<R: Threads + Sync>(
     rt: &R,
     alloc: Global,
@@ -206,7 +209,7 @@ fn input_answer<R: Threads + Sync>(
     }
 }
 
-/// What a job that writes once writes for the texts of what it reads.
+/// The output of a job that writes once, for the texts of its sources.
 fn answered<R: Threads + Sync>(
     rt: &R,
     alloc: Global,
@@ -229,7 +232,7 @@ fn answered<R: Threads + Sync>(
     }
 }
 
-/// Writes the answer of such a job.
+/// Writes the output of such a job.
 fn write_answer<R: Threads + Sync, K: Sink>(
     rt: &R,
     alloc: Global,
@@ -253,8 +256,8 @@ fn write_answer<R: Threads + Sync, K: Sink>(
     }
 }
 
-/// Writes the list of bases that is asked for from its first one on, piece by piece: of the ideal of the input, in the region of the file where
-/// one is named.
+/// Writes the list of bases that the options request, piece by piece, from its first basis on: of the ideal of the input, in the region of
+/// the file if one is named.
 fn perform_list<R: Threads + Sync, K: Sink, G: Gate>(
     rt: &R,
     alloc: Global,
@@ -365,8 +368,8 @@ fn perform_after<R: Threads + Sync, K: Sink, G: Gate>(
     }
 }
 
-/// Writes to the output what the job writes for the texts of what it reads: in one piece at its end, or piece by piece as it goes. The job takes no
-/// turns with the input.
+/// Writes the output of the job for the texts of its sources: in one piece at its end, or piece by piece as it is computed. The job takes
+/// no turns with the input.
 pub(crate) fn perform<R: Threads + Sync, K: Sink, G: Gate>(
     rt: &R,
     alloc: Global,

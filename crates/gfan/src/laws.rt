@@ -1,4 +1,5 @@
-//! What the list of `_bases`, the weights of `_weightvector` and the lines of `_generated` have: laws, each the contract of a function that computes nothing.
+//! Laws of the list of `_bases`, of the weights of `_weightvector` and of the lines of `_generated`. The functions compute nothing: the
+//! contract of each is a law.
 ghost use Rattle.gfan_lists.specs.BasesList.{WeightsAreServed, RegionsAreServed};
 ghost use Rattle.gfan.specs.OneList.{ListsExist, ListsAreOne, TextsAreOne, RegionListsAreOne, RegionTextsAreOne};
 ghost use Rattle.gfan_lists.specs.Parts.{PartsAreJoined};
@@ -8,80 +9,86 @@ ghost use Rattle.gfan.specs.GivingWeights.{WrittenWeightsGiveBases};
 ghost use Rattle.gfan_lists.specs.OneSummary.{SummariesAreOne};
 ghost use Rattle.gfan_lists.specs.Within.{WideRootsAreTold};
 
-/// A basis is in the list that `_bases` writes exactly where some positive weight gives it. For each positive weight for which monomials
-/// generate the initial ideal its reduced basis is there, once; so is that for each term order; and each positive weight lies in the
-/// closed cone of a basis that is there (Fukuda, Jensen, Thomas, *Computing Gröbner fans*, 2).
+/// A basis is in the list that `_bases` writes if and only if some positive weight gives it. For each positive weight for which monomials
+/// generate the initial ideal, and for each term order, exactly one basis of the list is the reduced basis. Each positive weight is in the
+/// closed cone of a basis of the list (Fukuda, Jensen, Thomas, *Computing Gröbner fans*, 2).
 pub fn weights_are_served()
     ensures { WeightsAreServed }
 {}
 
-/// What `_bases` answers for a source is the list of all bases of the ideal of the polynomials that the source says, and so it is with the
-/// weights and the term orders: with each of them as `weights_are_served` has it.
+/// The output of `_bases` for a source is the list of all bases of the ideal that the polynomials of the source generate. A basis is in it
+/// if and only if some positive weight gives it; for each positive weight for which monomials generate the initial ideal, and for each term
+/// order, exactly one basis of it is the reduced basis; and each positive weight is in the closed cone of a basis of it.
 pub fn written_lists_serve()
     ensures { WrittenListsServe }
 {}
 
-/// The ideal of a set has a list of all bases in the order of their paths.
+/// The ideal of a set has a list of all its bases in the order of their paths.
 pub fn lists_exist()
     ensures { ListsExist }
 {}
 
-/// The ideal of a set has one list of all bases in the order of their paths, so that what `_bases` writes for a ring and a set is one text.
+/// The ideal of a set has exactly one list of all bases in the order of their paths, so that `_bases` writes exactly one text for a ring
+/// and a set.
 pub fn lists_are_one()
     ensures { ListsAreOne }
 {}
 
-/// Two runs of `_bases` that write the whole list for one source have written the same bytes, whatever their numbers of workers are.
+/// Two runs of `_bases` that write the whole list for one source, both with certificates or both without, have written the same bytes, for
+/// any numbers of workers.
 pub fn texts_are_one()
     ensures { TextsAreOne }
 {}
 
-/// In a list that `_bases` writes with certificates, and so in its answer for a source, each basis is the reduced one for the positive weight that is printed behind it; and
-/// exactly the facets that a flip may cross stand there, each with a positive vector that is zero on the facet's normal and positive
-/// on all other normals (Fukuda, Jensen, Thomas, *Computing Gröbner fans*, 2 and 4).
+/// In each list that `_bases` writes with certificates, and so in its output for a source, each basis is the reduced one for the positive
+/// weight that follows it. The facets that follow it are exactly those that a flip may cross, each with a positive vector that is
+/// orthogonal to the facet's normal and positive on all other normals (Fukuda, Jensen, Thomas, *Computing Gröbner fans*, 2 and 4).
 pub fn certificates_hold()
     ensures { CertificatesHold }
 {}
 
-/// A basis is in the list of a region exactly where some weight of the region gives it. For each weight of the region for which monomials
-/// generate the initial ideal its reduced basis is there, once; and each weight of the region lies in the closed cone of a basis that is
-/// there (Fukuda, Jensen, Thomas, *Computing Gröbner fans*, 2).
+/// A basis is in the list of a region if and only if some weight of the region gives it. For each weight of the region for which monomials
+/// generate the initial ideal exactly one basis of the list is the reduced basis. Each weight of the region is in the closed cone of a
+/// basis of the list (Fukuda, Jensen, Thomas, *Computing Gröbner fans*, 2).
 pub fn regions_are_served()
     ensures { RegionsAreServed }
 {}
 
-/// The ideal of a set has one list of its bases in a region, in the order of their paths; and two runs of `_bases --within` that write the whole
-/// list for one file and one source have written the same bytes, whatever their numbers of workers are.
+/// The ideal of a set has exactly one list of its bases in a region, in the order of their paths. Two runs of `_bases --within` that write
+/// the whole list for one file and one source, both with certificates or both without, have written the same bytes, for any numbers of
+/// workers.
 pub fn regions_have_one_text()
     ensures lists { RegionListsAreOne }
     ensures texts { RegionTextsAreOne }
 {}
 
-/// Where one run of `_bases` wrote the bases up to one, and another by `--after` those behind it, the bases of both are the list, in its order, and the
-/// items of both texts make up its text. So it is with a part that was itself written behind a basis, and thus with any number of parts.
+/// If one run of `_bases` writes the bases up to one of them, and another, by `--after`, those that follow this basis, then the bases of
+/// both are the list, in its order, and the items of both texts make up its text. The first part may itself continue after a basis, so that
+/// this holds for any number of parts.
 pub fn parts_are_joined()
     ensures { PartsAreJoined }
 {}
 
-/// In a list of a region with certificates each basis is the reduced one for the weight behind it, which is in the region; and exactly the
-/// facets that a flip may cross there stand there, each with a vector of the region inside it.
+/// In each list of a region that is written with certificates each basis is the reduced one for the weight that follows it, which is in the
+/// region. The facets that follow it are exactly those that a flip may cross in the region, each with a vector of the region in its
+/// relative interior.
 pub fn region_certificates_hold()
     ensures { RegionCertificatesHold }
 {}
 
-/// Where the vectors of the file of `_bases --within` cut out a region and an entry of its root is greater than 2^63 - 1, nothing is answered, and
-/// the first such entry is told, unless an operation of finding the root leaves its limits or memory is wanting.
+/// If the vectors of the file of `_bases --within` cut out a region and an entry of its root is greater than `2^63 - 1`, there is no
+/// output, and the refusal has the first such entry, unless an operation of finding the root leaves its limits or memory runs out.
 pub fn wide_roots_are_told()
     ensures { WideRootsAreTold }
 {}
 
-/// What `_weightvector` writes are the sets that it read with their weights, or the weights alone, and each weight gives its basis: it is
+/// The output of `_weightvector` has the weights of the sets that it read, with or without the sets, and each weight gives its basis: it is
 /// positive, and the set, made monic and arranged, is the reduced Gröbner basis for it of the ideal that the set generates.
 pub fn written_weights_give_bases()
     ensures { WrittenWeightsGiveBases }
 {}
 
-/// Two runs of `_generated` that end well for one number and one limit have written the same bytes, whatever their numbers of workers are.
+/// Two runs of `_generated` that succeed for one number and one limit have written the same bytes, for any numbers of workers.
 pub fn summaries_are_one()
     ensures { SummariesAreOne }
 {}

@@ -1,6 +1,6 @@
-//! The top call.
+//! The function at the top.
 //!
-//! It gives the outside the answer or nothing; what it read and wrote is told by the source and the sinks.
+//! It returns whether a job is done or refused; what it read and wrote is in the source, the files and the sinks.
 ghost use Rattle.std.specs.Prelude.{◌≡◌, ℕ, List, map, string_bytes, IfErr, OnOk};
 ghost use Rattle.gf_frac.specs.declared.refusal.Overflow.{Overflow};
 ghost use Rattle.gf_outside.specs.Faults.{Rose};
@@ -22,7 +22,7 @@ use gfan_interactive::interactive;
 use std::alloc::Global;
 use std::thread::Threads;
 
-/// The words, what the job reads, and the output, without the line of a refusal.
+/// The arguments, the sources of the job, and the output, without the line of a refusal.
 fn outcome<R: Threads + Sync, S: Source, K: Sink, F: Files, G: Gate>(
     rt: &R,
     alloc: Global,
@@ -59,43 +59,50 @@ fn outcome<R: Threads + Sync, S: Source, K: Sink, F: Files, G: Gate>(
     }
 }
 
-/// Does what the words ask for, and tells a refusal in one line.
+/// Does what the arguments request, and writes a line for a refusal.
 ///
-/// The words are those after the program's name. The job is that of `gf_front::words`; what it reads and writes is told
-/// at its own function. `_fancommonrefinement` loads two of `files`, the first one whole before the second, and doesn't read the input;
-/// `_generated` reads nothing; `_bases --within` loads one of `files`, and then the input; `_interactive` loads one, and then takes the input line by line and
-/// writes an answer to each; every other job reads the input to its end, and no file. The answer is one piece of the output, or of `_bases` one piece for each basis, and
-/// nothing else is written there. Of `_bases` several workers may do the jobs of the list, on threads of `rt`: before each of them the gate is
-/// called, on the thread that will do it, and no answer depends on it; of `_generated` they may too, without the gate. `_fancommonrefinement`, `_tropicalintersection` and `_minkowskisum` meet
-/// cones on threads of `rt` too. On Done nothing is written to `faults`. Whether `faults` takes the line changes neither the status nor the output.
+/// `words` are the arguments after the program's name. The job is the one that `gf_front::words` finds; what it reads and writes is
+/// described at its own function. `_fancommonrefinement` reads two of `files`, the first one to its end before the second, and not the
+/// input; `_generated` reads nothing; `_bases --within` reads one of `files`, and then the input; `_bases --after` reads one of `files`,
+/// after that of the region if one is named, and then the input; `_interactive` reads one, and then takes the input line by line and writes
+/// an answer to each line; every other job reads the input to its end, and no file. The output is written in one piece, or by `_bases` in
+/// one piece for each basis and one for the end of the list. Several workers may do the jobs of the list of `_bases`, on threads of `rt`:
+/// before each of them the gate is called, on the thread that will do it, and no output depends on it; workers may list the bases for
+/// `_generated` too, without the gate. `_fancommonrefinement`, `_tropicalintersection` and `_minkowskisum` intersect cones on threads of
+/// `rt` too. If the job is done, nothing is written to `faults`. Whether `faults` takes the line of a refusal changes neither the status
+/// nor the output.
 ///
 /// # Errors
 ///
-/// - `Usage` exactly where the table of commands has no match for the words; nothing is read then.
-/// - `OpenFault` only where a file that the words name isn't opened. `ReadFault` only where a read of the input, or of such a file, failed in
-///   this call; `InputTooLong` exactly where one byte more than 67,108,864 was taken of one of them.
-/// - `Syntax`, `TooWide`, `UnknownName` and `TooManyVariables` exactly for the first offending place of the input, or of a file; of two
-///   files the first is judged before the second.
-/// - `Dimensions`, `NotTermOrder`, `NotHomogeneous` and `ZeroPolynomial` exactly where what was read isn't of the form that the
-///   job needs, at the first place; `Missing` exactly where a fan file hasn't a section, the first one, and `BadRay` where a ray of it lies in
-///   the lineality space, or a number in a cone isn't that of a ray.
-/// - `Inconsistent`, `NotReduced` and `NotBasis` exactly where a marked set that is read isn't a basis for its marking, or not the reduced
-///   one where the job asks for that, unless numbers of the work before don't fit: no positive weight gives the marking, with
-///   multipliers that show it; or a mark divides a term that it shouldn't, the first one; or the first pair whose S-polynomial
-///   leaves a remainder, with that remainder. `NotAFan` exactly where the cones of such sets, or of a fan file, have no fan, at the first
-///   pair whose meet isn't a face of both, unless numbers of the work don't fit.
-/// - `EmptyRegion` exactly where the vectors of the file of `_bases --within` cut out no region of positive weights, with multipliers
-///   that show it, unless numbers of the work before don't fit.
-/// - `WideRoot` only where they cut out one with an entry of its root above `2^63 - 1`, at the first one; or at an entry past `2^63` in
-///   absolute value of a vector that `_tropicalintersection --basistest` comes to.
-/// - `Overflow`, `ExponentOverflow`, `ConeOverflow` and `WideVector` only for operands that the job may have, and that don't fit; `Overflow`
-///   never of `_generated`, nor of `_buchberger` and `_bases` where each polynomial is a monomial or a difference of two, without numbers;
-///   `PairBudget` only where the budget of the words is spent.
-/// - `ListLimit` only where the limit of the words is reached, and the list goes on; and always there, unless numbers of the work don't fit.
-/// - `WriteFault` only where a write of this call failed, or took nothing; a prefix of the answer may be
-///   written then. Any other refusal leaves nothing in the output, or the beginning of the text of a job that writes as it goes; a session
-///   that is cut off has answered each line before the last one, and nothing of the last one's answer stands.
-/// - `Memory` at any growth.
+/// - `Usage` if and only if the table of commands has no match for the arguments; nothing is read then.
+/// - `OpenFault`: a file that the arguments name can't be opened. `ReadFault`: a read of the input, or of such a file, failed in this call.
+///   `InputTooLong` if and only if more than 67,108,864 bytes were read of one of them.
+/// - `Syntax`, `TooWide`, `UnknownName`, `TooManyVariables` if and only if the input, or a file, isn't of the form that the job reads: at
+///   the first offending position; of two files the first is checked before the second.
+/// - `Dimensions`, `NotTermOrder`, `NotHomogeneous`, `ZeroPolynomial` if and only if what was read doesn't meet the conditions of the job,
+///   at the first place. `Missing` if and only if a fan file lacks a section, the first one, and `BadRay` if one of its rays is in the
+///   lineality space, or a number in a cone isn't that of a ray.
+/// - `Inconsistent`, `NotReduced`, `NotBasis` if and only if a marked set that is read isn't a basis for its marking, or not the reduced
+///   one if the job requires that, unless numbers of the work before don't fit: no positive weight gives the marking, with multipliers that
+///   show it; or a mark divides a term other than itself, the first such term; or the S-polynomial of two members has a nonzero normal
+///   form, with the first such pair and the normal form. `NotAFan` if and only if the cones of such sets, or of a fan file, have no fan,
+///   with the first pair whose intersection isn't a face of both, unless numbers of the work don't fit.
+/// - `OtherRing`, `NotListed` if and only if the basis after which `_bases --after` continues is in another ring, or isn't in the list,
+///   unless numbers of the work before don't fit.
+/// - `EmptyRegion` if and only if the vectors of the file of `_bases --within` cut out no region of positive weights, with multipliers that
+///   show it, unless numbers of the work before don't fit.
+/// - `WideRoot`: they cut out a region, and this is the first entry of its root that is greater than `2^63 - 1`; or it is an entry, greater
+///   than `2^63` in absolute value, of a vector at which `_tropicalintersection --basistest` arrives.
+/// - `Overflow`, `ExponentOverflow`, `ConeOverflow`, `WideVector`: the operands of an operation that the job may need don't fit; never
+///   `Overflow` for `_generated`, nor for `_buchberger` and `_bases` if each polynomial is written as a monomial or a difference of two,
+///   without numbers.
+/// - `PairBudget`: the budget that the arguments give is spent.
+/// - `ListLimit`: the limit that the arguments give is reached, and the list continues. It is always reported then, unless numbers of the
+///   work don't fit.
+/// - `WriteFault`: a write of this call failed, or wrote nothing; a prefix of the output may be written then. Any other refusal leaves
+///   nothing in the output, or the beginning of the text of a job that writes as it goes; a session that is cut off has answered each line
+///   before the last one, and nothing of the answer to the last one is written.
+/// - `Memory`, at any allocation: memory runs out.
 pub fn run<R: Threads + Sync, S: Source, K: Sink, E: Sink, F: Files, G: Gate>(
     rt: &R,
     alloc: Global,
@@ -106,7 +113,7 @@ pub fn run<R: Threads + Sync, S: Source, K: Sink, E: Sink, F: Files, G: Gate>(
     files: &mut F,
     gate: &G,
 ) -> Status
-    // Done: the words ask for a job, and its command is done: what it reads was loaded, and its answer written.
+    // Done: the arguments request a job, and its command is done: its sources were read, and its output was written.
     ensures done { result ≡ Status.Done → IsRunDone command_of (map string_bytes words.now)
         (seen (S.left input.old) (S.given input.old) (S.faults input.old) (F.bytes files.old) (F.left files.old)
         (F.given files.old) (F.unopened files.old) (F.faults files.old))
@@ -114,8 +121,8 @@ pub fn run<R: Threads + Sync, S: Source, K: Sink, E: Sink, F: Files, G: Gate>(
         (F.given files.new) (F.unopened files.new) (F.faults files.new))
         (output_seen (K.held output.old) (K.faults output.old)) (output_seen (K.held output.new) (K.faults output.new)) }
 
-    // Refused: the table has no match for the words, or there is no memory before a job is known, and nothing moved; or the command of the
-    // job is stopped.
+    // Refused: the table has no match for the arguments, or memory runs out before a job is known, and nothing has changed; or the command
+    // of the job is stopped.
     ensures refused { (refusal : Refusal) → result ≡ Status.Refused refusal → IsRunRefused command_of (map string_bytes words.now)
         (seen (S.left input.old) (S.given input.old) (S.faults input.old) (F.bytes files.old) (F.left files.old)
         (F.given files.old) (F.unopened files.old) (F.faults files.old))
@@ -123,8 +130,8 @@ pub fn run<R: Threads + Sync, S: Source, K: Sink, E: Sink, F: Files, G: Gate>(
         (F.given files.new) (F.unopened files.new) (F.faults files.new))
         (output_seen (K.held output.old) (K.faults output.old)) (output_seen (K.held output.new) (K.faults output.new)) refusal }
 
-    // What follows: which refusal is told wherever its condition holds, and that all is done within limits; how much is read, and what stands in
-    // the output; and that no fault is counted but the one that is answered.
+    // What follows: which refusal is returned whenever its condition holds, and that the job is done within limits; how much is read, and what
+    // is in the output; and that no fault is counted except the one that is returned.
     ensures follows { RunClauses command_of (map string_bytes words.now)
         (seen (S.left input.old) (S.given input.old) (S.faults input.old) (F.bytes files.old) (F.left files.old)
         (F.given files.old) (F.unopened files.old) (F.faults files.old))
@@ -132,7 +139,7 @@ pub fn run<R: Threads + Sync, S: Source, K: Sink, E: Sink, F: Files, G: Gate>(
         (F.given files.new) (F.unopened files.new) (F.faults files.new))
         (output_seen (K.held output.old) (K.faults output.old)) (output_seen (K.held output.new) (K.faults output.new)) result }
 
-    // Wherever the list of a job goes on past its limit and nothing that the job may do leaves its limits, that is the answer.
+    // Whenever the list of a job continues after its limit, and no operation of the job leaves its limits, this is returned.
     ensures limit_always { (job : Job) (texts : List (List ℕ)) (most : ℕ) → IsJobOf (map string_bytes words.now) job
         → AreGivenTexts (command_of job)
         (seen (S.left input.old) (S.given input.old) (S.faults input.old) (F.bytes files.old) (F.left files.old)
@@ -142,7 +149,7 @@ pub fn run<R: Threads + Sync, S: Source, K: Sink, E: Sink, F: Files, G: Gate>(
         texts → IsPastReach job texts most → (Rose (K.faults output.old) (K.faults output.new) → ⊥)
         → IsRefusedWith result (Refusal.ListLimit most) }
 
-    // Where each polynomial is written as a monomial or as the difference of two, without numbers, no coefficient of `_buchberger` and `_bases`
+    // If each polynomial is written as a monomial or as a difference of two, without numbers, no coefficient of `_buchberger` and `_bases`
     // leaves its range; nor does one of `_generated`.
     ensures binomials { (job : Job) (texts : List (List ℕ)) (o : Overflow) → IsJobOf (map string_bytes words.now) job
         → AreGivenTexts (command_of job)
@@ -152,11 +159,11 @@ pub fn run<R: Threads + Sync, S: Source, K: Sink, E: Sink, F: Files, G: Gate>(
         (F.given files.new) (F.unopened files.new) (F.faults files.new))
         texts → IsOnBinomials job texts → result ≡ Status.Refused (Refusal.Overflow o) → ⊥ }
 
-    // What no job that the words ask for reads is as before.
+    // What no job that the arguments request reads stays the same.
     ensures input_untouched { AskForNoInput command_of (map string_bytes words.now) → input.new ≡ input.old }
     ensures files_untouched { AskForNoFile command_of (map string_bytes words.now) → files.new ≡ files.old }
 
-    // The line of a refusal, and none where all was done.
+    // The line of a refusal; none if the job is done.
     ensures told { (refusal : Refusal) → result ≡ Status.Refused refusal → IsTold (map string_bytes words.now) refusal (F.bytes files.old)
         (S.left input.old) (S.left input.new) (S.given input.old) (S.given input.new)
         (E.held faults.old) (E.held faults.new) (E.faults faults.old) (E.faults faults.new) }
