@@ -80,8 +80,9 @@ fn outcome<R: Threads + Sync, S: Source, K: Sink, F: Files, G: Gate>(
 /// - `Syntax`, `TooWide`, `UnknownName`, `TooManyVariables` if and only if the input, or a file, isn't of the form that the job reads: at
 ///   the first offending position; of two files the first is checked before the second.
 /// - `Dimensions`, `NotTermOrder`, `NotHomogeneous`, `ZeroPolynomial` if and only if what was read doesn't meet the conditions of the job,
-///   at the first place. `Missing` if and only if a fan file lacks a section, the first one, and `BadRay` if one of its rays is in the
-///   lineality space, or a number in a cone isn't that of a ray.
+///   at the first place. `Missing` if and only if a fan file lacks a section, the first one, `BadRay` if one of its rays is in the
+///   lineality space, or a number in a cone isn't that of a ray, `BadVersion` if its version is neither 1 nor 2, and `BadCertificate` if it
+///   lists an interior vector that isn't inside its cone, or a cone without such a vector.
 /// - `Inconsistent`, `NotReduced`, `NotBasis` if and only if a marked set that is read isn't a basis for its marking, or not the reduced
 ///   one if the job requires that, unless numbers of the work before don't fit: no positive weight gives the marking, with multipliers that
 ///   show it; or a mark divides a term other than itself, the first such term; or the S-polynomial of two members has a nonzero normal

@@ -85,8 +85,8 @@ pub record IsRefusedInWords (a : List ℕ) (r : Refusal) : Type 0 where
   pub refused : IsFanFileRefusal a error
   pub is : r ≡ of_fan_file error
 
--- the text describes a file whose cones can be built, and whose interior vectors, if it has any, lie in these cones. The intersection of
--- any two of the cones is a face of both, and no operation on the file leaves the range
+-- the text describes a file whose cones can be built, and whose interior vectors, if it has any, lie inside these cones. The intersection
+-- of any two of the cones is a face of both, and no operation on the file leaves the range
 pub record IsFanTextWithin (source : List ℕ) : Type 0 where
   pub file : FanFile
   pub is_file : IsFileOf source file

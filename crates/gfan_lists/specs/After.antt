@@ -1,4 +1,4 @@
--- `_bases --after`: the list goes on behind the basis of a file. What is written, and why it isn't.
+-- `_bases --after`: the list continues after the basis of a file. Its output, and why it is refused.
 use Rattle.std.specs.Prelude.{◌≡◌, ◌≢◌, ◌⊎◌, ℕ, ◌<◌, Bool, true, false, List, [], ◌∷◌, ◌++◌, length, slice_index_or, Contains, Option, None, Some, ℤ}
 use Rattle.gf_poly.specs.declared.error.PolyError.{PolyError}
 use Rattle.gf_poly.specs.Polynomial.{Terms, IsDescending, HasVariables}
@@ -40,13 +40,13 @@ use Rattle.gfan_lists.specs.Within.{IsNoRegion, IsRegionRootRefusal, IsGivenRegi
 
 -- ---- the ring
 
--- two lists of names differ first at the place i, or one of them ends there and the other goes on
+-- i is the first index at which two lists of names differ, or at which one of them ends and the other continues
 pub record IsFirstDifference (found names : List (List ℕ)) (i : ℕ) : Type 0 where
   pub before : (j : ℕ) → j < i → slice_index_or found j [] ≡ slice_index_or names j []
   pub differ : ((i < length found) × (i < length names) × (slice_index_or found i [] ≢ slice_index_or names i []))
       ⊎ (((i ≡ length found) × (i < length names)) ⊎ ((i ≡ length names) × (i < length found)))
 
--- how other names are told
+-- the refusal for other names: it has the first index at which they differ
 abbrev pub IsOtherRing : List (List ℕ) → List (List ℕ) → Refusal → Type 0
 IsOtherRing found names (refusals.OtherRing i) = IsFirstDifference found names i
 IsOtherRing found names _ = ⊥
@@ -57,19 +57,20 @@ same_names found names = record { Holds = found ≡ names; Fails = IsOtherRing f
 
 -- ---- the basis
 
--- b are the members of s made monic and arranged: the reduced basis of the ideal of s for its marking, which a weight of the region gives
+-- b has the members of s made monic and arranged. It is the reduced basis of the ideal of s for the marking of s, which some weight of the
+-- region gives
 pub record IsBasisTaken (k : Region) (s b : MarkedPolynomials) : Type 0 where
   pub arranged : IsArranged (monic_set s) b
   pub basis : IsReducedBasisOf s b
   pub terms : AreReduced s.items
   pub weight : IsRealisableBeside s.variables k.rows s.items
 
--- each of these polynomials leaves zero by bs
+-- the normal form by bs of each of these polynomials is zero
 abbrev pub LeaveZero : List MarkedPolynomial → List Terms → Type 0
 LeaveZero bs fs = (f : Terms) → Contains fs f → IsNormalForm bs f []
 
--- the polynomial at the place i is the first one that leaves another remainder than zero by this set, and it is r, as a polynomial is kept: terms
--- that descend and count
+-- the polynomial at i is the first one with a nonzero normal form by this set, and r is this normal form, with its terms in descending
+-- order and no zero coefficient
 pub record IsFirstOutside (by : MarkedPolynomials) (fs : List Terms) (i : ℕ) (r : Terms) : Type 0 where
   pub inside : i < length fs
   pub remainder : IsNormalForm by.items (slice_index_or fs i []) r
@@ -78,17 +79,18 @@ pub record IsFirstOutside (by : MarkedPolynomials) (fs : List Terms) (i : ℕ) (
   pub nonzero : r ≢ []
   pub before : (j : ℕ) → j < i → IsNormalForm by.items (slice_index_or fs j []) []
 
--- some polynomial leaves another remainder by it, and the first one is told, of this side; or an operation of a reduction leaves its range
+-- some polynomial has a nonzero normal form by this set, and r has the first one, with the number of the side; or an operation of a
+-- reduction leaves its range, or memory runs out
 abbrev pub IsSomeOutside : ℕ → MarkedPolynomials → List Terms → Refusal → Type 0
 IsSomeOutside side by fs r = ((i : ℕ) × (f : Terms) × IsFirstOutside by fs i f × (r ≡ refusals.NotListed side i f)) ⊎ ((d : PolyError) × IsSomeReductionRefusal by.items fs d × (r ≡ of_check (of_poly d)))
 
--- the polynomials of s leave zero by the root, and the generators by the basis of s
+-- each polynomial of s has the normal form zero by the root, and each generator has it by the basis of s
 pub record IsListedBy (fs : List Terms) (s root b : MarkedPolynomials) : Type 0 where
   pub basis : LeaveZero root.items (polys s.items)
   pub generators : LeaveZero b.items fs
 
--- a polynomial of s leaves a remainder by the root, the first one; or none does, and a generator leaves one by the basis of s, the first one;
--- or an operation of these reductions leaves its range
+-- r has the first polynomial of s with a nonzero normal form by the root; or there is none, and r has the first generator with a nonzero
+-- normal form by the basis of s; or an operation of these reductions leaves its range, or memory runs out
 pub data IsUnlisted (fs : List Terms) (s root b : MarkedPolynomials) (r : Refusal) : Type 0 where
   at_basis : (i : ℕ) (f : Terms) → IsFirstOutside root (polys s.items) i f → r ≡ refusals.NotListed 0 i f → IsUnlisted fs s root b r
   at_generator : (i : ℕ) (f : Terms) → LeaveZero root.items (polys s.items) → IsFirstOutside b fs i f → r ≡ refusals.NotListed 1 i f → IsUnlisted fs s root b r
@@ -97,32 +99,32 @@ pub data IsUnlisted (fs : List Terms) (s root b : MarkedPolynomials) (r : Refusa
 
 -- ---- generators, or a marked Gröbner basis in their place
 
--- what is read of the input
+-- what is read from the input: a ring with a set of generators, or with a marked Gröbner basis
 abbrev pub Given : Bool → Type 0
 Given false = List (List ℕ) × (List Written × Option (List ℤ))
 Given true = List (List ℕ) × MarkedPolynomials
 
--- the names of its ring
+-- the names of the ring of the input
 abbrev pub names_given : (from_basis : Bool) → Given from_basis → List (List ℕ)
 names_given false v = v.0
 names_given true v = v.0
 
--- the polynomials whose ideal is meant: those of the set, or of the basis
+-- the polynomials that generate the ideal: those of the set, or those of the basis
 abbrev pub generators_given : (from_basis : Bool) → Given from_basis → List Terms
 generators_given false v = generators_of v.1.0
 generators_given true v = polys v.1.items
 
--- how the input is read
+-- the reading of the input
 abbrev pub reading_given : (from_basis : Bool) → Reading (Given from_basis)
 reading_given false = of_one (ring_set_vector false)
 reading_given true = of_one ring_marked_set
 
--- a set that is read in the place of generators is a Gröbner basis for its marking
+-- a set that is read as a marked Gröbner basis is one for its marking
 abbrev pub IsBasisGiven : (from_basis : Bool) → Given from_basis → Type 0
 IsBasisGiven false v = Unit {0}
 IsBasisGiven true v = IsMarkedGroebnerBasis v.1.variables v.1.items
 
--- why the root of the list isn't found: in the region of a file or for all positive weights
+-- why the root of the list isn't found: in the region of a file, or for all positive weights
 abbrev pub IsUnrooted : (from_basis is_cut : Bool) → Given from_basis → Region → ℕ → Refusal → Type 0
 IsUnrooted false false v k pairs r = IsRootRefusal (length v.0) (generators_of v.1.0) pairs r
 IsUnrooted false true v k pairs r = IsRegionRootRefusal (length v.0) k (generators_of v.1.0) pairs r
@@ -131,67 +133,68 @@ IsUnrooted true true v k pairs r = IsGivenRegionRootRefusal k v.1 pairs r
 
 -- ---- the region
 
--- no vectors are read, and the others say what they say by themselves
+-- the reading of the other texts, without vectors
 abbrev pub with_none : {A : Type 0} → Reading A → Reading (List (List ℤ) × A)
 with_none others = record { IsRead = λ texts v. (v.0 ≡ []) × others.IsRead texts v.1; IsRefused = others.IsRefused }
 
--- the vectors of the file of a region, where one is named, stand first
+-- the vectors of the file of a region are read first if one is named
 abbrev pub reading_cut : {A : Type 0} → Bool → Reading A → Reading (List (List ℤ) × A)
 reading_cut false others = with_none others
 reading_cut true others = of_more vectors_alone others
 
--- the region that they cut out; without such a file that of all positive weights
+-- k is the region that the vectors cut out; without such a file it consists of all positive weights
 abbrev pub IsRegionCut : Bool → ℕ → List (List ℤ) → Region → Type 0
 IsRegionCut false n rows k = k ≡ all_positive n
 IsRegionCut true n rows k = IsRegionOf n rows k
 
--- the texts of such files, and of the input
+-- the texts of the files, and of the input
 abbrev pub cut_texts : Option (List ℕ) → List ℕ → List ℕ → List (List ℕ)
 cut_texts None after source = after ∷ (source ∷ [])
 cut_texts (Some file) after source = file ∷ (after ∷ (source ∷ []))
 
--- what is read of the file of a region, and none where there is no such file; or the file isn't read
+-- rows are the vectors of the file of a region; there are none if there is no such file
 abbrev pub IsOfCutFile : Option (Bor (List ℕ)) → List (List ℤ) → Type 0
 IsOfCutFile None rows = rows ≡ []
 IsOfCutFile (Some file) rows = IsTextOf vectors_alone file.now rows
 
--- why that file isn't read
+-- why the file of a region is refused
 abbrev pub IsCutFileRefused : Option (Bor (List ℕ)) → Refusal → Type 0
 IsCutFileRefused None r = ⊥
 IsCutFileRefused (Some file) r = (e : TextError) × IsTextRefused vectors_alone file.now e × (r ≡ of_text e)
 
--- a vector has another length, or there is no region, or behind it the names are others; or there is no memory
+-- why the list isn't started: a vector has another length, or there is no region, or there is one and the names differ; or memory runs out
 abbrev pub IsUnbegun : Bool → ℕ → List (List ℤ) → List (List ℕ) → List (List ℕ) → Refusal → Type 0
 IsUnbegun is_cut n rows found names r =
     ((is_cut ≡ true) × (FirstFails (for_each n rows) r ⊎ IsNoRegion n rows r)) ⊎ (((k : Region) × IsRegionCut is_cut n rows k × IsOtherRing found names r) ⊎ (r ≡ refusals.Memory))
 
--- ---- what is written
+-- ---- the output
 
--- the text of what follows the basis of s in the list of all bases in the region, which are no more than the limit
+-- the text is that of what follows the basis of s in the list of all bases in the region, and this has no more bases than the limit
 pub record IsTextAfter (o : ListOptions) (k : Region) (ring : List (List ℕ)) (fs : List Terms) (s : MarkedPolynomials) (text : List ℕ) : Type 0 where
   pub basis : MarkedPolynomials
   pub taken : IsBasisTaken k s basis
   pub front : List MarkedPolynomials
   pub list : IsTextBehind (front ++ basis ∷ []) o.certified o.limit ring k fs text
 
--- the same with all that is written of that list where nothing stops it
+-- the text is all that is written of what follows the basis of s in the list of all bases in the region if nothing stops it
 pub record IsFullAfter (o : ListOptions) (k : Region) (ring : List (List ℕ)) (fs : List Terms) (s : MarkedPolynomials) (text : List ℕ) : Type 0 where
   pub basis : MarkedPolynomials
   pub taken : IsBasisTaken k s basis
   pub front : List MarkedPolynomials
   pub list : IsFullTextBehind (front ++ basis ∷ []) o ring k fs text
 
--- and with what stands of it where it is refused so; so nothing stands where the basis isn't one of the list
+-- the text may have been written of what follows the basis of s when the list is refused with r. So nothing is written if the basis of s
+-- isn't in the list
 pub record IsBegunAfter (o : ListOptions) (k : Region) (ring : List (List ℕ)) (fs : List Terms) (s : MarkedPolynomials) (text : List ℕ) (r : Refusal) : Type 0 where
   pub basis : MarkedPolynomials
   pub taken : IsBasisTaken k s basis
   pub front : List MarkedPolynomials
   pub begun : IsBegunWhereBehind (front ++ basis ∷ []) o ring k fs text r
 
--- ---- why it isn't written
+-- ---- why it is refused
 
--- in the region, where the names are the same: the set isn't taken as a reduced basis; or the root isn't found; or the basis isn't listed below
--- it; or a call of the search is refused on the way up from the basis, which is in the list
+-- why the list isn't started in the region, if the names are equal. The set is refused as a reduced basis. Or the root isn't found. Or the
+-- basis isn't in the list below the root. Or it is, and a call of the search is refused on the way up from it
 pub data IsStartRefused (from_basis is_cut : Bool) (pairs : ℕ) (k : Region) (v : Given from_basis) (s : MarkedPolynomials) (r : Refusal) : Type 0 where
   at_basis : (e : CheckError) → IsReducedRefusalBeside k.rows 0 s e → r ≡ of_check e → IsStartRefused from_basis is_cut pairs k v s r
   at_root : (b : MarkedPolynomials) → IsBasisTaken k s b → IsUnrooted from_basis is_cut v k pairs r → IsStartRefused from_basis is_cut pairs k v s r
@@ -201,13 +204,14 @@ pub data IsStartRefused (from_basis is_cut : Bool) (pairs : ℕ) (k : Region) (v
       IsListedBy (generators_given from_basis v) s root b → IsTreeRefusal (ideal_within (length (names_given from_basis v)) (generators_given from_basis v) k) pairs e → r ≡ of_tree e →
       IsStartRefused from_basis is_cut pairs k v s r
 
--- so it is; or the list is refused behind the basis
+-- the list isn't started; or it is refused after the basis
 pub data IsCauseAfter (from_basis is_cut : Bool) (o : ListOptions) (k : Region) (v : Given from_basis) (s : MarkedPolynomials) (r : Refusal) : Type 0 where
   at_start : IsStartRefused from_basis is_cut o.pairs k v s r → IsCauseAfter from_basis is_cut o k v s r
   going : (b : MarkedPolynomials) (front : List MarkedPolynomials) → IsBasisTaken k s b → IsBasisGiven from_basis v →
       IsGoingCauseBehind (front ++ b ∷ []) o (length (names_given from_basis v)) k (generators_given from_basis v) r → IsCauseAfter from_basis is_cut o k v s r
 
--- there is no region, or the names of the ring are others, where that isn't judged before the region; or it is refused so in the region
+-- there is no region; or there is one and the names of the rings differ, if they are checked after the region; or the list is refused in
+-- the region
 pub data IsRefusedAfter (from_basis is_cut : Bool) (o : ListOptions) (rows : List (List ℤ)) (found : List (List ℕ)) (v : Given from_basis) (s : MarkedPolynomials) (r : Refusal) : Type 0 where
   at_region : is_cut ≡ true → IsNoRegion (length (names_given from_basis v)) rows r → IsRefusedAfter from_basis is_cut o rows found v s r
   at_ring : (k : Region) → is_cut ≡ true → IsRegionOf (length (names_given from_basis v)) rows k → IsOtherRing found (names_given from_basis v) r → IsRefusedAfter from_basis is_cut o rows found v s r
@@ -215,8 +219,9 @@ pub data IsRefusedAfter (from_basis is_cut : Bool) (o : ListOptions) (rows : Lis
 
 -- ---- within limits
 
--- in the region: the set is the reduced basis of its ideal that some weight of the region gives; no operation of its checks leaves its limits, nor
--- one on the way to the root, of the reductions by the root and by the basis, which leave zero, or of the search at a basis of the ideal
+-- in the region: the set is the reduced basis of its ideal, and some weight of the region gives it. No operation of its checks leaves its
+-- limits, nor does one on the way to the root, of the reductions by the root and by the basis, whose normal forms are zero, or of the
+-- search at a basis of the ideal
 pub record IsStartWithin (from_basis is_cut : Bool) (pairs : ℕ) (k : Region) (v : Given from_basis) (s : MarkedPolynomials) : Type 0 where
   pub weight : IsRealisableBeside s.variables k.rows s.items
   pub basis : IsMarkedGroebnerBasis s.variables s.items
@@ -227,16 +232,16 @@ pub record IsStartWithin (from_basis is_cut : Bool) (pairs : ℕ) (k : Region) (
       IsUnlisted (generators_given from_basis v) s root b r → r ≡ refusals.Memory
   pub tree : IsTreeWithinLimits (ideal_within (length (names_given from_basis v)) (generators_given from_basis v) k) pairs
 
--- so it is, and no operation of the certificates of a basis of the ideal leaves its limits, where they are asked for; and what follows the basis
--- isn't longer than the limit
+-- in addition no operation of the certificates of a basis of the ideal leaves its limits, if there are certificates, and no more bases than
+-- the limit follow the basis
 pub record IsAfterWithin (from_basis is_cut : Bool) (o : ListOptions) (k : Region) (v : Given from_basis) (s : MarkedPolynomials) : Type 0 where
   pub start : IsStartWithin from_basis is_cut o.pairs k v s
   pub few : (b : MarkedPolynomials) (front list : List MarkedPolynomials) → IsBasisTaken k s b →
       AreAllBasesIn (length (names_given from_basis v)) k (generators_given from_basis v) ((front ++ b ∷ []) ++ list) → IsWithinLimit o.limit list
   pub certificates : AreCertifiedWithinIn o (length (names_given from_basis v)) k (generators_given from_basis v)
 
--- so it is, and more bases than the limit lets through follow the basis, of which no certificates of one that the limit lets through leave their
--- limits, where they are asked for
+-- the start is within its limits, and more bases than the limit follow the basis. If there are certificates, no operation of those of a
+-- basis up to the limit leaves its limits
 pub record IsAfterPast (from_basis is_cut : Bool) (o : ListOptions) (k : Region) (v : Given from_basis) (s : MarkedPolynomials) (most : ℕ) : Type 0 where
   pub start : IsStartWithin from_basis is_cut o.pairs k v s
   pub given : IsBasisGiven from_basis v
@@ -247,7 +252,8 @@ pub record IsAfterPast (from_basis is_cut : Bool) (o : ListOptions) (k : Region)
   pub certificates : (written rest : List MarkedPolynomials) (b : MarkedPolynomials) → past.list ≡ written ++ b ∷ rest → length written < most → o.certified ≡ true →
       AreCertificatesFittingIn b.variables k b.items
 
--- and in each region that the vectors cut out, of names that are the same, no operation of finding the region leaves its limits
+-- no operation of finding the region leaves its limits, the names are equal, and the list is within its limits in each region that the
+-- vectors cut out
 pub record IsWithinAfter (from_basis is_cut : Bool) (o : ListOptions) (rows : List (List ℤ)) (found : List (List ℕ)) (v : Given from_basis) (s : MarkedPolynomials) : Type 0 where
   pub region : is_cut ≡ true → IsRegionWithinLimits (length (names_given from_basis v)) rows
   pub names : found ≡ names_given from_basis v
@@ -259,30 +265,30 @@ pub record IsWithinAfter (from_basis is_cut : Bool) (o : ListOptions) (rows : Li
 abbrev pub AfterValue : Bool → Type 0
 AfterValue from_basis = List (List ℤ) × ((List (List ℕ) × MarkedPolynomials) × Given from_basis)
 
--- without a region the names are judged at once, in one behind it
+-- the check of the names; if there is a region, that of the lengths of the vectors, since the names are checked after the region
 abbrev pub checks_after : (from_basis is_cut : Bool) → AfterValue from_basis → List Check
 checks_after from_basis false v = same_names v.1.0.0 (names_given from_basis v.1.1) ∷ []
 checks_after from_basis true v = for_each (length (names_given from_basis v.1.1)) v.0
 
--- the text, for the region that the vectors cut out
+-- the text is the output, for the region that the vectors cut out
 abbrev pub IsAnswerAfter : (from_basis is_cut : Bool) → ListOptions → AfterValue from_basis → List ℕ → Type 0
 IsAnswerAfter from_basis is_cut o v text =
     (k : Region) × IsRegionCut is_cut (length (names_given from_basis v.1.1)) v.0 k × (v.1.0.0 ≡ names_given from_basis v.1.1) × IsBasisGiven from_basis v.1.1
     × IsTextAfter o k (names_given from_basis v.1.1) (generators_given from_basis v.1.1) v.1.0.1 text
 
--- all that is written where nothing stops it: that text, or as much of it as the limit lets through
+-- the text is all that is written if nothing stops the list: the output, or as much of it as the limit allows
 abbrev pub IsWholeAfter : (from_basis is_cut : Bool) → ListOptions → AfterValue from_basis → List ℕ → Type 0
 IsWholeAfter from_basis is_cut o v text =
     (k : Region) × IsRegionCut is_cut (length (names_given from_basis v.1.1)) v.0 k × (v.1.0.0 ≡ names_given from_basis v.1.1) × IsBasisGiven from_basis v.1.1
     × IsFullAfter o k (names_given from_basis v.1.1) (generators_given from_basis v.1.1) v.1.0.1 text
 
--- the beginning of it that stands where the list is refused so
+-- the text may have been written when the list is refused with r
 abbrev pub IsPartAfter : (from_basis is_cut : Bool) → ListOptions → AfterValue from_basis → List ℕ → Refusal → Type 0
 IsPartAfter from_basis is_cut o v text r =
     (k : Region) × IsRegionCut is_cut (length (names_given from_basis v.1.1)) v.0 k × (v.1.0.0 ≡ names_given from_basis v.1.1) × IsBasisGiven from_basis v.1.1
     × IsBegunAfter o k (names_given from_basis v.1.1) (generators_given from_basis v.1.1) v.1.0.1 text r
 
--- the command on these sources
+-- the command `_bases --after` on these sources
 abbrev pub after_command : Bool → Bool → List Origin → ListOptions → Command
 after_command from_basis is_cut sources o = record {
   Value = AfterValue from_basis;
@@ -295,15 +301,16 @@ after_command from_basis is_cut sources o = record {
   writing = Writing.as_it_goes (IsWholeAfter from_basis is_cut o) (IsPartAfter from_basis is_cut o);
 }
 
--- the texts are what it is of: the names are the same, there is a region, and no operation of finding it leaves its limits; and the list goes on past
--- this limit behind the basis
+-- the texts are the sources of the list: the names are equal, there is a region, and no operation of finding it leaves its limits. More
+-- bases than the limit follow the basis
 abbrev pub AreTextsPastAfter : (from_basis is_cut : Bool) → ListOptions → List (List ℕ) → ℕ → Type 0
 AreTextsPastAfter from_basis is_cut o texts most =
     (v : AfterValue from_basis) × (reading_cut is_cut (of_more ring_marked_set (reading_given from_basis))).IsRead texts v × (v.1.0.0 ≡ names_given from_basis v.1.1)
     × (is_cut ≡ true → IsRegionWithinLimits (length (names_given from_basis v.1.1)) v.0)
     × ((k : Region) × IsRegionCut is_cut (length (names_given from_basis v.1.1)) v.0 k × IsAfterPast from_basis is_cut o k v.1.1 v.1.0.1 most)
 
--- what the list of `_bases --after` is of: the input, behind the file of the basis, and that behind the file of its region where one is named
+-- the sources of the list of `_bases --after`: the input, before it the file of the basis, and before this the file of its region if one is
+-- named
 abbrev pub after_sources : Option (List ℕ) → List ℕ → List Origin
 after_sources None after = Origin.a_file after ∷ (Origin.the_input ∷ [])
 after_sources (Some within) after = Origin.a_file within ∷ (Origin.a_file after ∷ (Origin.the_input ∷ []))

@@ -1,4 +1,4 @@
--- `_bases`: what it writes, and why it doesn't.
+-- `_bases`: its output, and why it is refused.
 use Rattle.std.specs.Prelude.{◌≡◌, ◌⊎◌, ℕ, ◌<◌, ◌≤◌, Bool, true, false, List, [], ◌∷◌, ◌++◌, flat_map, length, Option, None, Some, ℤ}
 use Rattle.std.specs.List.{AllZip}
 use Rattle.gf_exponents.specs.SixOrders.{MonomialOrder}
@@ -28,39 +28,39 @@ use Rattle.gfan_common.specs.Causes.{of_basis, of_tree}
 use Rattle.gfan_lists.specs.BasesList.{IsGivenIn, AreAllBasesIn, AreAllBases}
 use Rattle.gfan_lists.specs.Certificates.{IsItemTextIn, IsUncertifiedIn}
 
--- ---- what is written
+-- ---- the output
 
--- a line end, a comma, a line end, and what stands for a basis
+-- a line end, a comma, a line end, and the item of a basis
 abbrev pub later_item_text : List ℕ → List ℕ
 later_item_text t = 10 ∷ 44 ∷ 10 ∷ t
 
--- what stands for bases, with a comma on a line of its own between them
+-- the items of bases, with a comma on a line of its own between them
 abbrev pub items_text : List (List ℕ) → List ℕ
 items_text [] = []
 items_text (t ∷ ts) = t ++ flat_map later_item_text ts
 
--- the ring in a line, and these items in braces
+-- the text of a list: the ring in a line, and the items in braces
 abbrev pub list_text : List (List ℕ) → List (List ℕ) → List ℕ
 list_text ring ts = ring_text ring ++ (123 ∷ (items_text ts ++ 125 ∷ 10 ∷ []))
 
--- its beginning, up to the last of these items; nothing where there are none
+-- the beginning of the text of a list, up to the last of these items; nothing if there are none
 abbrev pub begun_text : List (List ℕ) → List (List ℕ) → List ℕ
 begun_text ring [] = []
 begun_text ring (t ∷ ts) = ring_text ring ++ 123 ∷ items_text (t ∷ ts)
 
--- what stands for each of these bases in a region
+-- the items of these bases in a region, with certificates or without
 abbrev pub AreItemTextsIn : Bool → List (List ℕ) → Region → List MarkedPolynomials → List (List ℕ) → Type 0
 AreItemTextsIn certified ring k bs ts = AllZip (IsItemTextIn certified ring k) bs ts
 
--- the list isn't longer than the limit, where one is given
+-- the list isn't longer than the limit, if there is one
 abbrev pub IsWithinLimit : Option ℕ → List MarkedPolynomials → Type 0
 IsWithinLimit None list = Unit {0}
 IsWithinLimit (Some most) list = length list ≤ most
 
--- A list of all bases of an ideal in a region, or what follows some of them in it: those before it, which aren't written, stand first.
+-- A list of all bases of an ideal in a region, or what follows some of its bases: these aren't written, and are the first argument.
 
--- the ring in a line, and all bases of the ideal of fs in a region behind these, which are no more than the limit, with certificates or
--- without
+-- the text is the ring in a line, and all bases of the ideal of fs in a region that follow these, with certificates or without; there are
+-- no more than the limit
 pub record IsTextBehind (before : List MarkedPolynomials) (certified : Bool) (limit : Option ℕ) (ring : List (List ℕ)) (k : Region) (fs : List Terms) (text : List ℕ) : Type 0 where
   pub list : List MarkedPolynomials
   pub are_all : AreAllBasesIn (length ring) k fs (before ++ list)
@@ -69,20 +69,20 @@ pub record IsTextBehind (before : List MarkedPolynomials) (certified : Bool) (li
   pub are_items : AreItemTextsIn certified ring k list items
   pub is_text : text ≡ list_text ring items
 
--- ---- what is written before the list is refused
+-- ---- the output before the list is refused
 
--- the beginning of that text, up to the last of the bases that are written, behind which the rest of the list comes
+-- the text is the beginning of that text, up to the last of the bases that are written; the rest of the list follows them
 pub record IsBegunListBehind (before : List MarkedPolynomials) (certified : Bool) (ring : List (List ℕ)) (k : Region) (fs : List Terms) (written rest : List MarkedPolynomials) (text : List ℕ) : Type 0 where
   pub are_all : AreAllBasesIn (length ring) k fs (before ++ (written ++ rest))
   pub items : List (List ℕ)
   pub are_items : AreItemTextsIn certified ring k written items
   pub is_text : text ≡ begun_text ring items
 
--- some of the bases, from the first on, or none; no more than the limit lets through
+-- the text is the beginning of that text with some of its first bases, or with none, and no more than the limit
 abbrev pub IsBegunTextBehind : List MarkedPolynomials → ListOptions → List (List ℕ) → Region → List Terms → List ℕ → Type 0
 IsBegunTextBehind before o ring k fs text = (written : List MarkedPolynomials) × (rest : List MarkedPolynomials) × IsBegunListBehind before o.certified ring k fs written rest text × IsWithinLimit o.limit written
 
--- just as many as the limit lets through, and a further one in the list
+-- the text is the beginning of that text with exactly as many bases as the limit, and there is a further one in the list
 pub record IsBegunToLimitBehind (before : List MarkedPolynomials) (o : ListOptions) (ring : List (List ℕ)) (k : Region) (fs : List Terms) (most : ℕ) (text : List ℕ) : Type 0 where
   pub is_limit : o.limit ≡ Some most
   pub written : List MarkedPolynomials
@@ -91,22 +91,22 @@ pub record IsBegunToLimitBehind (before : List MarkedPolynomials) (o : ListOptio
   pub begun : IsBegunListBehind before o.certified ring k fs written (next ∷ rest) text
   pub just : length written ≡ most
 
--- all that is written where nothing stops it: the text of the list; or, where that goes on past the limit, its beginning, with just as many
--- bases as the limit lets through
+-- the text is all that is written if nothing stops the list: its text; or, if it continues after the limit, its beginning with exactly as
+-- many bases as the limit
 pub data IsFullTextBehind (before : List MarkedPolynomials) (o : ListOptions) (ring : List (List ℕ)) (k : Region) (fs : List Terms) (text : List ℕ) : Type 0 where
   to_its_end : IsTextBehind before o.certified o.limit ring k fs text → IsFullTextBehind before o ring k fs text
   to_the_limit : (most : ℕ) → IsBegunToLimitBehind before o ring k fs most text → IsFullTextBehind before o ring k fs text
 
--- ---- why it isn't written
+-- ---- why it is refused
 
--- there are more bases behind these than the limit lets through
+-- more bases than the limit follow these
 pub record IsPastLimitBehind (before : List MarkedPolynomials) (limit : Option ℕ) (n : ℕ) (k : Region) (fs : List Terms) (most : ℕ) : Type 0 where
   pub is_limit : limit ≡ Some most
   pub list : List MarkedPolynomials
   pub are_all : AreAllBasesIn n k fs (before ++ list)
   pub longer : most < length list
 
--- behind some of the bases, which the limit lets through, a call of the search is refused at a basis that is one of these, or is the next one
+-- a call of the search is refused at one of the bases that follow these, up to the limit, or at the next one
 pub record IsSearchRefusedBehind (before : List MarkedPolynomials) (o : ListOptions) (n : ℕ) (k : Region) (fs : List Terms) (e : TreeError) : Type 0 where
   pub written : List MarkedPolynomials
   pub rest : List MarkedPolynomials
@@ -114,7 +114,7 @@ pub record IsSearchRefusedBehind (before : List MarkedPolynomials) (o : ListOpti
   pub few : IsWithinLimit o.limit written
   pub early : IsRefusedEarly (ideal_within n fs k) o.pairs rest e
 
--- certificates are asked for, and behind some of the bases those of the next one, which the limit lets through, are refused
+-- there are certificates, and those of one of the bases that follow these, up to the limit, are refused
 pub record AreCertificatesRefusedBehind (before : List MarkedPolynomials) (o : ListOptions) (n : ℕ) (k : Region) (fs : List Terms) (r : Refusal) : Type 0 where
   pub certified : o.certified ≡ true
   pub written : List MarkedPolynomials
@@ -124,30 +124,31 @@ pub record AreCertificatesRefusedBehind (before : List MarkedPolynomials) (o : L
   pub few : IsWithinLimit o.limit (written ++ basis ∷ [])
   pub uncertified : IsUncertifiedIn k basis r
 
--- a step of the search is refused, at a basis that isn't behind the limit; or the list is past its limit; or, where certificates are asked
--- for, those of a basis that the limit lets through are refused
+-- a call of the search is refused at a basis up to the limit or at the next one; or the list continues after its limit; or, if there are
+-- certificates, those of a basis up to the limit are refused
 pub data IsGoingCauseBehind (before : List MarkedPolynomials) (o : ListOptions) (n : ℕ) (k : Region) (fs : List Terms) (r : Refusal) : Type 0 where
   in_tree : (e : TreeError) → IsSearchRefusedBehind before o n k fs e → r ≡ of_tree e → IsGoingCauseBehind before o n k fs r
   at_limit : (most : ℕ) → IsPastLimitBehind before o.limit n k fs most → r ≡ refusals.ListLimit most → IsGoingCauseBehind before o n k fs r
   at_certificates : AreCertificatesRefusedBehind before o n k fs r → IsGoingCauseBehind before o n k fs r
 
--- what stands where the list is refused so: at the limit just as many bases; at numbers, where the list from its first basis on is refused,
--- or without memory, some of them, from the first on, or none; and nothing stands at a refusal that isn't one of these
+-- the text may have been written when the list is refused with r. At the limit it has exactly as many bases as the limit. If numbers don't
+-- fit, where the list is refused from its first basis on, or if memory runs out, it has some of the first bases or none. There is no text
+-- for other refusals
 abbrev pub IsBegunWhereBehind : List MarkedPolynomials → ListOptions → List (List ℕ) → Region → List Terms → List ℕ → Refusal → Type 0
 IsBegunWhereBehind before o ring k fs text (refusals.ListLimit most) = IsBegunToLimitBehind before o ring k fs most text
 IsBegunWhereBehind before o ring k fs text r = IsOfNumbers r × (IsGoingCauseBehind before o (length ring) k fs r ⊎ (r ≡ refusals.Memory)) × IsBegunTextBehind before o ring k fs text
 
--- ---- behind none: the whole list
+-- ---- the list from its first basis on
 
--- the ring in a line, and all bases of the ideal in the region, no more than the limit
+-- the text is the ring in a line, and all bases of the ideal in the region, with certificates or without; there are no more than the limit
 abbrev pub IsTextOfBasesIn : Bool → Option ℕ → List (List ℕ) → Region → List Terms → List ℕ → Type 0
 IsTextOfBasesIn certified limit ring k fs text = IsTextBehind [] certified limit ring k fs text
 
--- that text, or as much of it as the limit lets through
+-- the text is that text, or as much of it as the limit allows
 abbrev pub IsFullTextIn : ListOptions → List (List ℕ) → Region → List Terms → List ℕ → Type 0
 IsFullTextIn o ring k fs text = IsFullTextBehind [] o ring k fs text
 
--- there are more bases than the limit lets through
+-- there are more bases than the limit
 abbrev pub IsPastLimitIn : Option ℕ → ℕ → Region → List Terms → ℕ → Type 0
 IsPastLimitIn limit n k fs most = IsPastLimitBehind [] limit n k fs most
 
@@ -155,76 +156,76 @@ IsPastLimitIn limit n k fs most = IsPastLimitBehind [] limit n k fs most
 abbrev pub IsSearchRefusedIn : ListOptions → ℕ → Region → List Terms → TreeError → Type 0
 IsSearchRefusedIn o n k fs e = IsSearchRefusedBehind [] o n k fs e
 
--- why the list isn't written from its first basis on
+-- why the list is refused, from its first basis on
 abbrev pub IsGoingCauseIn : ListOptions → ℕ → Region → List Terms → Refusal → Type 0
 IsGoingCauseIn o n k fs r = IsGoingCauseBehind [] o n k fs r
 
--- what stands where it is refused so
+-- the text may have been written when the list is refused with r
 abbrev pub IsBegunWhereIn : ListOptions → List (List ℕ) → Region → List Terms → List ℕ → Refusal → Type 0
 IsBegunWhereIn o ring k fs text r = IsBegunWhereBehind [] o ring k fs text r
 
--- ---- where all positive weights are meant
+-- ---- for all positive weights
 
--- the bases as they are written, with certificates or without
+-- the items of these bases, with certificates or without
 abbrev pub AreItemTexts : Bool → List (List ℕ) → List MarkedPolynomials → List (List ℕ) → Type 0
 AreItemTexts certified ring bs ts = AreItemTextsIn certified ring (all_positive (length ring)) bs ts
 
--- the ring in a line, and all bases of the ideal, no more than the limit
+-- the text is the ring in a line, and all bases of the ideal, with certificates or without; there are no more than the limit
 abbrev pub IsTextOfBases : Bool → Option ℕ → List (List ℕ) → List Terms → List ℕ → Type 0
 IsTextOfBases certified limit ring fs text = IsTextOfBasesIn certified limit ring (all_positive (length ring)) fs text
 
--- that text, or as much of it as the limit lets through
+-- the text is that text, or as much of it as the limit allows
 abbrev pub IsFullText : ListOptions → List (List ℕ) → List Terms → List ℕ → Type 0
 IsFullText o ring fs text = IsFullTextIn o ring (all_positive (length ring)) fs text
 
--- the ideal has more bases than the limit lets through
+-- the ideal has more bases than the limit
 abbrev pub IsPastLimit : Option ℕ → ℕ → List Terms → ℕ → Type 0
 IsPastLimit limit n fs most = IsPastLimitIn limit n (all_positive n) fs most
 
--- a call of the search over all of them is refused before the limit is reached
+-- a call of the search over all bases is refused before the limit is reached
 abbrev pub IsSearchRefused : ListOptions → ℕ → List Terms → TreeError → Type 0
 IsSearchRefused o n fs e = IsSearchRefusedIn o n (all_positive n) fs e
 
--- why the list of all of them isn't written from its first basis on
+-- why the list of all bases is refused, from its first basis on
 abbrev pub IsGoingCause : ListOptions → ℕ → List Terms → Refusal → Type 0
 IsGoingCause o n fs r = IsGoingCauseIn o n (all_positive n) fs r
 
--- what stands of it where it is refused so
+-- the text may have been written of the list of all bases when it is refused with r
 abbrev pub IsBegunWhere : ListOptions → List (List ℕ) → List Terms → List ℕ → Refusal → Type 0
 IsBegunWhere o ring fs text r = IsBegunWhereIn o ring (all_positive (length ring)) fs text r
 
--- ---- from the first basis on
+-- ---- with the first basis
 
--- the first basis, by degree and then lex, is refused; or the list from it on
+-- the first basis, by deglex, is refused; or the list is refused from this basis on
 pub data IsListCause (o : ListOptions) (n : ℕ) (fs : List Terms) (r : Refusal) : Type 0 where
   at_root : (e : BasisError) → IsBasisRefusal MonomialOrder.deglex n fs o.pairs e → r ≡ of_basis e → IsListCause o n fs r
   going : IsGoingCause o n fs r → IsListCause o n fs r
 
--- where certificates are asked for, no operation of those of a basis of the ideal in a region leaves its limits
+-- if there are certificates, no operation of those of a basis of the ideal in a region leaves its limits
 abbrev pub AreCertifiedWithinIn : ListOptions → ℕ → Region → List Terms → Type 0
 AreCertifiedWithinIn o n k fs = o.certified ≡ true → (b : MarkedPolynomials) → IsGivenIn n k fs b → AreCertificatesFittingIn b.variables k b.items
 
--- no operation of the search at a basis of the ideal in a region leaves its limits, nor one of its certificates where they are asked for, and
+-- no operation of the search at a basis of the ideal in a region leaves its limits, nor does one of its certificates if there are any, and
 -- the list isn't longer than its limit
 pub record IsGoingWithin (o : ListOptions) (n : ℕ) (k : Region) (fs : List Terms) : Type 0 where
   pub tree : IsTreeWithinLimits (ideal_within n fs k) o.pairs
   pub few : (list : List MarkedPolynomials) → AreAllBasesIn n k fs list → IsWithinLimit o.limit list
   pub certificates : AreCertifiedWithinIn o n k fs
 
--- so for each basis of the ideal
+-- if there are certificates, no operation of those of a basis of the ideal leaves its limits
 abbrev pub AreCertifiedWithin : ListOptions → ℕ → List Terms → Type 0
 AreCertifiedWithin o n fs = AreCertifiedWithinIn o n (all_positive n) fs
 
--- no operation on the way to the first basis leaves its limits, nor one of the search at a basis of the ideal, nor one of its certificates
--- where they are asked for, and the list isn't longer than its limit
+-- no operation on the way to the first basis leaves its limits, nor does one of the search at a basis of the ideal, or one of its
+-- certificates if there are any, and the list isn't longer than its limit
 pub record IsListWithin (o : ListOptions) (n : ℕ) (fs : List Terms) : Type 0 where
   pub root : AreRunsWithinLimits MonomialOrder.deglex fs o.pairs
   pub tree : IsTreeWithinLimits (ideal_by n fs) o.pairs
   pub few : (list : List MarkedPolynomials) → AreAllBases n fs list → IsWithinLimit o.limit list
   pub certificates : AreCertifiedWithin o n fs
 
--- the list goes on past its limit, and from its first basis on no operation before that leaves its limits: none of a call at a basis that the
--- limit lets through, or at the next one, and none of the certificates of one that it lets through, where they are asked for
+-- the list continues after its limit, and from its first basis on no operation before that leaves its limits: none of a call at a basis up
+-- to the limit or at the next one, and, if there are certificates, none of those of a basis up to the limit
 pub record IsGoingPastIn (o : ListOptions) (n : ℕ) (k : Region) (fs : List Terms) (most : ℕ) : Type 0 where
   pub past : IsPastLimitIn o.limit n k fs most
   pub calls : (written rest : List MarkedPolynomials) (e : TreeError) → past.list ≡ written ++ rest → length written ≤ most →
@@ -232,18 +233,19 @@ pub record IsGoingPastIn (o : ListOptions) (n : ℕ) (k : Region) (fs : List Ter
   pub certificates : (written rest : List MarkedPolynomials) (b : MarkedPolynomials) → past.list ≡ written ++ b ∷ rest → length written < most →
       o.certified ≡ true → AreCertificatesFittingIn b.variables k b.items
 
--- so for the list of all bases of the ideal
+-- the same for the list of all bases of the ideal
 abbrev pub IsGoingPast : ListOptions → ℕ → List Terms → ℕ → Type 0
 IsGoingPast o n fs most = IsGoingPastIn o n (all_positive n) fs most
 
--- so it is, and no operation on the way to the first basis leaves its limits
+-- the list of all bases continues after its limit, and no operation before that leaves its limits, on the way to the first basis or from it
+-- on
 pub record IsListPast (o : ListOptions) (n : ℕ) (fs : List Terms) (most : ℕ) : Type 0 where
   pub root : AreRunsWithinLimits MonomialOrder.deglex fs o.pairs
   pub going : IsGoingPast o n fs most
 
 -- ---- the command
 
--- the command `_bases`, whose list begins at the basis by degree of what is read
+-- the command `_bases`, whose list starts at the basis by deglex of what is read
 abbrev pub bases_command : ListOptions → Command
 bases_command o = record {
   Value = List (List ℕ) × (List Written × Option (List ℤ));

@@ -1,6 +1,6 @@
 -- The list of all marked reduced Gröbner bases of an ideal in a region of weights, in the order of their paths.
--- Laws: proofs/BasesListLaws.antt. Source: Fukuda, Jensen, Thomas, Computing Gröbner fans, 2 and 3; Avis and Fukuda, Reverse Search
--- for Enumeration.
+-- Laws: proofs/BasesListLaws.antt.
+-- Source: Fukuda, Jensen, Thomas, Computing Gröbner fans, 2 and 3; Avis and Fukuda, Reverse Search for Enumeration.
 use Rattle.std.specs.Prelude.{◌≡◌, ◌↔◌, ℕ, Bool, List, length, All, ℤ, pos, ◌<ℤ◌}
 use Rattle.gf_exponents.specs.Exponents.{Exponents}
 use Rattle.gf_exponents.specs.Orders.{gains, IsWeightedBelow, IsTermOrder}
@@ -18,7 +18,7 @@ use Rattle.gf_facets.specs.InitialIdeals.{IsMonomialAt}
 use Rattle.gf_reverse.specs.Upward.{IsParent}
 use Rattle.gf_reverse.specs.TermOrders.{below_by}
 
--- some weight of the region gives the basis: it is the reduced one of the ideal of fs in n variables for this weight, arranged
+-- some weight of the region gives the basis: for this weight x is the reduced Gröbner basis of the ideal of fs in n variables, arranged
 pub record IsGivenIn (n : ℕ) (k : Region) (fs : List Terms) (x : MarkedPolynomials) : Type 0 where
   pub variables : x.variables ≡ n
   pub arranged : AreArranged n x.items
@@ -26,9 +26,10 @@ pub record IsGivenIn (n : ℕ) (k : Region) (fs : List Terms) (x : MarkedPolynom
   pub inside : IsInRegion n k weight
   pub reduced : IsReducedBasis n fs (gains weight) x.items
 
--- exactly the bases that some weight of the region gives, each once; their paths from the basis by the root of the region and then lex
--- rise. A path has the normals that are crossed on the way down, each a normal of the upper basis; the way up from a basis is across the
--- least of the normals that a flip may cross in the region and that are negative at its root
+-- the list has exactly the bases that some weight of the region gives, each once, in the order of their paths from the root. The root is
+-- the basis for the root of the region, ties broken by lex. A path has the normals of the facets that are crossed on the way down, each as
+-- a normal of the upper basis. The parent of a basis is across the facet with the least normal of those that a flip may cross in the region
+-- and that are negative at its root
 pub record AreAllBasesIn (n : ℕ) (k : Region) (fs : List Terms) (list : List MarkedPolynomials) : Type 0 where
   pub only : (x : MarkedPolynomials) → Among list x → IsGivenIn n k fs x
   pub all : (x : MarkedPolynomials) → IsGivenIn n k fs x → Among list x
@@ -41,20 +42,20 @@ pub record AreAllBasesIn (n : ℕ) (k : Region) (fs : List Terms) (list : List M
   pub lead : LeadTo (IsParent k) root paths list
   pub rises : Rises IsBefore paths
 
--- some positive weight gives the basis: it is the reduced Gröbner basis of the ideal of fs in n variables for this weight, arranged
+-- some positive weight gives the basis: for this weight x is the reduced Gröbner basis of the ideal of fs in n variables, arranged
 abbrev pub IsGivenByWeight : ℕ → List Terms → MarkedPolynomials → Type 0
 IsGivenByWeight n fs x = IsGivenIn n (all_positive n) fs x
 
--- the list has exactly the bases that some positive weight gives, each once, in the order of their paths from the basis by degree and then lex, which is
--- that by the weight (1, .., 1) and then lex
+-- the list has exactly the bases that some positive weight gives, each once, in the order of their paths from the root. The root is the
+-- basis for deglex, which is the one for the weight (1, .., 1), ties broken by lex
 abbrev pub AreAllBases : ℕ → List Terms → List MarkedPolynomials → Type 0
 AreAllBases n fs list = AreAllBasesIn n (all_positive n) fs list
 
--- ---- what such a list has
+-- ---- properties of such a list
 
--- a basis is listed exactly where some positive weight gives it. For each positive weight for which monomials generate the initial
--- ideal the reduced basis is listed, and no other listed basis is one for it; so it is for each term order. Each positive weight lies in the
--- closed cone of a listed basis
+-- a basis is in the list if and only if some positive weight gives it. For each positive weight for which monomials generate the initial
+-- ideal, and for each term order, exactly one basis of the list is the reduced basis. Each positive weight is in the closed cone of a basis
+-- of the list
 pub record WeightsAreServed : Type 0 where
   pub exactly : (n : ℕ) (fs : List Terms) (list : List MarkedPolynomials) (x : MarkedPolynomials) → AreAllBases n fs list →
       Among list x ↔ IsGivenByWeight n fs x
@@ -69,9 +70,9 @@ pub record WeightsAreServed : Type 0 where
       (x : MarkedPolynomials) × Among list x × IsReducedBasisFor n fs (below_by less) x.items
       × ((y : MarkedPolynomials) → Among list y → IsReducedBasisFor n fs (below_by less) y.items → x ≡ y)
 
--- so it is in every region: a basis is listed exactly where some weight of the region gives it; for each weight of the region for which
--- monomials generate the initial ideal the reduced basis is listed, and no other listed basis is one for it; each weight of the region lies in
--- the closed cone of a listed basis
+-- a basis is in the list of a region if and only if some weight of the region gives it. For each weight of the region for which monomials
+-- generate the initial ideal exactly one basis of the list is the reduced basis. Each weight of the region is in the closed cone of a basis
+-- of the list
 pub record RegionsAreServed : Type 0 where
   pub exactly : (n : ℕ) (k : Region) (fs : List Terms) (list : List MarkedPolynomials) (x : MarkedPolynomials) → AreAllBasesIn n k fs list →
       Among list x ↔ IsGivenIn n k fs x

@@ -1,4 +1,4 @@
--- How `_bases` writes its list: pieces, and how many bases may still be written. Laws: proofs/BasesLaws.antt.
+-- The writing of the list of `_bases`: pieces, and how many bases may still be written. Laws: proofs/BasesLaws.antt.
 use Rattle.std.specs.Prelude.{◌≡◌, ◌⊎◌, ℕ, ◌+◌, Bool, true, false, List, [], ◌∷◌, ◌++◌, length, Option, None, Some}
 use Rattle.std.specs.Io.KnownBytes.{Appends, Keeps}
 use Rattle.gf_outside.specs.Faults.{Rose}
@@ -28,74 +28,74 @@ use Rattle.gfan_lists.specs.Bases.{later_item_text, AreItemTextsIn, IsTextBehind
 
 -- ---- pieces
 
--- the piece of what stands for a basis: with the first one the line of the ring and a brace, with each other one what parts them
+-- the piece of the item of a basis: for the first one the line of the ring and a brace, for each other one a separator, and then the item
 abbrev pub basis_piece : List (List ℕ) → Bool → List ℕ → List ℕ
 basis_piece ring true t = ring_text ring ++ 123 ∷ t
 basis_piece ring false t = later_item_text t
 
--- the piece of this basis, in a region
+-- piece is the piece of the basis b in a region
 pub record IsPieceOf (certified : Bool) (ring : List (List ℕ)) (k : Region) (is_first : Bool) (b : MarkedPolynomials) (piece : List ℕ) : Type 0 where
   pub item : List ℕ
   pub is_item : IsItemTextIn certified ring k b item
   pub is_piece : piece ≡ basis_piece ring is_first item
 
--- it is written
+-- the piece of the basis b was appended to the output
 abbrev pub IsBasisWritten : Bool → List (List ℕ) → Region → Bool → MarkedPolynomials → Option (List ℕ) → Option (List ℕ) → Type 0
 IsBasisWritten certified ring k is_first b held holds = (piece : List ℕ) × IsPieceOf certified ring k is_first b piece × Appends held holds piece
 
--- why a piece isn't written whole: there is no memory, and nothing is; or a write failed, and a prefix is
+-- why a piece isn't written completely: memory runs out, and nothing of it is written; or a write failed, and a prefix of it is
 abbrev pub IsUnwritten : Option (List ℕ) → Option (List ℕ) → ℕ → ℕ → List ℕ → Refusal → Type 0
 IsUnwritten held holds written writes piece refusals.WriteFault = Rose written writes × AppendsPrefix held holds piece
 IsUnwritten held holds written writes piece refusals.Memory = Keeps held holds × (writes ≡ written)
 IsUnwritten held holds written writes piece _ = ⊥
 
--- why a basis isn't written: its piece isn't made, and nothing is written; or it is made, and isn't written whole
+-- why a basis isn't written: its piece can't be made, and nothing is written; or it is made, and isn't written completely
 pub data IsBasisUnwritten (certified : Bool) (ring : List (List ℕ)) (k : Region) (is_first : Bool) (b : MarkedPolynomials) (held holds : Option (List ℕ)) (written writes : ℕ) (r : Refusal) : Type 0 where
   unmade : holds ≡ held → writes ≡ written → IsItemRefusalIn certified k b r → IsBasisUnwritten certified ring k is_first b held holds written writes r
   cut : (piece : List ℕ) → IsPieceOf certified ring k is_first b piece → IsUnwritten held holds written writes piece r → IsBasisUnwritten certified ring k is_first b held holds written writes r
 
 -- ---- room
 
--- there is just so much room behind the bases that are written
+-- with the bases that are written, room has exactly the number of bases that may still be written up to the limit
 abbrev pub HasRoomFor : Option ℕ → Room → List MarkedPolynomials → Type 0
 HasRoomFor None Endless written = Unit {0}
 HasRoomFor None (Limited limit left) written = ⊥
 HasRoomFor (Some most) Endless written = ⊥
 HasRoomFor (Some most) (Limited limit left) written = (limit ≡ most) × (length written + left ≡ most)
 
--- the room once one more is written
+-- the second is the room after one more basis is written
 abbrev pub IsOneLess : Room → Room → Type 0
 IsOneLess Endless Endless = Unit {0}
 IsOneLess Endless (Limited limit left) = ⊥
 IsOneLess (Limited limit left) Endless = ⊥
 IsOneLess (Limited limit left) (Limited same less) = (same ≡ limit) × (less + 1 ≡ left)
 
--- there is no room, and the limit is told
+-- no further basis may be written, and r has the limit
 abbrev pub IsFull : Room → Refusal → Type 0
 IsFull Endless r = ⊥
 IsFull (Limited limit left) r = (left ≡ 0) × (r ≡ refusals.ListLimit limit)
 
 -- ---- the list
 
--- the basis at which the list begins
+-- root is the basis at which the list starts
 abbrev pub IsFirstBasis : ℕ → List Terms → MarkedPolynomials → Type 0
 IsFirstBasis n fs root = IsArrangedBasis MonomialOrder.deglex n fs root
 
--- why there is none
+-- why this basis isn't computed
 abbrev pub IsRootRefusal : ℕ → List Terms → ℕ → Refusal → Type 0
 IsRootRefusal n fs pairs r = (e : BasisError) × IsBasisRefusal MonomialOrder.deglex n fs pairs e × (r ≡ of_basis e)
 
--- the list of the ideal of fs in n variables begins at the root
+-- the list of the ideal of fs in n variables starts at root
 pub record StartsAt (n : ℕ) (fs : List Terms) (root : MarkedPolynomials) : Type 0 where
   pub inside : AreInVariables n fs
   pub first : IsFirstBasis n fs root
 
--- the list of the ideal of fs in n variables and in a region begins at the root: the basis by the root of the region and then lex
+-- the list of the ideal of fs in n variables and in a region starts at root: the basis for the root of the region, ties broken by lex
 pub record StartsIn (n : ℕ) (k : Region) (fs : List Terms) (root : MarkedPolynomials) : Type 0 where
   pub node : IsNodeIn (ideal_within n fs k) root
   pub by_root : IsReducedBasisFor n fs (IsWeightedBelow (gains k.root)) root.items
 
--- a row goes on with the list of all bases of the ideal of fs in n variables and in a region, behind these
+-- the row has left what follows these bases in the list of all bases of the ideal of fs in n variables and in a region
 pub record GoesOnBehind (before : List MarkedPolynomials) (n : ℕ) (k : Region) (fs : List Terms) (budget : ℕ) (row : Row) : Type 0 where
   pub rest : List MarkedPolynomials
   pub are_all : AreAllBasesIn n k fs (before ++ rest)
@@ -104,15 +104,15 @@ pub record GoesOnBehind (before : List MarkedPolynomials) (n : ℕ) (k : Region)
   pub pairs : row.pairs ≡ budget
   pub region : row.region ≡ k
 
--- the output gained all bases of the ideal of fs in a region behind these
+-- the text of all bases of the ideal of fs in a region that follow these was appended to the output
 abbrev pub IsListWrittenBehind : List MarkedPolynomials → ListOptions → List (List ℕ) → Region → List Terms → Option (List ℕ) → Option (List ℕ) → Type 0
 IsListWrittenBehind before o ring k fs held holds = (text : List ℕ) × IsTextBehind before o.certified o.limit ring k fs text × Appends held holds text
 
--- it gained the beginning of that text that may stand where the list is refused so
+-- the beginning of that text that may be written when the list is refused with r was appended to the output
 abbrev pub IsListBegunBehind : List MarkedPolynomials → ListOptions → List (List ℕ) → Region → List Terms → Option (List ℕ) → Option (List ℕ) → Refusal → Type 0
 IsListBegunBehind before o ring k fs held holds r = (text : List ℕ) × IsBegunWhereBehind before o ring k fs text r × Appends held holds text
 
--- why the list isn't written from there on, and what stands of it
+-- why the list is refused after these bases, and what was appended to the output
 abbrev pub IsListStoppedBehind : List MarkedPolynomials → ListOptions → List (List ℕ) → Region → List Terms → Option (List ℕ) → Option (List ℕ) → ℕ → ℕ → Refusal → Type 0
 IsListStoppedBehind before o ring k fs held holds written writes refusals.WriteFault = Rose written writes × ((text : List ℕ) × IsFullTextBehind before o ring k fs text × AppendsPrefix held holds text)
 IsListStoppedBehind before o ring k fs held holds written writes (refusals.ListLimit most) =
@@ -120,29 +120,29 @@ IsListStoppedBehind before o ring k fs held holds written writes (refusals.ListL
 IsListStoppedBehind before o ring k fs held holds written writes r =
     (IsGoingCauseBehind before o (length ring) k fs r ⊎ (r ≡ refusals.Memory)) × (Keeps held holds ⊎ IsListBegunBehind before o ring k fs held holds r)
 
--- behind none, from the first basis on
+-- the text of all bases was appended to the output, from the first basis on
 abbrev pub IsListWrittenIn : ListOptions → List (List ℕ) → Region → List Terms → Option (List ℕ) → Option (List ℕ) → Type 0
 IsListWrittenIn o ring k fs held holds = IsListWrittenBehind [] o ring k fs held holds
 
--- the beginning of the whole list that may stand where it is refused so
+-- the beginning of the text of all bases that may be written when the list is refused with r was appended to the output
 abbrev pub IsListBegunIn : ListOptions → List (List ℕ) → Region → List Terms → Option (List ℕ) → Option (List ℕ) → Refusal → Type 0
 IsListBegunIn o ring k fs held holds r = IsListBegunBehind [] o ring k fs held holds r
 
--- why the whole list isn't written, and what stands of it
+-- why the list of all bases is refused, and what was appended to the output
 abbrev pub IsListStoppedIn : ListOptions → List (List ℕ) → Region → List Terms → Option (List ℕ) → Option (List ℕ) → ℕ → ℕ → Refusal → Type 0
 IsListStoppedIn o ring k fs held holds written writes r = IsListStoppedBehind [] o ring k fs held holds written writes r
 
--- the piece that ends the list: a closing brace, with the line of the ring and the opening one where no basis was written
+-- the piece that ends the list: a closing brace; if no basis was written, the line of the ring and an opening brace before it
 abbrev pub end_piece : List (List ℕ) → Bool → List ℕ
 end_piece ring true = ring_text ring ++ 123 ∷ 125 ∷ 10 ∷ []
 end_piece ring false = 125 ∷ 10 ∷ []
 
--- whether nothing is written yet
+-- true if nothing is written yet
 abbrev pub is_none_of : List (List ℕ) → Bool
 is_none_of [] = true
 is_none_of (t ∷ ts) = false
 
--- the list behind these is under way: some of its bases are written, and the rest is left in the row
+-- the list after these bases is written in part: some of its bases are written, and the row has left the rest
 pub record IsUnderWay (before : List MarkedPolynomials) (o : ListOptions) (ring : List (List ℕ)) (k : Region) (fs : List Terms) (row : Row) (room : Room) (is_first : Bool) (held holds : Option (List ℕ)) : Type 0 where
   pub written : List MarkedPolynomials
   pub rest : List MarkedPolynomials

@@ -1,5 +1,6 @@
--- What stands for a basis in the list of `_bases`: its text, and where certificates are asked for its printed weight and the facets that
--- a flip may cross, each with its printed witness. Laws: proofs/CertificateLaws.antt.
+-- The item of a basis in the list of `_bases`: its text, and with certificates its printed weight and the facets that a flip may cross,
+-- each with its printed witness.
+-- Laws: proofs/CertificateLaws.antt.
 use Rattle.std.specs.Prelude.{◌≡◌, ℕ, Bool, true, false, List, [], ◌∷◌, ◌++◌, ℤ, flat_map}
 use Rattle.gf_poly.specs.Marking.{MarkedPolynomials}
 use Rattle.gf_text.specs.PrintedSets.{basis_text}
@@ -32,8 +33,8 @@ facets_text (f ∷ fs) = facet_text f ++ flat_map later_facet_text fs
 abbrev pub certificates_text : List ℤ → List FacetWitness → List ℕ
 certificates_text weight facets = 10 ∷ (vector_text weight ++ 10 ∷ 123 ∷ (facets_text facets ++ 125 ∷ []))
 
--- the certificates of a basis in a region: its printed weight, and exactly the facets that a flip may cross there, their normals
--- ascending, each with its printed witness
+-- the text is that of the certificates of a basis in a region: its printed weight, and exactly the facets that a flip may cross there, in
+-- ascending order of their normals, each with its printed witness
 pub record IsCertificatesTextIn (k : Region) (b : MarkedPolynomials) (text : List ℕ) : Type 0 where
   pub weight : List ℤ
   pub facets : List FacetWitness
@@ -41,18 +42,19 @@ pub record IsCertificatesTextIn (k : Region) (b : MarkedPolynomials) (text : Lis
   pub are_witnessed : AreWitnessedIn b.variables k b.items facets
   pub is_text : text ≡ certificates_text weight facets
 
--- what stands for a basis in the list of a region: its text, with certificates followed by those
+-- the text is the item of a basis in the list of a region: the text of the basis, followed by its certificates if there are any
 abbrev pub IsItemTextIn : Bool → List (List ℕ) → Region → MarkedPolynomials → List ℕ → Type 0
 IsItemTextIn false ring k b text = text ≡ basis_text ring b.items
 IsItemTextIn true ring k b text = (told : List ℕ) × IsCertificatesTextIn k b told × (text ≡ basis_text ring b.items ++ told)
 
 -- ---- refusals
 
--- an operation of finding the rays of the basis's cone, cut with the closed region, or of adding up those that are printed, is refused
+-- the certificates of a basis are refused: an operation of finding the rays of the intersection of its cone with the closed region, or of
+-- adding rays, leaves its range; or memory runs out
 abbrev pub IsUncertifiedIn : Region → MarkedPolynomials → Refusal → Type 0
 IsUncertifiedIn k b r = (e : WeightError) × IsCertificateCauseIn b.variables k b.items e × (r ≡ of_weight_error e)
 
--- why the text isn't made
+-- why the item can't be made
 abbrev pub IsItemRefusalIn : Bool → Region → MarkedPolynomials → Refusal → Type 0
 IsItemRefusalIn false k b r = r ≡ refusals.Memory
 IsItemRefusalIn true k b r = IsUncertifiedIn k b r

@@ -1,4 +1,4 @@
--- `_generated`: what it writes of the ideal that a number stands for, and why it doesn't.
+-- `_generated`: its output for the ideal with a number, and why it is refused.
 use Rattle.std.specs.Prelude.{◌≡◌, ℕ, ◌<◌, ◌≤◌, nat_le, min, Bool, true, false, List, [], ◌∷◌, ◌++◌, length, take, map, Some, codes, ℤ}
 use Rattle.std.specs.List.{AllZip, concat}
 use Rattle.gf_exponents.specs.SixOrders.{MonomialOrder}
@@ -29,27 +29,28 @@ use Rattle.gfan_common.specs.Causes.{of_basis, of_weight_error, of_tree}
 use Rattle.gfan_lists.specs.BasesList.{AreAllBases}
 use Rattle.gfan_lists.specs.Bases.{IsSearchRefused}
 
--- ---- what is written
+-- ---- the output
 
--- the weight that is printed of each of these bases
+-- ws has the weight that is printed for each of these bases
 abbrev pub ArePrintedWeights : List MarkedPolynomials → List (List ℤ) → Type 0
 ArePrintedWeights bs ws = AllZip (λ b w. IsPrintedWeight b.variables b.items w) bs ws
 
--- vectors added to a sum, from the left
+-- the sum of a vector and the vectors of a list, added from the left
 abbrev pub added : List ℤ → List (List ℤ) → List ℤ
 added sum [] = sum
 added sum (w ∷ ws) = added (vector_sum sum w) ws
 
--- the number of a truth value
+-- 1 for true, and 0 for false
 abbrev pub one_where : Bool → ℕ
 one_where true = 1
 one_where false = 0
 
--- a line: what is told, and the vector
+-- a line: a label, and the vector
 abbrev pub vector_line : List ℕ → List ℤ → List ℕ
 vector_line label v = label ++ (vector_text v ++ 10 ∷ [])
 
--- four lines: how many bases, the greatest total degree of their polynomials, the sum of their weights, and 1 where these are all
+-- four lines: the number of bases, the greatest total degree of their polynomials, the sum of their weights, and 1 if these are all bases,
+-- else 0
 abbrev pub summary_text : ℕ → ℕ → List ℤ → Bool → List ℕ
 summary_text bases degree weights complete = concat (
     count_line (codes "Bases: ") bases
@@ -58,8 +59,8 @@ summary_text bases degree weights complete = concat (
     ∷ count_line (codes "Complete: ") (one_where complete)
     ∷ [])
 
--- these lines of the first bases of the ideal of fs in four variables, as many as the limit, or all where there are fewer; all of them are
--- told of exactly where they are no more than the limit
+-- the text has these lines for the first bases of the ideal of fs in four variables, as many as the limit, or all if there are fewer. They
+-- are all bases if and only if there are no more bases than the limit
 pub record IsSummaryText (limit : ℕ) (fs : List Terms) (text : List ℕ) : Type 0 where
   pub list : List MarkedPolynomials
   pub are_all : AreAllBases 4 fs list
@@ -67,13 +68,13 @@ pub record IsSummaryText (limit : ℕ) (fs : List Terms) (text : List ℕ) : Typ
   pub are_weights : ArePrintedWeights (take limit list) weights
   pub is_text : text ≡ summary_text (min limit (length list)) (greatest (map degree_of_set (take limit list))) (added (zeros 4) weights) (nat_le (length list) limit)
 
--- ---- why it isn't written
+-- ---- why it is refused
 
--- the list that is asked for, to its limit
+-- the options of the list of these bases, up to the limit
 abbrev pub list_to : ℕ → ℕ → ListOptions
 list_to limit pairs = record { limit = Some limit; pairs = pairs; certified = true }
 
--- the weight of a basis that the limit lets through isn't told
+-- the weight of a basis up to the limit can't be computed
 pub record IsWeightRefused (limit : ℕ) (fs : List Terms) (e : WeightError) : Type 0 where
   pub before : List MarkedPolynomials
   pub basis : MarkedPolynomials
@@ -82,8 +83,8 @@ pub record IsWeightRefused (limit : ℕ) (fs : List Terms) (e : WeightError) : T
   pub few : length before < limit
   pub cause : IsWeightCause basis.variables basis.items e
 
--- a sum of an entry of a partial sum of the weights of bases that the limit lets through and one of the next weight, the first such, leaves
--- the range
+-- e is the first sum of an entry of a partial sum of the weights of the bases up to the limit and one of the next weight that leaves the
+-- range
 pub record IsSumRefused (limit : ℕ) (fs : List Terms) (e : WideVector) : Type 0 where
   pub summed : List MarkedPolynomials
   pub rest : List MarkedPolynomials
@@ -93,8 +94,8 @@ pub record IsSumRefused (limit : ℕ) (fs : List Terms) (e : WideVector) : Type 
   pub are_weights : ArePrintedWeights summed weights
   pub wide : IsFirstWide e (adding_steps (zeros 4) weights)
 
--- the first basis, by degree and then lex, is refused; or a step of the search, at a basis that isn't behind the limit; or a weight, or the
--- sum of the weights
+-- the first basis, by deglex, is refused; or a call of the search, at a basis up to the limit or at the next one; or a weight, or the sum
+-- of the weights
 pub data IsSummaryCause (limit pairs : ℕ) (fs : List Terms) (r : Refusal) : Type 0 where
   at_root : (e : BasisError) → IsBasisRefusal MonomialOrder.deglex 4 fs pairs e → r ≡ of_basis e → IsSummaryCause limit pairs fs r
   in_tree : (e : TreeError) → IsSearchRefused (list_to limit pairs) 4 fs e → r ≡ of_tree e → IsSummaryCause limit pairs fs r
@@ -103,7 +104,7 @@ pub data IsSummaryCause (limit pairs : ℕ) (fs : List Terms) (r : Refusal) : Ty
 
 -- ---- the command
 
--- it reads nothing; how many workers there are isn't told
+-- the command `_generated`: it reads nothing, and its output doesn't depend on the number of workers
 abbrev pub summary_command : ℕ → ℕ → ℕ → Command
 summary_command number limit pairs = record {
   Value = Unit {0};
@@ -116,6 +117,6 @@ summary_command number limit pairs = record {
   writing = Writing.at_end;
 }
 
--- as the options say
+-- the command `_generated` with these options
 abbrev pub generated_command : GeneratedOptions → Command
 generated_command o = summary_command o.number o.limit o.pairs

@@ -1,4 +1,4 @@
--- `_bases -g`: a marked Gröbner basis is read in place of generators. What is written, and why it isn't.
+-- `_bases -g`: a marked Gröbner basis is read in place of generators. Its output, and why it is refused.
 use Rattle.std.specs.Prelude.{◌≡◌, ℕ, List, [], length, ◌∷◌, Contains}
 use Rattle.gf_poly.specs.declared.error.PolyError.{PolyError}
 use Rattle.gf_poly.specs.declared.error.PolyError.TheVariants as errors
@@ -26,25 +26,26 @@ use Rattle.gfan_lists.specs.Bases.{IsWithinLimit, IsTextOfBases, IsFullText, IsB
 use Rattle.gfan_common.specs.Causes.{of_tree}
 use Rattle.gfan_common.specs.CheckedSets.{of_check}
 
--- ---- what is written
+-- ---- the output
 
--- the set is a Gröbner basis for its marking; then the ring in a line, and all bases of the ideal that it generates, which are no more
--- than the limit
+-- the set is a Gröbner basis for its marking. The text is the ring in a line, and all bases of the ideal that it generates; there are no
+-- more than the limit
 pub record IsTextFromBasis (o : ListOptions) (ring : List (List ℕ)) (s : MarkedPolynomials) (text : List ℕ) : Type 0 where
   pub basis : IsMarkedGroebnerBasis s.variables s.items
   pub list : IsTextOfBases o.certified o.limit ring (polys s.items) text
 
--- the same with all that is written of that list where nothing stops it
+-- the set is a Gröbner basis for its marking, and the text is all that is written of the list if nothing stops it
 pub record IsFullFromBasis (o : ListOptions) (ring : List (List ℕ)) (s : MarkedPolynomials) (text : List ℕ) : Type 0 where
   pub basis : IsMarkedGroebnerBasis s.variables s.items
   pub list : IsFullText o ring (polys s.items) text
 
--- the set is a Gröbner basis for its marking, and of the list this stands where it is refused so; so nothing stands where the set isn't one
+-- the set is a Gröbner basis for its marking, and the text may have been written of the list when it is refused with r. So nothing is
+-- written if the set isn't such a basis
 pub record IsBegunFromBasis (o : ListOptions) (ring : List (List ℕ)) (s : MarkedPolynomials) (text : List ℕ) (r : Refusal) : Type 0 where
   pub basis : IsMarkedGroebnerBasis s.variables s.items
   pub begun : IsBegunWhere o ring (polys s.items) text r
 
--- ---- why it isn't written
+-- ---- why it is refused
 
 -- u is the reduced basis of the ideal that s generates, for some positive weight that gives the marking of s
 pub record IsReducedFrom (s u : MarkedPolynomials) : Type 0 where
@@ -53,13 +54,14 @@ pub record IsReducedFrom (s u : MarkedPolynomials) : Type 0 where
   pub reduced : IsReducedBasis s.variables (polys s.items) weight u.items
   pub marks : (b : MarkedPolynomial) → Contains s.items b → IsRealisedBy weight b
 
--- the set isn't taken as a basis; or it is one, and its members made monic and arranged aren't reduced
+-- the set is refused as a basis; or it is one, and the autoreduction of its members made monic and arranged is refused
 pub data IsReducingRefusal (s : MarkedPolynomials) (r : Refusal) : Type 0 where
   at_check : (e : CheckError) → IsReducedBasisRefusal 0 s e → r ≡ of_check e → IsReducingRefusal s r
   at_tails : (t : MarkedPolynomials) (d : PolyError) → IsMarkedGroebnerBasis s.variables s.items → IsArranged (monic_set s) t →
       IsAutoreductionRefusal t.items d → r ≡ of_check (of_poly d) → IsReducingRefusal s r
 
--- the same, or the way up from the reduced basis to the root is refused, at a basis on it
+-- the set is refused as a basis, or its autoreduction is refused; or a call of the search is refused at a basis on the way up from the
+-- reduced basis to the root
 pub data IsGivenRootRefusal (s : MarkedPolynomials) (pairs : ℕ) (r : Refusal) : Type 0 where
   at_check : (e : CheckError) → IsReducedBasisRefusal 0 s e → r ≡ of_check e → IsGivenRootRefusal s pairs r
   at_tails : (t : MarkedPolynomials) (d : PolyError) → IsMarkedGroebnerBasis s.variables s.items → IsArranged (monic_set s) t →
@@ -67,13 +69,13 @@ pub data IsGivenRootRefusal (s : MarkedPolynomials) (pairs : ℕ) (r : Refusal) 
   on_the_way : (u : MarkedPolynomials) (e : TreeError) → IsMarkedGroebnerBasis s.variables s.items → IsReducedFrom s u →
       IsWayRefused (all_positive s.variables) pairs u e → r ≡ of_tree e → IsGivenRootRefusal s pairs r
 
--- so is the root; or the set is a basis, and the list is refused from the root on
+-- the root is refused; or the set is a basis, and the list is refused from the root on
 pub data IsGivenListCause (o : ListOptions) (n : ℕ) (s : MarkedPolynomials) (r : Refusal) : Type 0 where
   at_root : IsGivenRootRefusal s o.pairs r → IsGivenListCause o n s r
   going : IsMarkedGroebnerBasis s.variables s.items → IsGoingCause o n (polys s.items) r → IsGivenListCause o n s r
 
--- the set, in its variables as any that is read, is a basis, no operation of its checks leaves its limits, nor one of reducing it, nor one
--- of the search at a basis of the ideal, nor one of its certificates where they are asked for, and the list isn't longer than its limit
+-- the members of the set are in its variables, and the set is a basis. No operation of its checks or of its reduction leaves its limits,
+-- nor does one of the search at a basis of the ideal, or one of its certificates if there are any. The list isn't longer than its limit
 pub record IsGivenListWithin (o : ListOptions) (n : ℕ) (s : MarkedPolynomials) : Type 0 where
   pub variables : HaveVariables s.variables s.items
   pub same : s.variables ≡ n
@@ -84,8 +86,8 @@ pub record IsGivenListWithin (o : ListOptions) (n : ℕ) (s : MarkedPolynomials)
   pub few : (list : List MarkedPolynomials) → AreAllBases n (polys s.items) list → IsWithinLimit o.limit list
   pub certificates : AreCertifiedWithin o n (polys s.items)
 
--- the set is a basis, and the list goes on past its limit; before that no operation leaves its limits: none of the checks of the set, of
--- reducing it, or of a call at a basis on the way up from the reduced basis to the root; nor one of the list from there on
+-- the set is a basis, and the list continues after its limit. No operation before that leaves its limits: none of the checks of the set, of
+-- its reduction, or of a call at a basis on the way up from the reduced basis to the root, nor one of the list from there on
 pub record IsGivenListPast (o : ListOptions) (n : ℕ) (s : MarkedPolynomials) (most : ℕ) : Type 0 where
   pub basis : IsMarkedGroebnerBasis s.variables s.items
   pub checks : AreChecksWithinLimits s

@@ -1,11 +1,11 @@
-pub mod Certificates  -- what stands for a basis in the list, with certificates or without
+pub mod Certificates  -- the item of a basis in the list, with certificates or without
 pub mod BasesList  -- the list of all bases of an ideal
 pub mod Parts  -- a list that is written in parts
-pub mod Bases  -- what `_bases` reads and writes
+pub mod Bases  -- the input and output of `_bases`
 pub mod Within  -- `_bases --within`
-pub mod GivenBasis  -- what `_bases -g` reads and writes
+pub mod GivenBasis  -- the input and output of `_bases -g`
 pub mod After  -- `_bases --after`
-pub mod BasesWriting  -- how `_bases` writes its list
-pub mod Generated  -- what `_generated` writes
-pub mod Summaries  -- how `_generated` sums up a list
-pub mod OneSummary  -- `_generated` writes one text for a number and a limit
+pub mod BasesWriting  -- the writing of the list of `_bases`
+pub mod Generated  -- the output of `_generated`
+pub mod Summaries  -- the summary of a list by `_generated`
+pub mod OneSummary  -- `_generated` writes exactly one text for a number and a limit

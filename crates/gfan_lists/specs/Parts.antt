@@ -6,8 +6,9 @@ use Rattle.gf_ideal.specs.Membership.{AreInVariables}
 use Rattle.gf_facets.specs.Regions.{Region, IsRegion}
 use Rattle.gfan_lists.specs.Bases.{begun_text, list_text, IsTextBehind, IsBegunListBehind}
 
--- Where one run wrote the bases up to b, behind some earlier ones or from the first on, and another what follows b, the bases of both, in
--- this order, are what follows the earlier ones, and the items of both texts make up its text; whatever the limits of the runs were.
+-- One run writes the bases up to b, after some earlier ones or from the first one on, and another one writes what follows b. Then the bases
+-- of both, in this order, are what follows the earlier ones, and the items of both texts make up its text. The limits of the runs may be
+-- any.
 abbrev pub PartsAreJoined : Type 0
 PartsAreJoined = (certified : Bool) (limit : Option ℕ) (ring : List (List ℕ)) (k : Region) (fs : List Terms) (early front before rest : List MarkedPolynomials) (b : MarkedPolynomials) (text behind : List ℕ) →
     AreInVariables (length ring) fs → IsRegion (length ring) k →

@@ -1,4 +1,4 @@
--- How `_generated` sums up a list, basis by basis. Laws: proofs/SummaryLaws.antt.
+-- The summary of a list by `_generated`, basis by basis. Laws: proofs/SummaryLaws.antt.
 use Rattle.std.specs.Prelude.{◌≡◌, ℕ, ◌+◌, nat_le, max, min, true, List, length, take, map, ℤ}
 use Rattle.gf_vec.specs.Vector.{zeros, vector_sum}
 use Rattle.gf_vec.specs.Steps.{sum_steps, NoneWide, IsFirstWide}
@@ -17,14 +17,14 @@ use Rattle.gfan_lists.specs.BasesList.{AreAllBases}
 use Rattle.gfan_common.specs.Causes.{of_weight_error}
 use Rattle.gfan_lists.specs.Generated.{ArePrintedWeights, added}
 
--- that of no bases
+-- s is the summary of no bases
 pub record IsOfNoBasis (s : Summary) : Type 0 where
   pub bases : s.bases ≡ 0
   pub degree : s.degree ≡ 0
   pub weights : s.weights ≡ zeros 4
   pub complete : s.complete ≡ true
 
--- that with one basis more
+-- new is the summary of the bases of old and of b
 pub record IsWithBasis (old : Summary) (b : MarkedPolynomials) (new : Summary) : Type 0 where
   pub bases : new.bases ≡ old.bases + 1
   pub degree : new.degree ≡ max old.degree (degree_of_set b)
@@ -34,17 +34,17 @@ pub record IsWithBasis (old : Summary) (b : MarkedPolynomials) (new : Summary) :
   pub fits : NoneWide (sum_steps old.weights weight)
   pub complete : new.complete ≡ true
 
--- a sum of two entries, the first such, leaves the range; or there is no memory
+-- why a weight can't be added: a sum of two entries leaves the range, the first such sum being reported; or memory runs out
 pub data IsWideSum (weights weight : List ℤ) (r : Refusal) : Type 0 where
   wide : (e : WideVector) → IsFirstWide e (sum_steps weights weight) → r ≡ refusals.WideVector e → IsWideSum weights weight r
   no_memory : r ≡ refusals.Memory → IsWideSum weights weight r
 
--- why there is none: the weight isn't told, or the sum isn't
+-- why a basis can't be added to a summary: its weight can't be computed, or can't be added
 pub data IsUnsummed (old : Summary) (b : MarkedPolynomials) (r : Refusal) : Type 0 where
   at_weight : (e : WeightError) → IsWeightCause b.variables b.items e → r ≡ of_weight_error e → IsUnsummed old b r
   at_sum : (weight : List ℤ) → IsPrintedWeight b.variables b.items weight → IsWideSum old.weights weight r → IsUnsummed old b r
 
--- that of the first bases of the ideal of fs, as many as the limit, or of all where there are fewer
+-- s is the summary of the first bases of the ideal of fs, as many as the limit, or of all if there are fewer
 pub record IsSummary (limit : ℕ) (fs : List Terms) (s : Summary) : Type 0 where
   pub list : List MarkedPolynomials
   pub are_all : AreAllBases 4 fs list

@@ -1,4 +1,4 @@
--- `_bases --within`: the vectors of a file cut a region out of the positive weights. What is written, and why it isn't.
+-- `_bases --within`: the vectors of a file cut a region out of the positive weights. Its output, and why it is refused.
 use Rattle.std.specs.Prelude.{◌≡◌, ◌⊎◌, ℕ, false, List, [], ◌∷◌, length, Option, ℤ}
 use Rattle.gf_exponents.specs.Orders.{gains}
 use Rattle.gf_exponents.specs.SixOrders.{MonomialOrder}
@@ -33,7 +33,7 @@ use Rattle.gfan_common.specs.ToolForms.{for_each}
 
 -- ---- the region
 
--- why vectors cut out no region, as a refusal of the run
+-- the refusal of a region, as one of the run
 abbrev pub of_region : RegionError → Refusal
 of_region (region_errors.Empty multipliers) = refusals.EmptyRegion multipliers
 of_region (region_errors.WideRoot index value) = refusals.WideRoot index value
@@ -41,51 +41,53 @@ of_region (region_errors.Cone o) = refusals.ConeOverflow o.row o.op o.left o.rig
 of_region (region_errors.Wide w) = refusals.WideVector w
 of_region region_errors.Memory = refusals.Memory
 
--- each of these has n entries, and no positive vector is positive on each; or an operation of finding the region's root leaves its limits, or
--- an entry of the root is too great
+-- each vector has n entries. No positive vector is positive on each of them; or an operation of finding the region's root leaves its
+-- limits, or an entry of the root is too great; or memory runs out
 abbrev pub IsNoRegion : ℕ → List (List ℤ) → Refusal → Type 0
 IsNoRegion n rows r = AreRows n rows × ((e : RegionError) × IsRegionRefusal n rows e × (r ≡ of_region e))
 
--- ---- what is written
+-- ---- the output
 
--- the vectors cut out a region; then the ring in a line, and all bases of the ideal of fs in it, which are no more than the limit
+-- the vectors cut out a region. The text is the ring in a line, and all bases of the ideal of fs in the region; there are no more than the
+-- limit
 pub record IsTextWithin (o : ListOptions) (rows : List (List ℤ)) (ring : List (List ℕ)) (fs : List Terms) (text : List ℕ) : Type 0 where
   pub region : Region
   pub is_region : IsRegionOf (length ring) rows region
   pub list : IsTextOfBasesIn o.certified o.limit ring region fs text
 
--- the same with all that is written of that list where nothing stops it
+-- the vectors cut out a region, and the text is all that is written of its list if nothing stops it
 pub record IsFullWithin (o : ListOptions) (rows : List (List ℤ)) (ring : List (List ℕ)) (fs : List Terms) (text : List ℕ) : Type 0 where
   pub region : Region
   pub is_region : IsRegionOf (length ring) rows region
   pub list : IsFullTextIn o ring region fs text
 
--- the vectors cut out a region, and of the list this stands where it is refused so; so nothing stands where they don't
+-- the vectors cut out a region, and the text may have been written of its list when it is refused with r. So nothing is written if they
+-- don't cut out a region
 pub record IsBegunWithin (o : ListOptions) (rows : List (List ℤ)) (ring : List (List ℕ)) (fs : List Terms) (text : List ℕ) (r : Refusal) : Type 0 where
   pub region : Region
   pub is_region : IsRegionOf (length ring) rows region
   pub begun : IsBegunWhereIn o ring region fs text r
 
--- ---- why it isn't written, from generators
+-- ---- why it is refused, from generators
 
--- the basis by the root of the region and then lex is refused
+-- the basis for the root of the region, ties broken by lex, is refused
 abbrev pub IsRegionRootRefusal : ℕ → Region → List Terms → ℕ → Refusal → Type 0
 IsRegionRootRefusal n k fs pairs r = (e : BasisError) × IsBasisRefusal (MonomialOrder.weighted (gains k.root)) n fs pairs e × (r ≡ of_basis e)
 
--- there is no region; or there is one, and its first basis is refused, or the list from it on
+-- there is no region; or there is one, and its first basis is refused, or the list from this basis on
 pub data IsCauseWithin (o : ListOptions) (n : ℕ) (rows : List (List ℤ)) (fs : List Terms) (r : Refusal) : Type 0 where
   at_region : IsNoRegion n rows r → IsCauseWithin o n rows fs r
   at_root : (k : Region) → IsRegionOf n rows k → IsRegionRootRefusal n k fs o.pairs r → IsCauseWithin o n rows fs r
   going : (k : Region) → IsRegionOf n rows k → IsGoingCauseIn o n k fs r → IsCauseWithin o n rows fs r
 
--- no operation of finding the region and its root leaves its limits; nor one on the way to the first basis, of the search at a basis of
--- the ideal in the region, or of its certificates where they are asked for; and the list isn't longer than its limit
+-- no operation of finding the region and its root leaves its limits. Nor does one on the way to the first basis, of the search at a basis
+-- of the ideal in the region, or of its certificates if there are any. The list isn't longer than its limit
 pub record IsWithinRegion (o : ListOptions) (n : ℕ) (rows : List (List ℤ)) (fs : List Terms) : Type 0 where
   pub region : IsRegionWithinLimits n rows
   pub root : (k : Region) → IsRegionOf n rows k → AreRunsWithinLimits (MonomialOrder.weighted (gains k.root)) fs o.pairs
   pub going : (k : Region) → IsRegionOf n rows k → IsGoingWithin o n k fs
 
--- the vectors cut out a region, in which the list goes on past its limit, and no operation before that leaves its limits
+-- the vectors cut out a region in which the list continues after its limit, and no operation before that leaves its limits
 pub record IsPastWithin (o : ListOptions) (n : ℕ) (rows : List (List ℤ)) (fs : List Terms) (most : ℕ) : Type 0 where
   pub region : Region
   pub is_region : IsRegionOf n rows region
@@ -95,38 +97,39 @@ pub record IsPastWithin (o : ListOptions) (n : ℕ) (rows : List (List ℤ)) (fs
 
 -- ---- from a marked Gröbner basis, whose marking may be that of a weight outside the region
 
--- the set is a Gröbner basis for its marking, and this is the text of the list in the region
+-- the set is a Gröbner basis for its marking, and the text is that of the list of its ideal in the region
 pub record IsTextFromBasisWithin (o : ListOptions) (rows : List (List ℤ)) (ring : List (List ℕ)) (s : MarkedPolynomials) (text : List ℕ) : Type 0 where
   pub basis : IsMarkedGroebnerBasis s.variables s.items
   pub within : IsTextWithin o rows ring (polys s.items) text
 
--- the same with all that is written of it where nothing stops it
+-- the set is a Gröbner basis for its marking, and the text is all that is written of this list if nothing stops it
 pub record IsFullFromBasisWithin (o : ListOptions) (rows : List (List ℤ)) (ring : List (List ℕ)) (s : MarkedPolynomials) (text : List ℕ) : Type 0 where
   pub basis : IsMarkedGroebnerBasis s.variables s.items
   pub within : IsFullWithin o rows ring (polys s.items) text
 
--- and with what stands of it where it is refused so
+-- the set is a Gröbner basis for its marking, and the text may have been written of this list when it is refused with r
 pub record IsBegunFromBasisWithin (o : ListOptions) (rows : List (List ℤ)) (ring : List (List ℕ)) (s : MarkedPolynomials) (text : List ℕ) (r : Refusal) : Type 0 where
   pub basis : IsMarkedGroebnerBasis s.variables s.items
   pub within : IsBegunWithin o rows ring (polys s.items) text r
 
--- the set isn't taken as a basis, or not reduced; or the reduced basis's polynomials have no basis by the root of the region and then lex
+-- the set is refused as a basis, or its reduction is refused; or the basis for the root of the region, ties broken by lex, of the
+-- polynomials of the reduced basis is refused
 pub data IsGivenRegionRootRefusal (k : Region) (s : MarkedPolynomials) (pairs : ℕ) (r : Refusal) : Type 0 where
   at_basis : IsReducingRefusal s r → IsGivenRegionRootRefusal k s pairs r
   at_root : (u : MarkedPolynomials) → IsMarkedGroebnerBasis s.variables s.items → IsReducedFrom s u → IsRegionRootRefusal s.variables k (polys u.items) pairs r → IsGivenRegionRootRefusal k s pairs r
 
--- there is no region, or the root in it is refused so
+-- there is no region; or there is one, and the root in it is refused
 pub data IsGivenStartRefusal (n : ℕ) (rows : List (List ℤ)) (s : MarkedPolynomials) (pairs : ℕ) (r : Refusal) : Type 0 where
   at_region : IsNoRegion n rows r → IsGivenStartRefusal n rows s pairs r
   at_root : (k : Region) → IsRegionOf n rows k → IsGivenRegionRootRefusal k s pairs r → IsGivenStartRefusal n rows s pairs r
 
--- so it is; or the set is a basis, and the list in the region is refused from the root on
+-- there is no region, or the root is refused; or the set is a basis, and the list in the region is refused from the root on
 pub data IsGivenCauseWithin (o : ListOptions) (n : ℕ) (rows : List (List ℤ)) (s : MarkedPolynomials) (r : Refusal) : Type 0 where
   at_start : IsGivenStartRefusal n rows s o.pairs r → IsGivenCauseWithin o n rows s r
   going : (k : Region) → IsRegionOf n rows k → IsMarkedGroebnerBasis s.variables s.items → IsGoingCauseIn o n k (polys s.items) r → IsGivenCauseWithin o n rows s r
 
--- the set, in its variables as any that is read, is a basis, and no operation leaves its limits: of the region, of the checks, of reducing
--- the set, on the way to the first basis, or from it on; and the list isn't longer than its limit
+-- the members of the set are in its variables, and the set is a basis. No operation leaves its limits, of the region, of the checks, of the
+-- reduction of the set, on the way to the first basis, or from it on. The list isn't longer than its limit
 pub record IsGivenWithinRegion (o : ListOptions) (n : ℕ) (rows : List (List ℤ)) (s : MarkedPolynomials) : Type 0 where
   pub variables : HaveVariables s.variables s.items
   pub same : s.variables ≡ n
@@ -137,7 +140,7 @@ pub record IsGivenWithinRegion (o : ListOptions) (n : ℕ) (rows : List (List �
   pub root : (k : Region) (u : MarkedPolynomials) → IsRegionOf n rows k → IsReducedFrom s u → AreRunsWithinLimits (MonomialOrder.weighted (gains k.root)) (polys u.items) o.pairs
   pub going : (k : Region) → IsRegionOf n rows k → IsGoingWithin o n k (polys s.items)
 
--- the set is a basis, the list in the region goes on past its limit, and no operation before that leaves its limits
+-- the set is a basis, the list in the region continues after its limit, and no operation before that leaves its limits
 pub record IsGivenPastWithin (o : ListOptions) (n : ℕ) (rows : List (List ℤ)) (s : MarkedPolynomials) (most : ℕ) : Type 0 where
   pub region : Region
   pub is_region : IsRegionOf n rows region
@@ -150,7 +153,7 @@ pub record IsGivenPastWithin (o : ListOptions) (n : ℕ) (rows : List (List ℤ)
 
 -- ---- the commands
 
--- the command `_bases --within` on the file of this name, whose list begins at the basis by the root of the region of what is read
+-- the command `_bases --within` on the file with this name, whose list starts at the basis for the root of the region of what is read
 abbrev pub bases_within_command : List ℕ → ListOptions → Command
 bases_within_command name o = record {
   Value = List (List ℤ) × (List (List ℕ) × (List Written × Option (List ℤ)));
@@ -163,7 +166,7 @@ bases_within_command name o = record {
   writing = Writing.as_it_goes (λ v text. IsFullWithin o v.0 v.1.0 (generators_of v.1.1.0) text) (λ v text r. IsBegunWithin o v.0 v.1.0 (generators_of v.1.1.0) text r);
 }
 
--- the command `_bases -g --within`
+-- the command `_bases -g --within` on the file with this name
 abbrev pub given_within_command : List ℕ → ListOptions → Command
 given_within_command name o = record {
   Value = List (List ℤ) × (List (List ℕ) × MarkedPolynomials);
@@ -176,21 +179,21 @@ given_within_command name o = record {
   writing = Writing.as_it_goes (λ v text. IsFullFromBasisWithin o v.0 v.1.0 v.1.1 text) (λ v text r. IsBegunFromBasisWithin o v.0 v.1.0 v.1.1 text r);
 }
 
--- ---- an entry of the root that is too great
+-- ---- roots with an entry that is too great
 
--- an operation of finding the region and its root leaves its limits, or memory is wanting
+-- an operation of finding the region and its root leaves its limits, or memory runs out
 abbrev pub IsUnfinished : RegionError → Type 0
 IsUnfinished (region_errors.Cone o) = Unit {0}
 IsUnfinished (region_errors.Wide w) = Unit {0}
 IsUnfinished region_errors.Memory = Unit {0}
 IsUnfinished _ = ⊥
 
--- it is told; or finding the region doesn't come so far
+-- r is the refusal wide; or finding the region stops before it
 abbrev pub IsToldUnlessUnfinished : ℕ → List (List ℤ) → Refusal → Refusal → Type 0
 IsToldUnlessUnfinished n rows wide r = (r ≡ wide) ⊎ (((e : RegionError) × IsRegionRefusal n rows e × IsUnfinished e × (r ≡ of_region e)) ⊎ (r ≡ refusals.Memory))
 
--- where vectors, each with an entry for each variable, cut out a region and an entry of its root is too great, nothing is answered, and the
--- first such entry is told
+-- if vectors, each with an entry for each variable, cut out a region with an entry of its root that is too great, there is no output, and
+-- the refusal has the first such entry, unless finding the region stops before it
 pub record WideRootsAreTold : Type 0 where
   pub generators : (name : List ℕ) (o : ListOptions) (v : List (List ℤ) × (List (List ℕ) × (List Written × Option (List ℤ)))) (index : ℕ) (value : ℤ) → AreRows (length v.1.0) v.0 →
       IsRegionRefusal (length v.1.0) v.0 (region_errors.WideRoot index value) →

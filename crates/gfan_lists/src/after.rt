@@ -1,4 +1,4 @@
-//! What `_bases --after` writes for the basis of a file and an input, basis by basis: the bases that follow it in the list.
+//! The output of `_bases --after` for the basis of a file and an input, basis by basis: the bases that follow it in the list.
 ghost use Rattle.std.specs.Prelude.{◌≡◌, ◌⊎◌, ◌≤◌, ◌∷◌, ◌++◌, [], true, false, ℕ, ℤ, List, None, Some, length, IfOk, IfErr, OnOk, IfSome, IsNone, All, is_some};
 ghost use Rattle.std.specs.Option.{option_copied};
 ghost use Rattle.gf_poly.specs.Polynomial.{Terms, HasVariables};
@@ -46,7 +46,7 @@ use std::thread::Threads;
 
 // ---- the ring
 
-/// The first place where two lists of names differ, or where one of them ends and the other goes on.
+/// The first index at which two lists of names differ, or at which one of them ends and the other continues.
 fn first_difference(found: &Ring, ring: &Ring) -> Option<u32>
     ensures some { IfSome result (IsFirstDifference found.now ring.now) }
     ensures none { IsNone result → found.now ≡ ring.now }
@@ -64,7 +64,7 @@ fn first_difference(found: &Ring, ring: &Ring) -> Option<u32>
     }
 }
 
-/// Refuses a ring with other names.
+/// Checks that two rings have the same names.
 fn check_ring(found: &Ring, ring: &Ring) -> Result<(), Refusal>
     ensures ok { OnOk result (found.now ≡ ring.now) }
     ensures err { IfErr result (IsOtherRing found.now ring.now) }
@@ -77,7 +77,7 @@ fn check_ring(found: &Ring, ring: &Ring) -> Result<(), Refusal>
 
 // ---- the basis
 
-/// The set as the reduced basis of its ideal that some weight of the region gives. Its members are counted in 32 bits.
+/// The set as the reduced basis of its ideal that some weight of the region gives. It has fewer than `2^32` members.
 fn taken_in(alloc: Global, marked: &MarkedSet, region: &Region) -> Result<MarkedSet, Refusal>
     requires { length region.now.root ≡ marked.now.variables }
     ensures ok { IfOk result (IsBasisTaken region.now marked.now) }
@@ -92,7 +92,7 @@ fn taken_in(alloc: Global, marked: &MarkedSet, region: &Region) -> Result<Marked
     }
 }
 
-/// The first of these polynomials that leaves another remainder than zero by the set, and that.
+/// The first of these polynomials with a nonzero remainder by the set, and this remainder.
 fn first_outside(
     alloc: Global,
     polynomials: &[Poly],
@@ -113,7 +113,7 @@ fn first_outside(
     Ok(None)
 }
 
-/// Refuses polynomials of which one leaves another remainder than zero by the set. They are counted in 32 bits.
+/// Checks that the remainder by the set of each of these polynomials is zero. There are fewer than `2^32`.
 fn check_inside(
     alloc: Global,
     side: u32,
@@ -139,8 +139,8 @@ fn check_inside(
     }
 }
 
-/// Refuses a basis that isn't one of the ideal of the root: a polynomial of the set that was read, which the basis is made of, or a generator
-/// leaves another remainder than zero.
+/// Checks that a basis is one of the ideal of the root: the remainders of the polynomials of the set that was read, from which the basis is
+/// made, and of the generators are zero.
 fn check_listed(
     alloc: Global,
     marked: &MarkedSet,
@@ -162,7 +162,7 @@ fn check_listed(
 
 // ---- the list
 
-/// What follows the basis in the list below the root, by so many workers.
+/// What follows the basis in the list below the root, by this number of workers.
 fn waves_after<'g, G: Gate>(
     alloc: Global,
     basis: MarkedSet,
@@ -186,7 +186,7 @@ fn waves_after<'g, G: Gate>(
     Ok(waves)
 }
 
-/// The region that the vectors cut out, or that of all positive weights.
+/// The region that the vectors cut out, or the one of all positive weights.
 fn region_for(alloc: Global, n: u32, rows: &[IntVec], is_cut: bool) -> Result<Region, Refusal>
     ensures ok { IfOk result (IsRegionCut is_cut n rows.now) }
     ensures err { IfErr result (λ r. ((is_cut ≡ true) × (FirstFails (for_each n rows.now) r ⊎ IsNoRegion n rows.now r)) ⊎ (r ≡ Refusal.Memory)) }
@@ -223,7 +223,7 @@ fn root_of(
     }
 }
 
-/// The same of the ideal of a marked Gröbner basis.
+/// The first basis of the list of the ideal of a marked Gröbner basis, in the region of a file or for all positive weights.
 fn given_root_of(
     alloc: Global,
     set: &MarkedSet,
@@ -243,7 +243,7 @@ fn given_root_of(
     }
 }
 
-/// The bases behind that of the file in the list of the ideal of a set.
+/// The bases that follow the basis of the file in the list of the ideal of a set.
 fn start<'g, G: Gate>(
     alloc: Global,
     ring: &Ring,
@@ -271,7 +271,7 @@ fn start<'g, G: Gate>(
     waves_after(alloc, basis, region, workers, options.pairs, gate)
 }
 
-/// The same of the ideal of a marked Gröbner basis.
+/// The bases that follow the basis of the file in the list of the ideal of a marked Gröbner basis.
 fn given_start<'g, G: Gate>(
     alloc: Global,
     marked: &MarkedSet,
@@ -300,7 +300,7 @@ fn given_start<'g, G: Gate>(
 
 // ---- the job
 
-/// The vectors of the file of a region, and none where no file is named.
+/// The vectors of the file of a region; none if no file is named.
 fn rows_of(alloc: Global, file: Option<&[u8]>) -> Result<Vec<IntVec>, Refused>
     ensures ok { IfOk result (λ rows. IsOfCutFile file.entry rows.items) }
     ensures err { IfErr result (λ e. IsCutFileRefused file.entry e.refusal) }
@@ -315,7 +315,7 @@ fn rows_of(alloc: Global, file: Option<&[u8]>) -> Result<Vec<IntVec>, Refused>
     }
 }
 
-/// The region, where the names of the file's ring are those of the input's.
+/// The region, if the names of the file's ring are those of the input's ring.
 fn region_of(
     alloc: Global,
     found: &Ring,
@@ -332,25 +332,37 @@ fn region_of(
     Ok(region)
 }
 
-/// Writes the ring of the source in a line, and then the marked reduced Gröbner bases of the ideal of its set that follow the basis of a file in
-/// the list that `bases::perform` writes, or where a file of vectors is given `within::perform`. Where none follows, it writes the ring and two
-/// braces. The limit counts the bases that are written here.
+/// Writes the ring of the source in a line, and then the marked reduced Gröbner bases of the ideal of its set that follow the basis of a
+/// file in the list of all of them; if a file of vectors is given, in the list of those in the region that the vectors cut out. The basis
+/// is that of the text `after`, the vectors are those of `file`. If no basis follows, the list is empty. The limit counts the bases that
+/// are written here.
 ///
-/// The basis needn't be monic, nor its polynomials in any order. It is made monic and arranged; then the way up from it to the first basis is
-/// gone, and the list goes on behind it.
+/// The basis of the file need not be monic, and its polynomials may be in any order. It is made monic and arranged. Then the parents from
+/// it up to the first basis are visited, and the list continues after it. The list is computed by this number of workers, and its text is
+/// the same for every number; before each of their jobs the gate is called.
 ///
 /// # Errors
 ///
-/// - `Syntax`, `TooWide`, `UnknownName`, `TooManyVariables` and `ZeroPolynomial` exactly where the file of the vectors, or that of the basis, isn't the
-///   text of a list of vectors, or of a ring and a marked set in it; then where the source isn't that of a ring and a set in it.
-/// - `Dimensions`, `EmptyRegion`, `WideRoot`, `ConeOverflow` and `WideVector` as `within::perform` has them of the region.
-/// - `OtherRing` exactly where the names of the two rings differ, with the first place where they do, or the length of the shorter list.
-/// - `Inconsistent`, `NotReduced` and `NotBasis`, with the set 0, exactly where no weight of the region gives the marking of the basis, where it
-///   isn't reduced, and where it isn't a Gröbner basis for its marking; unless numbers of these checks don't fit.
-/// - `NotListed`, once the first basis is found, exactly where a polynomial of the file leaves another remainder than zero by it (side 0), or a
-///   generator leaves one by the basis of the file (side 1), the first one, unless numbers of the reductions don't fit.
-/// - `Overflow`, `ExponentOverflow`, `ConeOverflow` and `PairBudget` also of these checks, of the reductions, and on the way up from the basis;
-///   `ListLimit` and `WriteFault` as `bases::perform` has them.
+/// - `Syntax`, `TooWide`, `UnknownName`, `TooManyVariables`, `ZeroPolynomial` if and only if the file of the vectors isn't the text of a
+///   list of vectors, or that of the basis isn't the text of a ring and of a marked set in it, or then the source isn't that of a ring and
+///   of a set in it.
+/// - `Dimensions` if and only if a vector hasn't an entry for each variable, `EmptyRegion` if no positive vector is positive on each
+///   vector, with multipliers that show it, and `WideRoot` for the first entry of the root of the region that is greater than `2^63 - 1`;
+///   `ConeOverflow` and `WideVector` if an operation of finding the region leaves its range.
+/// - `OtherRing` if and only if the names of the two rings differ: the first index at which they do, or the length of the shorter list.
+/// - `Inconsistent`, `NotReduced`, `NotBasis`, with the number 0 for the set, if and only if no weight of the region gives the marking of
+///   the basis, or it isn't reduced, or it isn't a Gröbner basis for its marking, unless numbers of these checks don't fit.
+/// - `NotListed`, once the first basis is found, if and only if a polynomial of the file has a nonzero remainder by it (side 0), or a
+///   generator has one by the basis of the file (side 1): the first one, unless numbers of the reductions don't fit.
+/// - `Overflow`, `ExponentOverflow`, `ConeOverflow`: the operands of a sum of the texts don't fit, or those of an operation of these checks
+///   and reductions, of the first basis, of the way up from the basis, or of the search.
+/// - `WideVector` also, with certificates: a sum of the rays of a basis leaves the range.
+/// - `PairBudget`: a run of Buchberger's algorithm, or a flip, has more pairs to settle than the options say.
+/// - `ListLimit`: as many bases as the limit were written, and there is a further one.
+/// - `WriteFault`: a write failed; a prefix of the text of the list, or of its part up to the limit, is written then.
+/// - `Memory`: memory runs out.
+///
+/// With refusals of numbers, and for memory, the output ends after a basis, or nothing is written.
 pub fn perform<R: Threads + Sync, K: Sink, G: Gate>(
     rt: &R,
     alloc: Global,
@@ -392,11 +404,19 @@ pub fn perform<R: Threads + Sync, K: Sink, G: Gate>(
     write_waves(rt, alloc, &ring, waves, &region, options, output)
 }
 
-/// Writes the same of the ideal that the marked set of the source generates, a Gröbner basis for its marking.
+/// Writes the ring of the source in a line, and then the marked reduced Gröbner bases of the ideal that its marked set generates that
+/// follow the basis of a file in the list of all of them; if a file of vectors is given, in the list of those in the region that the
+/// vectors cut out. The basis is that of the text `after`, the vectors are those of `file`. The marked set of the source is a Gröbner basis
+/// for its marking; it need not be reduced. The limit counts the bases that are written here.
 ///
 /// # Errors
 ///
-/// As `perform` has them, and behind the checks of the basis of the file those of `given_basis::perform`, or of `within::perform_given`.
+/// Those of `perform`, and after the checks of the basis of the file:
+///
+/// - `ZeroPolynomial` if all terms of a polynomial of the set of the source cancel: the index of the first one.
+/// - `Inconsistent` if and only if no positive weight gives the marking of the set of the source, with multipliers that show it; `NotBasis`
+///   if and only if some does, and the S-polynomial of two members made monic has a nonzero normal form: the first such pair, with the
+///   normal form; unless numbers of these checks don't fit.
 pub fn perform_given<R: Threads + Sync, K: Sink, G: Gate>(
     rt: &R,
     alloc: Global,

@@ -23,7 +23,7 @@ fn push_facet(text: &mut Vec<u8>, facet: &FacetWitness) -> Result<(), AllocError
     Ok(())
 }
 
-/// Adds facets, each behind a comma and a line end.
+/// Adds facets, each after a comma and a line end.
 fn push_later_facets(text: &mut Vec<u8>, facets: &[FacetWitness]) -> Result<(), AllocError>
     ensures { OnOk result (text.new.items ≡ text.old.items ++ flat_map later_facet_text facets.now) }
 {

@@ -1,4 +1,4 @@
-//! What `_generated` writes: a summary of the bases of the ideal that a number stands for.
+//! The output of `_generated`: a summary of the bases of the ideal with a number.
 ghost use Rattle.std.specs.Prelude.{◌≡◌, ◌⊎◌, ◌-◌, ◌<◌, ◌≤◌, ◌^◌, ◌++◌, [], length, List, IfOk, IfErr, OnOk};
 ghost use Rattle.gf_vec.specs.Vector.{vector_sum};
 ghost use Rattle.gf_vec.specs.Steps.{sum_steps, NoneWide};
@@ -33,22 +33,22 @@ use gfan_common::refused::{Refused, of_weight_error};
 use std::alloc::{AllocError, Global};
 use std::thread::Threads;
 
-/// What is told of the first bases of a list.
+/// A summary of the first bases of a list.
 #[derive(Drop)]
 struct Summary {
-    /// How many they are.
+    /// Their number.
     bases: u64,
     /// The greatest total degree of their polynomials.
     degree: u64,
     /// The sum of their weights.
     weights: IntVec,
-    /// These are all.
+    /// Whether these are all bases.
     complete: bool,
 }
 
 // ---- the list
 
-/// The first basis, by degree and then lex, of the ideal that the number stands for.
+/// The first basis, by deglex, of the ideal with this number.
 fn first_basis(alloc: Global, number: u64, pairs: u64) -> Result<MarkedSet, Refused>
     requires { number < 2147483647 }
     ensures ok { IfOk result (IsFirstBasis 4 (generated_set number)) }
@@ -85,7 +85,7 @@ fn weight_of(alloc: Global, basis: &MarkedSet) -> Result<IntVec, Refusal>
     }
 }
 
-/// The sum of the weights and one more.
+/// The sum of a sum of weights and a weight.
 fn with_weight(weights: &IntVec, weight: &IntVec) -> Result<IntVec, Refusal>
     requires { length weights.now ≡ length weight.now }
     ensures ok { IfOk result (λ v. (v ≡ vector_sum weights.now weight.now) × NoneWide (sum_steps weights.now weight.now)) }
@@ -116,8 +116,8 @@ fn with_basis(alloc: Global, summary: &Summary, basis: &MarkedSet) -> Result<Sum
     })
 }
 
-/// The summary of the first bases of the list that begins at the root, as many as the limit, or of all where there are fewer. At the limit the
-/// list is asked for one more basis, whose weight isn't.
+/// The summary of the first bases of the list that starts at the root, as many as the limit, or of all if there are fewer. If the limit is
+/// reached, one more basis is computed, but not its weight.
 fn summed_up<R: Threads + Sync>(
     rt: &R,
     alloc: Global,
@@ -151,14 +151,14 @@ fn summed_up<R: Threads + Sync>(
 
 // ---- the text
 
-/// The number of a truth value.
+/// 1 for true, and 0 for false.
 fn one_where(truth: bool) -> u128
     ensures { result ≡ one_where truth }
 {
     if truth { 1 } else { 0 }
 }
 
-/// Adds a line: what is told, and the vector.
+/// Adds a line: a label, and the vector.
 fn push_vector(text: &mut Vec<u8>, label: &str, vector: &IntVec) -> Result<(), AllocError>
     ensures { OnOk result (text.new.items ≡ text.old.items ++ vector_line label.now vector.now) }
 {
@@ -180,18 +180,20 @@ fn printed(alloc: Global, summary: &Summary) -> Result<Vec<u8>, AllocError>
     Ok(text)
 }
 
-/// Four lines of the ideal that the number stands for: how many bases are told of, the greatest total degree of their polynomials, the sum of
-/// the weights that are printed of them, and 1 exactly where these are all bases of the ideal. They are the first ones in the order of
-/// `_bases`, as many as the limit, or all where there are fewer. Nothing is read.
+/// Four lines on the ideal with a number: the number of bases that are summed up, the greatest total degree of their polynomials, the sum
+/// of their printed weights, and 1 if these are all bases of the ideal, else 0. The bases are the first ones in the order of `_bases`, as
+/// many as the limit, or all if there are fewer. Nothing is read. `workers` workers list the bases; the output doesn't depend on their
+/// number.
 ///
 /// # Errors
 ///
-/// - `ExponentOverflow` only at an operation that a run of Buchberger's algorithm on the generators by degree and then lex may have, or at one of
-///   a flip at a basis of the ideal across a flippable normal.
-/// - `ConeOverflow` only at a step of the system that tells whether a normal of such a basis is flippable, or of finding the rays of such a
-///   basis's cone, cut with the orthant.
-/// - `WideVector` only at a sum of entries of these rays, or of the weights.
-/// - `PairBudget` only where such a run or flip would have to settle more than `pairs` pairs.
+/// - `ExponentOverflow`: the operands of an operation of a run of Buchberger's algorithm on the generators by deglex, or of a flip at a
+///   basis of the ideal across a flippable normal, don't fit.
+/// - `ConeOverflow`: a step of the system that decides whether a flip may cross a facet of such a basis leaves its range, or one of finding
+///   the rays of the intersection of such a basis's cone with the non-negative orthant.
+/// - `WideVector`: a sum of entries of these rays, or of the weights, leaves the range.
+/// - `PairBudget`: such a run or flip has more than `pairs` pairs to settle.
+/// - `Memory`: memory runs out.
 pub fn answer<R: Threads + Sync>(
     rt: &R,
     alloc: Global,

@@ -1,4 +1,4 @@
-//! What `_bases -g` writes for an input, basis by basis.
+//! The output of `_bases -g` for an input, basis by basis.
 ghost use Rattle.std.specs.Prelude.{◌≤◌, [], ◌∷◌, IfOk, IfErr, OnOk};
 ghost use Rattle.gf_poly.specs.Marking.{HaveVariables, polys};
 ghost use Rattle.gf_reduced.specs.Markings.{IsMarkedGroebnerBasis};
@@ -26,7 +26,7 @@ use gfan_common::refused::{Refused, of_check};
 use std::alloc::Global;
 use std::thread::Threads;
 
-/// The root above a reduced basis, among the bases for all positive weights.
+/// The root of the tree of a reduced basis, among the bases for all positive weights.
 fn root_above(alloc: Global, reduced: MarkedSet, pairs: u64) -> Result<MarkedSet, TreeError>
     requires { IsNodeIn (ideal_of reduced) reduced }
     ensures value { IfOk result (IsRootFor (all_positive reduced.variables) reduced) }
@@ -36,8 +36,8 @@ fn root_above(alloc: Global, reduced: MarkedSet, pairs: u64) -> Result<MarkedSet
     to_root(alloc, reduced, &region, pairs)
 }
 
-/// The reduced basis of the ideal of a marked Gröbner basis, with its marks: the set is checked, and reduced. Its members are counted in
-/// 32 bits.
+/// The reduced basis of the ideal of a marked Gröbner basis, with its marks: the set is checked and reduced. It has fewer than `2^32`
+/// members.
 pub(crate) fn reduced_of(alloc: Global, marked: &MarkedSet) -> Result<MarkedSet, Refusal>
     ensures variables { IfOk result (λ _. HaveVariables marked.now.variables marked.now.items) }
     ensures basis { IfOk result (λ _. IsMarkedGroebnerBasis marked.now.variables marked.now.items) }
@@ -58,7 +58,8 @@ pub(crate) fn reduced_of(alloc: Global, marked: &MarkedSet) -> Result<MarkedSet,
     }
 }
 
-/// The basis, by degree and then lex, of the ideal of a marked Gröbner basis: the set is checked, reduced, and taken up to the root.
+/// The basis, by deglex, of the ideal of a marked Gröbner basis: the set is checked and reduced, and its parents are visited up to the
+/// root.
 pub(crate) fn root_of(alloc: Global, marked: &MarkedSet, pairs: u64) -> Result<MarkedSet, Refusal>
     ensures basis { IfOk result (λ _. IsMarkedGroebnerBasis marked.now.variables marked.now.items) }
     ensures root { IfOk result (λ root. StartsAt marked.now.variables (polys marked.now.items) root) }
@@ -71,20 +72,29 @@ pub(crate) fn root_of(alloc: Global, marked: &MarkedSet, pairs: u64) -> Result<M
     }
 }
 
-/// Writes the ring of the source in a line, and then all marked reduced Gröbner bases of the ideal that its marked set generates, as
-/// `bases::perform` does for a set of generators. The marked set is a Gröbner basis for its marking; it needn't be reduced.
+/// Writes the ring of the source in a line, and then all marked reduced Gröbner bases of the ideal that its marked set generates, each as
+/// soon as it is found, in the order of their paths from the basis by deglex. With certificates each basis is followed by its printed
+/// weight and by the facets that a flip may cross, each with its printed witness. The marked set is a Gröbner basis for its marking; it
+/// need not be reduced. The list is computed by this number of workers, and its text is the same for every number; before each of their
+/// jobs the gate is called.
 ///
 /// # Errors
 ///
-/// - `Syntax`, `TooWide`, `UnknownName` and `TooManyVariables` exactly where the source isn't the text of a ring and of a set
-///   in it, at the first token after which no such text goes on; nothing is written then.
-/// - `ZeroPolynomial` where nothing remains of a polynomial of the set, with the index of the first one.
-/// - `Inconsistent` exactly where no positive weight gives the marking, with multipliers that show it.
-/// - `NotBasis` exactly where one does, and the S-polynomial of two members made monic has another normal form than zero: the first
-///   such pair, with that normal form.
-/// - `Overflow`, `ExponentOverflow`, `ConeOverflow` only at an operation of the checks, of reducing the set, or of the search or the
-///   certificates at a basis of the ideal, whose operands don't fit.
-/// - `WideVector`, `PairBudget`, `ListLimit` and `WriteFault` as `bases::perform` has them.
+/// - `Syntax`, `TooWide`, `UnknownName`, `TooManyVariables` if and only if the source isn't the text of a ring and of a set in it: at the
+///   first token after which no such text continues; nothing is written then.
+/// - `ZeroPolynomial` if all terms of a polynomial of the set cancel: the index of the first one.
+/// - `Inconsistent` if and only if no positive weight gives the marking, with multipliers that show it.
+/// - `NotBasis` if and only if some positive weight does, and the S-polynomial of two members made monic has a nonzero normal form: the
+///   first such pair, with the normal form.
+/// - `Overflow`, `ExponentOverflow`, `ConeOverflow`: the operands of a sum of the text don't fit, or those of an operation of the checks,
+///   of the reduction of the set, or of the search or the certificates at a basis of the ideal.
+/// - `WideVector`, with certificates: a sum of the rays of a basis leaves the range.
+/// - `PairBudget`: a flip has more pairs to settle than the options say.
+/// - `ListLimit`: as many bases as the limit were written, and there is a further one.
+/// - `WriteFault`: a write failed; a prefix of the text of the list, or of its part up to the limit, is written then.
+/// - `Memory`: memory runs out.
+///
+/// With refusals of numbers, and for memory, the output ends after a basis, or nothing is written.
 pub fn perform<R: Threads + Sync, K: Sink, G: Gate>(
     rt: &R,
     alloc: Global,

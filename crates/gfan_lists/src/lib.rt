@@ -1,6 +1,7 @@
-//! The commands that go through the bases of an ideal: `_bases` with its options, which writes them as they are found, and `_generated`, which sums them up.
+//! The commands that enumerate the bases of an ideal: `_bases` with its options, which writes them as they are found, and `_generated`,
+//! which sums them up.
 //!
-//! What each writes, and why it doesn't, is said in `specs/`.
+//! `specs/` has the output of each command, and why it is refused.
 #![tactic(auto)]
 
 pub mod after;

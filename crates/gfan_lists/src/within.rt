@@ -1,4 +1,4 @@
-//! What `_bases --within` writes for the vectors of a file and an input, basis by basis: the bases that a weight of a region gives.
+//! The output of `_bases --within` for the vectors of a file and an input, basis by basis: the bases that a weight of a region gives.
 ghost use Rattle.std.specs.Prelude.{◌≡◌, ◌⊎◌, ◌≤◌, ◌∷◌, [], ℕ, List, length, IfOk, IfErr, OnOk};
 ghost use Rattle.gf_poly.specs.Marking.{polys};
 ghost use Rattle.gf_gordan.specs.Alternative.{AreRows};
@@ -35,7 +35,7 @@ use std::thread::Threads;
 
 // ---- the region
 
-/// Why vectors cut out no region, as a refusal of the run.
+/// The refusal of a region, as one of the run.
 fn of_region(error: RegionError) -> Refusal
     ensures { result ≡ of_region error }
 {
@@ -56,7 +56,7 @@ fn of_region(error: RegionError) -> Refusal
     }
 }
 
-/// The region that vectors cut out of the positive ones in `n` variables. Each has an entry for each variable.
+/// The region that vectors, each with an entry for each variable, cut out of the positive ones in `n` variables.
 fn region_for(alloc: Global, n: u32, rows: &[IntVec]) -> Result<Region, Refusal>
     requires { AreRows n rows.now }
     ensures ok { IfOk result (IsRegionOf n rows.now) }
@@ -68,7 +68,7 @@ fn region_for(alloc: Global, n: u32, rows: &[IntVec]) -> Result<Region, Refusal>
     }
 }
 
-/// The same of vectors of any lengths.
+/// The region that vectors cut out of the positive ones in `n` variables; each is checked to have an entry for each variable.
 pub(crate) fn region_by(alloc: Global, n: u32, rows: &[IntVec]) -> Result<Region, Refusal>
     ensures form { IfOk result (λ _. AreRows n rows.now) }
     ensures ok { IfOk result (IsRegionOf n rows.now) }
@@ -80,7 +80,7 @@ pub(crate) fn region_by(alloc: Global, n: u32, rows: &[IntVec]) -> Result<Region
 
 // ---- the first basis
 
-/// The basis of the set's ideal by the root of the region and then lex, at which the list begins.
+/// The basis of the set's ideal for the root of the region, ties broken by lex, at which the list starts.
 pub(crate) fn root_of(
     alloc: Global,
     ring: &Ring,
@@ -101,8 +101,8 @@ pub(crate) fn root_of(
     }
 }
 
-/// The basis of the ideal of a marked Gröbner basis by the root of the region and then lex: the set is checked and reduced, and that basis
-/// is worked out of the reduced one, which needn't be in the region. Its members are counted in 32 bits.
+/// The basis of the ideal of a marked Gröbner basis for the root of the region, ties broken by lex: the set is checked and reduced, and
+/// that basis is computed from the reduced one, which need not be in the region. The set has fewer than `2^32` members.
 pub(crate) fn given_root_of(
     alloc: Global,
     marked: &MarkedSet,
@@ -124,25 +124,36 @@ pub(crate) fn given_root_of(
 
 // ---- the job
 
-/// Writes the ring of the source in a line, and then all marked reduced Gröbner bases of the ideal of its set that a weight of a region gives, as
-/// `bases::perform` does for all positive weights. The region has the positive vectors on which each vector of the file is positive.
+/// Writes the ring of the source in a line, and then all marked reduced Gröbner bases of the ideal of its set that some weight of a region
+/// gives, each as soon as it is found. The region consists of the positive vectors on which each vector of the file is positive. With
+/// certificates each basis is followed by its printed weight in the region and by the facets that a flip may cross there, each with its
+/// printed witness. The list is computed by this number of workers, and its text is the same for every number; before each of their jobs
+/// the gate is called.
 ///
-/// Its root is the sum of the primitive vectors along the extreme rays of its closure. The list begins at the basis by this root and
-/// then lex; the way up from a basis is across the least of its normals that a flip may cross in the region and that are negative at the root.
+/// The root of the region is the sum of the primitive vectors along the extreme rays of its closure. The list starts at the basis for this
+/// root, ties broken by lex. The parent of a basis is across the facet with the least normal of those that a flip may cross in the region
+/// and that are negative at the root; the bases are in the order of their paths.
 ///
 /// # Errors
 ///
-/// - `Syntax` and `TooWide` exactly where the file isn't the text of a list of vectors; then those two, `UnknownName` and `TooManyVariables`
-///   exactly where the source isn't the text of a ring and of a set in it; at the first token after which no such text goes on.
-/// - `Dimensions` exactly where a vector of the file hasn't an entry for each variable, of the first such.
-/// - `EmptyRegion` exactly where no positive vector is positive on each of them, with multipliers of these and then of the unit vectors
+/// - `Syntax`, `TooWide` if and only if the file isn't the text of a list of vectors; then these, `UnknownName` and `TooManyVariables` if
+///   and only if the source isn't the text of a ring and of a set in it: at the first token after which no such text continues.
+/// - `Dimensions` if and only if a vector of the file hasn't an entry for each variable: the first such vector.
+/// - `EmptyRegion` if and only if no positive vector is positive on each vector, with multipliers of these and then of the unit vectors
 ///   that show it, unless an operation of their system leaves the range.
-/// - `WideRoot` exactly where an entry of the root is greater than `2^63 - 1`, of the first such, unless an operation before it leaves the range.
-/// - `Overflow`, `ExponentOverflow` and `PairBudget` as `bases::perform` has them, with the root's order in place of that by degree, and flips
-///   inside the region.
-/// - `ConeOverflow` also at a step of the system of the vectors and the unit vectors, or of finding the rays of their cone; `WideVector`
-///   also at a sum of entries of these rays. Certificates are those in the region.
-/// - `ListLimit` and `WriteFault` as `bases::perform` has them.
+/// - `WideRoot` if and only if an entry of the root is greater than `2^63 - 1`: the first such entry, unless an operation before it leaves
+///   the range.
+/// - `Overflow`, `ExponentOverflow`: the operands of a sum of the texts, of an operation of a run of Buchberger's algorithm on the set by
+///   the root's order, or of a flip inside the region at a basis of the ideal don't fit.
+/// - `ConeOverflow`: a step of the system of the vectors and the unit vectors, or of finding the rays of their cone, leaves its range; or
+///   one of the system that decides whether a flip may cross a facet, or with certificates one of finding the rays of a basis.
+/// - `WideVector`: a sum of entries of the rays of the region, or with certificates of those of a basis, leaves the range.
+/// - `PairBudget`: such a run or flip has more pairs to settle than the options say.
+/// - `ListLimit`: as many bases as the limit were written, and there is a further one.
+/// - `WriteFault`: a write failed; a prefix of the text of the list, or of its part up to the limit, is written then.
+/// - `Memory`: memory runs out.
+///
+/// With refusals of numbers, and for memory, the output ends after a basis, or nothing is written.
 pub fn perform<R: Threads + Sync, K: Sink, G: Gate>(
     rt: &R,
     alloc: Global,
@@ -191,13 +202,18 @@ fn given_start(
     Ok((region, root))
 }
 
-/// Writes the same of the ideal that the marked set of the source generates. The set is a Gröbner basis for its marking; it needn't be
-/// reduced, and its marking may be that of a weight outside the region.
+/// Writes the ring of the source in a line, and then all marked reduced Gröbner bases of the ideal that its marked set generates and that
+/// some weight of a region gives. The region consists of the positive vectors on which each vector of the file is positive. The set is a
+/// Gröbner basis for its marking; it need not be reduced, and a weight outside the region may give its marking.
 ///
 /// # Errors
 ///
-/// As `perform` has them; `ZeroPolynomial` where nothing remains of a polynomial of the set; and behind the region's `Inconsistent` and
-/// `NotBasis` as `given_basis::perform` has them.
+/// Those of `perform`, and:
+///
+/// - `ZeroPolynomial` if all terms of a polynomial of the set cancel: the index of the first one.
+/// - After the region, `Inconsistent` if and only if no positive weight gives the marking, with multipliers that show it; `NotBasis` if and
+///   only if some does, and the S-polynomial of two members made monic has a nonzero normal form: the first such pair, with the normal
+///   form; unless numbers of these checks don't fit.
 pub fn perform_given<R: Threads + Sync, K: Sink, G: Gate>(
     rt: &R,
     alloc: Global,
