@@ -1,4 +1,4 @@
--- An ideal has exactly one list of all bases, and `_bases` writes exactly one text for a source.
+-- An ideal has exactly one list of all bases, and `_bases` writes at most one text for a source.
 -- Laws: OneListLaws of gfan_lists, proofs/OneTextLaws.antt.
 use Rattle.std.specs.Prelude.{◌≡◌, ℕ, Bool, List, [], ◌∷◌}
 use Rattle.gf_poly.specs.Polynomial.{Terms}

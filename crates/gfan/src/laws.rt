@@ -28,7 +28,7 @@ pub fn lists_exist()
     ensures { ListsExist }
 {}
 
-/// The ideal of a set has exactly one list of all bases in the order of their paths, so that `_bases` writes exactly one text for a ring
+/// The ideal of a set has at most one list of all bases in the order of their paths, so that `_bases` writes at most one text for a ring
 /// and a set.
 pub fn lists_are_one()
     ensures { ListsAreOne }
@@ -54,7 +54,7 @@ pub fn regions_are_served()
     ensures { RegionsAreServed }
 {}
 
-/// The ideal of a set has exactly one list of its bases in a region, in the order of their paths. Two runs of `_bases --within` that write
+/// The ideal of a set has at most one list of its bases in a region, in the order of their paths. Two runs of `_bases --within` that write
 /// the whole list for one file and one source, both with certificates or both without, have written the same bytes, for any numbers of
 /// workers.
 pub fn regions_have_one_text()

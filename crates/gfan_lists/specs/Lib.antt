@@ -8,4 +8,4 @@ pub mod After  -- `_bases --after`
 pub mod BasesWriting  -- the writing of the list of `_bases`
 pub mod Generated  -- the output of `_generated`
 pub mod Summaries  -- the summary of a list by `_generated`
-pub mod OneSummary  -- `_generated` writes exactly one text for a number and a limit
+pub mod OneSummary  -- `_generated` writes at most one text for a number and a limit

@@ -1,4 +1,4 @@
--- `_generated` writes exactly one text for a number and a limit.
+-- `_generated` writes at most one text for a number and a limit.
 -- Law: proofs/SummaryLaws.antt.
 use Rattle.std.specs.Prelude.{◌≡◌, ℕ, List, []}
 use Rattle.gf_frame.specs.Commands.{IsAnswered}
