@@ -5,7 +5,7 @@ use Rattle.gf_poly.specs.Marking.{MarkedPolynomial, MarkedPolynomials}
 use Rattle.gf_small.specs.declared.counts.Counts.{Counts}
 use Rattle.gf_small.specs.Degrees.{greatest, total_degree}
 
--- the least of these numbers; 0 where there are none
+-- the least of these numbers; 0 if there are none
 abbrev pub least : List ℕ → ℕ
 least [] = 0
 least (k ∷ []) = k

@@ -3,7 +3,7 @@ use Rattle.std.specs.Prelude.{ℕ, List, [], ◌∷◌, max}
 use Rattle.gf_exponents.specs.Exponents.{degree}
 use Rattle.gf_poly.specs.Polynomial.{Terms}
 
--- the greatest of these numbers; 0 where there are none
+-- the greatest of these numbers; 0 if there are none
 abbrev pub greatest : List ℕ → ℕ
 greatest [] = 0
 greatest (k ∷ ks) = max k (greatest ks)

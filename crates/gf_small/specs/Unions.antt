@@ -1,4 +1,4 @@
--- The union of sets of polynomials: each polynomial once, where it is first seen.
+-- The union of sets of polynomials: each polynomial once, at its first occurrence.
 -- Laws: proofs/UnionsLaws.antt.
 use Rattle.std.specs.Prelude.{◌≡◌, ℕ, All, Any, List, [], ◌∷◌, ◌++◌, flat_map}
 use Rattle.gf_poly.specs.Polynomial.{Terms, SamePolynomial}

@@ -5,7 +5,7 @@ ghost use Rattle.gf_small.specs.Degrees.{total_degree as degree_of};
 
 use gf_poly::Term;
 
-/// The total degree of a polynomial, which is that of its deglex greatest term; 0 where there is none.
+/// The total degree of a polynomial, which is the degree of its deglex greatest term; 0 if it has none.
 pub(crate) fn total_degree(terms: &[Term]) -> u64
     requires { IsDescending terms.now }
     ensures { result ≡ degree_of terms.now }
