@@ -96,9 +96,10 @@ fn offending_of(items: &[Marked], i: usize) -> Option<Mono>
     None
 }
 
-/// The first member with a monomial that offends, and of it the first such monomial, the marked one first.
+/// The first member with a monomial that offends, and its first such monomial, the marked one first.
 ///
-/// A monomial offends where the mark of another member divides it, and an unmarked one also where that of its own does.
+/// A monomial offends if it is divisible by the mark of another member; an unmarked one also if it is divisible by the mark of its own
+/// member.
 pub(crate) fn first_offending(items: &[Marked]) -> Option<OffendingTerm>
     requires { MembersShareVariables items.now }
     ensures some { IfSome result (λ o. IsFirstOffending items.now o.polynomial o.term) }
