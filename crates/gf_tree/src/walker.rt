@@ -128,9 +128,9 @@ impl Walker {
         self.step()
     }
 
-    /// A walker that goes on with the list of all bases of the ideal after this one. It goes up to the root in order to count the steps.
-    /// The set is the marked reduced Gröbner basis, for some weight of the region, of the ideal that it generates; each flip may settle
-    /// `pairs` pairs.
+    /// A walker that continues the list of all bases of the ideal after this one. It goes up to the root in order to count the steps. The
+    /// set is the marked reduced Gröbner basis, for some weight of the region, of the ideal that it generates; each flip may settle `pairs`
+    /// pairs.
     ///
     /// # Errors
     ///
