@@ -58,7 +58,7 @@ IsRefusedAtFace bs c pairs (Entry i x) f = IsVectorRefusal c.ambient bs (vector_
 IsRefusedAtFace bs c pairs (Saturation r) f = IsVectorRefusal c.ambient bs (vector_of c f) pairs (Saturation r)
 IsRefusedAtFace bs c pairs Memory f = Unit {0}
 
--- a refusal at one of these faces, where all faces before it pass; or memory runs out
+-- a refusal at one of these faces, and all faces before it pass; or memory runs out
 pub data IsFaceRefusal (bs : List MarkedPolynomial) (c : RowsAndRays) (faces : List Face) (pairs : ℕ) (e : InitialError) : Type 0 where
   at_face : (f : Face) → IsReached (PassesAt bs c) faces f → IsRefusedAtFace bs c pairs e f → IsFaceRefusal bs c faces pairs e
   no_memory : e ≡ Memory → IsFaceRefusal bs c faces pairs e
