@@ -14,7 +14,7 @@ use std::env;
 use std::io::ErrorKind;
 use std::process::ExitCode;
 
-/// The words after the program's name. Words that are no text are Usage.
+/// The arguments after the program's name. Arguments that are not text are a refusal of usage.
 fn given(rt: &HostRuntime) -> Result<Vec<String>, WordsError> {
     let args = match env::args(rt) {
         Ok(args) => args,
@@ -28,7 +28,7 @@ fn given(rt: &HostRuntime) -> Result<Vec<String>, WordsError> {
     Ok(args.skip(1).collect::<Vec<String>>(rt.alloc())?)
 }
 
-/// The code of a process that ends so.
+/// The exit code of a status.
 fn exit_code(status: &Status) -> ExitCode
     ensures { exit_status result ≡ code_of status.now }
 {
