@@ -8,6 +8,7 @@ ghost use Rattle.gf_poly.specs.Polynomial.{HasVariables};
 use gf_cone::*;
 use gf_frac::Frac;
 use gf_gordan::GordanError;
+use gf_known_cone::{KnownCone, Way, interior_near};
 use gf_poly::{Marked, MarkedSet, Mono, Poly, PolyError, Term};
 use gf_vec::IntVec;
 use std::alloc::Global;

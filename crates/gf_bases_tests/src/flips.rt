@@ -6,8 +6,9 @@ ghost use Rattle.gf_buchberger.specs.Jobs.{HaveRingVariables};
 ghost use Rattle.gf_flip.specs.Reached.{IsReachedByFlips};
 
 use gf_buchberger::basis;
-use gf_cone::{Cone, KnownCone};
+use gf_cone::Cone;
 use gf_flip::flip;
+use gf_known_cone::KnownCone;
 use gf_order::Order;
 use gf_poly::{Marked, MarkedSet, Poly, PolyError};
 use gf_samples::{lists_members, polys};

@@ -3,7 +3,8 @@ ghost use Rattle.std.specs.Prelude.{◌≡◌, ◌<◌, ℕ, length, IfOk, IfErr
 ghost use Rattle.gf_tree.specs.Refusals.{IsRefusedAtBasis};
 ghost use Rattle.gf_basis_places.specs.Crossable.{AreCrossable, IsWithPlace, IsRefusedAtPlace};
 
-use gf_cone::{Cone, KnownCone, Region};
+use gf_cone::{Cone, Region};
+use gf_known_cone::KnownCone;
 use gf_poly::MarkedSet;
 use gf_tree::TreeError;
 use gf_vec::IntVec;

@@ -1,6 +1,7 @@
--- Which normals a flip may cross, shown or refuted without the system; the least of those that lead up.
--- To cite: IsSeen, seen_next, solution_of_shown, beside_positive, solution_of_parts, interior_of_parts, not_crossable_sum, not_crossable_above, sum_at, raised_at, sum_by_entries, step_at, first_steps, decided_flip, decided_crossing.
-use Rattle.std.proofs.Common.{◌≡◌, ◌⊎◌, below_more, ℕ, zero, suc, ◌<◌, List, [], ◌∷◌, ◌++◌, length, get_or, Contains, All, ℤ, pos, ◌+◌, ◌≤◌, ◌+ℤ◌, ◌*ℤ◌, ◌<ℤ◌, ◌≤ℤ◌, arith, refl, sym, ap, ◌∙◌, subst, inl, inr, eqb, true, false, length-append}
+-- Which normals a flip may cross, shown or refuted without the system.
+-- To cite: solution_of_shown, beside_positive, solution_of_parts, interior_of_parts, not_crossable_sum, not_crossable_above, shown_next, sum_at, raised_at,
+-- above_at, sum_by_entries, decided_flip, decided_crossing, negative_told, not_negative_told, small_read, width_read.
+use Rattle.std.proofs.Common.{◌≡◌, ℕ, zero, suc, ◌<◌, List, [], ◌∷◌, ◌++◌, length, get_or, Contains, All, ℤ, pos, ◌+◌, ◌≤◌, ◌+ℤ◌, ◌*ℤ◌, ◌<ℤ◌, ◌≤ℤ◌, arith, refl, sym, ap, ◌∙◌, subst, inl, inr, eqb, true, false, length-append}
 use Rattle.std.proofs.lemmas.Int.{ints}
 use Rattle.std.specs.Prelude.{◌↔◌, Bool, IsTrue, Option, Some, None, Result, Ok, Err, IfOk, IfSome, IsNone}
 use Rattle.std.specs.declared.cmp.Ordering.{Ordering}
@@ -151,8 +152,6 @@ not_crossable_above c i j a u e l h m p s =
     let d : pos 0 <ℤ dot a s.0 = dot_above a s.0 j (ap (λ (t : List ℤ). length t) e ∙ l ∙ sym s.1.width) h (solution_positive c i s.0 u s.1) m p in
     absurd (omega (arith, ints, z, subst (λ (t : List ℤ). pos 0 <ℤ dot t s.0) e d))
 
--- ---- refusals
-
 -- ---- as a program asks
 
 -- one vector more is as asked
@@ -164,42 +163,6 @@ shown_next vectors place k w v l e z p =
       zero = λ q. subst (λ (t : List ℤ). dot t w ≡ pos 0) r (z (eq-eqb k place q));
       positive = λ n. subst (λ (t : List ℤ). pos 0 <ℤ dot t w) r (p (ne_eqb k place n));
     }
-
--- all vectors before k but that at z are seen to be positive, and that is zero; z is before k, or the number of all vectors
-abbrev pub IsSeen : List (List ℤ) → List ℤ → ℕ → ℕ → Type 0
-IsSeen vectors w k z = (z ≡ length vectors ⊎ z < k) × ((j : ℕ) → j < k → IsShownBy vectors z w j)
-
-pub seen_next : (vectors : List (List ℤ)) (w v : List ℤ) (none k : ℕ) (value : ℤ) (old new : Option ℕ) → none ≡ length vectors → k < length vectors → v ≡ get_or vectors k v → value ≡ dot v w →
-    IfSome new (λ z. (old ≡ Some z × pos 0 <ℤ value) ⊎ (old ≡ Some none × z ≡ k × value ≡ pos 0)) → IfSome old (IsSeen vectors w k) → IfSome new (IsSeen vectors w (k + 1))
-seen_next vectors w v none k value old None m l e d h s = h
-seen_next vectors w v none k value old (Some z) m l e d (inl h) s =
-    let t : IsSeen vectors w k z = subst (λ (o : Option ℕ). IfSome o (IsSeen vectors w k)) h.0 s in (
-      later t.0,
-      below_more (IsShownBy vectors z w) k t.1 (record {
-        zero = λ q. absurd (apart_from t.0 q);
-        positive = λ n. subst (λ (x : ℤ). pos 0 <ℤ x) (d ∙ ap (λ (u : List ℤ). dot u w) (e ∙ get_or_default vectors k v [] l)) h.1;
-      }),
-    )
-  where
-    later : z ≡ length vectors ⊎ z < k → z ≡ length vectors ⊎ z < k + 1
-    later (inl q) = inl q
-    later (inr q) = inr (omega (arith, q))
-
-    apart_from : z ≡ length vectors ⊎ z < k → k ≡ z → ⊥
-    apart_from (inl q) r = omega (arith, q, r, l)
-    apart_from (inr q) r = omega (arith, q, r)
-seen_next vectors w v none k value old (Some z) m l e d (inr h) s =
-    let t : IsSeen vectors w k none = subst (λ (o : Option ℕ). IfSome o (IsSeen vectors w k)) h.0 s in (
-      inr (omega (arith, h.1)),
-      below_more (IsShownBy vectors z w) k
-          (λ j i. record {
-            zero = λ q. absurd (omega (arith, i, q, h.1));
-            positive = λ n. (t.1 j i).positive (λ q. omega (arith, q, m, l, i));
-          }) (record {
-            zero = λ q. subst (λ (x : ℤ). x ≡ pos 0) (d ∙ ap (λ (u : List ℤ). dot u w) (e ∙ get_or_default vectors k v [] l)) h.2;
-            positive = λ n. absurd (n (sym h.1));
-          }),
-    )
 
 -- where vectors are kept and the unit vectors stand behind them: two kept ones make the normal
 pub sum_at : (c : ConeRows) (kept behind : List (List ℤ)) (i j k : ℕ) (a b d : List ℤ) → all_rows c ≡ kept ++ behind → AreRows c.variables kept → i < length c.normals → j < length kept → k < length kept →

@@ -22,10 +22,3 @@ pub enum FlipAnswer {
     Yes { witness: IntVec },
     No { times: i128, multipliers: IntVec },
 }
-
-/// The place of a normal, and a positive vector that is zero on it and positive on all other normals.
-#[derive(Drop)]
-pub struct Way {
-    pub place: usize,
-    pub witness: IntVec,
-}

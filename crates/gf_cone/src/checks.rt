@@ -3,7 +3,7 @@ ghost use Rattle.std.specs.Prelude.{◌≡◌, ◌<◌, ◌<ℤ◌, ◌≤ℤ◌
 ghost use Rattle.gf_vec.specs.Vector.{dot, vector_sum};
 ghost use Rattle.gf_gordan.specs.Alternative.{AreRows, IsSolution};
 ghost use Rattle.gf_cone.specs.Small.{IsSmall, IsShort};
-ghost use Rattle.gf_cone.specs.Cones.{all_rows, normal_at, other_rows};
+ghost use Rattle.gf_cone.specs.Cones.{all_rows, normal_at, other_rows, HasInterior};
 ghost use Rattle.gf_facets.specs.Systems.{unit};
 ghost use Rattle.gf_cone.specs.Crossing.{IsShownBy, IsCrossable};
 
@@ -94,7 +94,7 @@ fn all_positive(w: &[i128]) -> bool
 
 /// Whether all rows beside the normals are positive on `w`: the entries of `w` are what the unit vectors give. False where a product
 /// or sum leaves the range.
-pub(crate) fn is_positive_beside(cone: &Cone, w: &[i128]) -> bool
+pub fn is_positive_beside(cone: &Cone, w: &[i128]) -> bool
     requires { length w.now ≡ cone.now.variables }
     ensures { IsTrue result → All (λ t. pos 0 <ℤ dot t w.now) cone.now.beside }
 {
@@ -102,7 +102,7 @@ pub(crate) fn is_positive_beside(cone: &Cone, w: &[i128]) -> bool
 }
 
 /// Whether the normal at a place is zero on `w`, and all other rows are positive. False where a product or sum leaves the range.
-pub(crate) fn shows(cone: &Cone, place: usize, w: &[i128]) -> bool
+pub fn shows(cone: &Cone, place: usize, w: &[i128]) -> bool
     requires place { place < length cone.now.normals }
     requires width { length w.now ≡ cone.now.variables }
     ensures { IsTrue result → IsSolution cone.now.variables (other_rows cone.now place) (normal_at cone.now place ∷ []) w.now }
@@ -111,11 +111,24 @@ pub(crate) fn shows(cone: &Cone, place: usize, w: &[i128]) -> bool
 }
 
 /// Whether all rows are positive on `w`. False where a product or sum leaves the range.
-pub(crate) fn all_positive_on(cone: &Cone, w: &[i128]) -> bool
+fn all_positive_on(cone: &Cone, w: &[i128]) -> bool
     requires { length w.now ≡ cone.now.variables }
     ensures { IsTrue result → IsSolution cone.now.variables (all_rows cone.now) [] w.now }
 {
     is_positive_beside(cone, w) && normals_are_positive(cone.normals(), w, is_short(w))
+}
+
+/// Whether a vector is seen to be in the inside of a cone: all its normals and the unit vectors are positive on it. False
+/// also where a product or sum leaves the range.
+pub fn is_inside(cone: &Cone, v: &IntVec) -> bool
+    ensures solution { IsTrue result → IsSolution cone.now.variables (all_rows cone.now) [] v.now }
+    ensures interior { IsTrue result → HasInterior cone.now }
+{
+    let entries = v.as_slice();
+    if entries.len() != cone.variables() as usize {
+        return false;
+    }
+    all_positive_on(cone, entries)
 }
 
 /// The sum of two numbers of 32 bits.
@@ -174,7 +187,7 @@ fn some_positive(a: &[i128]) -> bool
 }
 
 /// Whether the normal at a place is seen to be a sum of unit vectors.
-pub(crate) fn is_above_zero(cone: &Cone, place: usize) -> bool
+pub fn is_above_zero(cone: &Cone, place: usize) -> bool
     requires { place < length cone.now.normals }
     ensures { IsTrue result → IsCrossable cone.now place → ⊥ }
 {
@@ -219,7 +232,7 @@ fn is_raised_to(cone: &Cone, place: usize, other: usize, at: usize) -> bool
 
 /// Whether the normal at a place is the sum of the vectors at two other places, which aren't both unit vectors. False where one of these has
 /// an entry of more than 32 bits.
-pub(crate) fn is_sum_of(cone: &Cone, place: usize, b: usize, c: usize) -> bool
+pub fn is_sum_of(cone: &Cone, place: usize, b: usize, c: usize) -> bool
     requires { place < length cone.now.normals }
     ensures { IsTrue result → IsCrossable cone.now place → ⊥ }
 {

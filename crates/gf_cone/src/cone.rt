@@ -133,7 +133,7 @@ impl Cone {
     }
 
     /// The normals, and then the rows of the region that the cone was made in.
-    pub(crate) fn kept(&self) -> &[IntVec]
+    pub fn kept(&self) -> &[IntVec]
         ensures value { all_rows self.now ≡ result.now ++ units self.now.variables self.now.variables }
         ensures widths { AreRows self.now.variables result.now }
         ensures front { length self.now.normals ≤ length result.now }
@@ -157,12 +157,12 @@ impl Cone {
     }
 
     /// How many normals and rows beside them there are, the unit vectors among them.
-    pub(crate) fn len(&self) -> usize {
+    pub fn len(&self) -> usize {
         self.vectors.len().saturating_add(self.variables as usize)
     }
 
     /// The rows of the region that the cone was made in.
-    pub(crate) fn rows(&self) -> &[IntVec]
+    pub fn rows(&self) -> &[IntVec]
         ensures value { self.now.beside ≡ result.now ++ units self.now.variables self.now.variables }
         ensures widths { AreRows self.now.variables result.now }
     {
@@ -248,7 +248,7 @@ impl Cone {
     /// # Errors
     /// `Cone` names a step of the system of the other normals and the unit vectors, with this normal as the equation, that
     /// leaves the range; `Memory` may come at any time.
-    pub(crate) fn crossing(&self, place: usize) -> Result<Option<IntVec>, GordanError>
+    pub fn crossing(&self, place: usize) -> Result<Option<IntVec>, GordanError>
         requires { place < length self.now.normals }
         ensures yes { IfOk result (λ o. IfSome o (IsSolution self.now.variables (other_rows self.now place) (normal_at self.now place ∷ []))) }
         ensures no { IfOk result (λ o. IsNone o → IsCrossable self.now place → ⊥) }

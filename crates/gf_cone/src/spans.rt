@@ -10,18 +10,18 @@ use gf_vec::{product, total};
 
 /// So many times the vector at a place: a normal, a row of the region or a unit vector, in this order.
 #[derive(Clone, Copy)]
-pub(crate) struct Share {
-    pub(crate) place: usize,
-    pub(crate) times: i128,
+pub struct Share {
+    pub place: usize,
+    pub times: i128,
 }
 
 /// Three shares, and how many times a normal they are together.
 #[derive(Clone, Copy)]
-pub(crate) struct Span {
-    pub(crate) first: Share,
-    pub(crate) second: Share,
-    pub(crate) third: Share,
-    pub(crate) normal: i128,
+pub struct Span {
+    pub first: Share,
+    pub second: Share,
+    pub third: Share,
+    pub normal: i128,
 }
 
 /// Whether it is a share of another vector than the normal at a place, and not negative.
@@ -118,7 +118,7 @@ fn balances(cone: &Cone, place: usize, span: &Span, i: usize) -> bool
 }
 
 /// Whether three shares, some of which are positive, are seen to be so many times the normal at a place.
-pub(crate) fn is_spanned(cone: &Cone, place: usize, span: &Span) -> bool
+pub fn is_spanned(cone: &Cone, place: usize, span: &Span) -> bool
     requires { place < length cone.now.normals }
     ensures { IsTrue result → IsCrossable cone.now place → ⊥ }
 {

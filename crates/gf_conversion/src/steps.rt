@@ -6,8 +6,9 @@ ghost use Rattle.gf_cone.specs.Cones.{IsConeOf};
 ghost use Rattle.gf_conversion.specs.Steps.{IsSomeBasis, IsLeadTold, IsFacetTold, IsConversionStep};
 
 use crate::signs::is_negative;
-use gf_cone::{Cone, KnownCone};
+use gf_cone::Cone;
 use gf_flip::flip;
+use gf_known_cone::KnownCone;
 use gf_poly::MarkedSet;
 use gf_vec::IntVec;
 use std::alloc::Global;

@@ -12,7 +12,7 @@ use Rattle.gf_facets.specs.Regions.{Region}
 use Rattle.gf_facets.specs.Facets.{IsFlippable}
 use Rattle.gf_cone.specs.Cones.{ConeRows, normal_at, other_rows, IsConeOf}
 use Rattle.gf_cone.specs.Answers.{IsNormalStep}
-use Rattle.gf_cone.specs.Crossing.{IsStepBefore}
+use Rattle.gf_known_cone.specs.Ways.{IsStepBefore}
 use Rattle.gf_flip.specs.Operations.{IsFlipRefusal}
 use Rattle.gf_flip.proofs.RefusalSteps.{flip_refusal_within}
 use Rattle.gf_walk.specs.Path.{Leads}

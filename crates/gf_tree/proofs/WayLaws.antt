@@ -14,12 +14,13 @@ use Rattle.gf_facets.specs.LexPositive.{IsNegative, IsBefore}
 use Rattle.gf_facets.specs.Facets.{IsFlippable}
 use Rattle.gf_facets.proofs.VectorOrder.{before_strict}
 use Rattle.gf_cone.specs.Cones.{ConeRows, normal_at, IsConeOf}
-use Rattle.gf_cone.specs.Crossing.{LeadsUpAt, IsLeastUp, IsCrossingDecided}
+use Rattle.gf_cone.specs.Crossing.{IsCrossingDecided}
 use Rattle.gf_cone.specs.Small.{IsSmall}
 use Rattle.gf_cone.specs.Weights.{IsForSign}
 use Rattle.gf_cone.proofs.AnswerLaws.{crossable_flippable}
 use Rattle.gf_cone.proofs.CrossingLaws.{negative_told, small_read, width_read}
 use Rattle.gf_cone.proofs.SmallLaws.{small_for_sign}
+use Rattle.gf_known_cone.specs.Ways.{LeadsUpAt, IsLeastUp}
 use Rattle.gf_reverse.specs.Upward.{LeadsUp, IsWayUp}
 use Rattle.gf_tree.specs.Places.{IsVectorPlace}
 use Rattle.gf_tree.proofs.LabelLaws.{rises}

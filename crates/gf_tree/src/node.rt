@@ -3,7 +3,8 @@ ghost use Rattle.std.specs.Prelude.{◌≡◌, length, IfOk};
 ghost use Rattle.gf_cone.specs.Cones.{IsConeOf};
 
 use crate::BasisTree;
-use gf_cone::{Cone, KnownCone, Region, SpareVectors};
+use gf_cone::{Cone, Region, SpareVectors};
+use gf_known_cone::KnownCone;
 use gf_poly::MarkedSet;
 use gf_vec::IntVec;
 use std::alloc::{AllocError, Global};

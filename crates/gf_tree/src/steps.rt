@@ -11,8 +11,9 @@ ghost use Rattle.gf_tree.specs.Refusals.{IsTreeRefusal, IsRefusedAtBasis};
 
 use crate::node::{Facet, Neighbour, cone_near, cone_of};
 use crate::{BasisTree, Node, Store, TreeError};
-use gf_cone::{KnownCone, SpareVectors};
+use gf_cone::SpareVectors;
 use gf_flip::{SpareLists, flip_near};
+use gf_known_cone::KnownCone;
 use gf_poly::MarkedSet;
 use gf_vec::IntVec;
 use std::alloc::AllocError;

@@ -1,7 +1,8 @@
 //! Memory that one step of the search leaves for the next ones.
 
-use gf_cone::{KnownCone, SpareVectors};
+use gf_cone::SpareVectors;
 use gf_flip::SpareLists;
+use gf_known_cone::KnownCone;
 use gf_poly::MarkedSet;
 use std::alloc::Global;
 

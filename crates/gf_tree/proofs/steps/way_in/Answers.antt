@@ -1,6 +1,6 @@
 use Rattle.std.proofs.Common.{arith, refl, subst}
 use Rattle.std.proofs.lemmas.Result.{err_from_is_err_and}
-use Rattle.gf_cone.specs.Crossing.{IsWayShown}
+use Rattle.gf_known_cone.specs.Ways.{IsWayShown}
 use Rattle.gf_tree.proofs.RefusalLaws.{cone_refused, cone_at}
 use Rattle.gf_tree.proofs.WayLaws.{way_none, way_read}
 use Rattle.gf_tree.proofs.steps.way_in.Goals as goal

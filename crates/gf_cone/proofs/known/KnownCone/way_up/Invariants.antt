@@ -1,6 +1,0 @@
-use Rattle.std.proofs.Common.{◌≡◌, ◌<◌, ℕ}
-use Rattle.gf_cone.specs.Crossing.{LeadsUpAt}
-use Rattle.gf_cone.proofs.known.KnownCone.way_up.Given as goal
-
-abbrev pub invariant-loop-place : goal.invariant-loop-place
-invariant-loop-place l = record { same : l.self ≡ l.initial.self; none : (j : ℕ) → j < l.place → LeadsUpAt l.region.root l.self j → ⊥ }

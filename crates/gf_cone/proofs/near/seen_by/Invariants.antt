@@ -1,6 +1,0 @@
-use Rattle.std.specs.Prelude.{IfSome}
-use Rattle.gf_cone.proofs.CrossingLaws.{IsSeen}
-use Rattle.gf_cone.proofs.near.seen_by.Given as goal
-
-abbrev pub invariant-loop-k : goal.invariant-loop-k
-invariant-loop-k l = IfSome l.zero (IsSeen l.normals l.near l.k)

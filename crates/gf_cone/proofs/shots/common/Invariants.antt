@@ -1,4 +1,0 @@
-use Rattle.gf_cone.proofs.shots.common.Given as goal
-
-abbrev pub decreases-steps : goal.decreases-steps
-decreases-steps l = l.y

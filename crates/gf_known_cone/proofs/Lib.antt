@@ -1,0 +1,1 @@
+mod NearLaws  -- what a vector shows, normal by normal
