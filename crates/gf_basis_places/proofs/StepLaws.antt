@@ -8,7 +8,7 @@ use Rattle.gf_facets.specs.Rows.{negated}
 use Rattle.gf_facets.specs.Regions.{Region, IsInRegion, all_positive}
 use Rattle.gf_facets.specs.Facets.{IsFlippable, IsInsideFacet}
 use Rattle.gf_facets.proofs.VectorLaws.{negated-twice}
-use Rattle.gf_flip.specs.Crossings.{IsNeighbour}
+use Rattle.gf_lifts.specs.Crossings.{IsNeighbour}
 use Rattle.gf_flip.specs.Operations.{IsFlipRefusal}
 use Rattle.gf_back.specs.Back.{IsCrossed}
 use Rattle.gf_reverse.specs.Upward.{IsNode, IsNodeIn, fan_of}
