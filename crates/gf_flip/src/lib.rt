@@ -4,9 +4,11 @@
 #![tactic(auto)]
 
 mod chosen;
+mod error;
 mod flips;
 mod limits;
 mod queued;
 
+pub use error::TreeError;
 pub use flips::{FlipError, flip, flip_near};
 pub use gf_lines::SpareLists;

@@ -11,7 +11,7 @@ use gf_gordan::GordanError;
 use gf_outside::Sink;
 use gf_reduced::CheckError;
 use gf_text::{Ring, Syntax, TextError};
-use gf_tree::TreeError;
+use gf_flip::TreeError;
 use gf_weights::WeightError;
 use std::alloc::AllocError;
 
