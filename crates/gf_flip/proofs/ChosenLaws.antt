@@ -22,8 +22,7 @@ use Rattle.gf_lines.proofs.LineLaws.{line_marked}
 use Rattle.gf_flip.specs.Chosen.{IsLiftedWhere}
 use Rattle.gf_lifts.specs.LiftTails.{AreCopies}
 use Rattle.gf_lines.specs.Monomials.{monomial_member, with_monomials, chosen, IsAddedWhere}
-use Rattle.gf_lines.specs.Splits.{IsAloneAt}
-use Rattle.gf_lines.specs.Splits.{IsAlone}
+use Rattle.gf_lines.specs.Splits.{IsAloneAt, IsAlone}
 use Rattle.gf_lifts.specs.Tops.{IsQuotientAt}
 use Rattle.gf_lines.proofs.MonomialLaws.{monomial_single, monomial_one, joined_length, front_at, behind_at}
 use Rattle.gf_lifts.proofs.LiftTailLaws.{copies_more}

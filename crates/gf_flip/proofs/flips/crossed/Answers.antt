@@ -1,7 +1,6 @@
 use Rattle.std.proofs.lemmas.Result.{err_from_is_err_and}
-use Rattle.gf_lifts.proofs.CrossingMath.{liftable, ever_lifted}
+use Rattle.gf_lifts.proofs.CrossingMath.{liftable, ever_lifted, realisable_at}
 use Rattle.gf_flip.proofs.RefusalSteps.{lifts_refused}
-use Rattle.gf_lifts.proofs.CrossingMath.{realisable_at}
 use Rattle.gf_flip.proofs.FlipSteps.{if_neighbour, if_variables, if_tails_refused}
 use Rattle.gf_flip.proofs.flips.crossed.Goals as goal
 

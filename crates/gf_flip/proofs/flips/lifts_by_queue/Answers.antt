@@ -6,9 +6,8 @@ use Rattle.gf_lines.specs.Along.{HasNonzero, AreAlong, AreSmall}
 use Rattle.gf_lines.specs.Members.{AreMonic}
 use Rattle.gf_flip.specs.Chosen.{AreAloneWhere}
 use Rattle.gf_flip.proofs.AloneLaws.{alone_where, alone_at}
-use Rattle.gf_lifts.proofs.CrossingMath.{crossing_width, crossing_nonzero, monic_parts}
+use Rattle.gf_lifts.proofs.CrossingMath.{crossing_width, crossing_nonzero, monic_parts, have_at}
 use Rattle.gf_flip.proofs.FlipSteps.{along_at, weight_at}
-use Rattle.gf_lifts.proofs.CrossingMath.{have_at}
 use Rattle.gf_flip.proofs.RunSteps.{if_lifts_of}
 use Rattle.gf_flip.proofs.flips.lifts_by_queue.Goals as goal
 

@@ -1,8 +1,7 @@
 use Rattle.std.proofs.Common.{List, refl, ◌∙◌, subst}
 use Rattle.gf_poly.specs.Marking.{MarkedPolynomial}
 use Rattle.gf_lifts.specs.LiftsInTurn.{AreLiftsIn}
-use Rattle.gf_lifts.proofs.CrossingMath.{crossing_weight}
-use Rattle.gf_lifts.proofs.CrossingMath.{have_at, realisable_at, neighbour_at}
+use Rattle.gf_lifts.proofs.CrossingMath.{crossing_weight, have_at, realisable_at, neighbour_at}
 use Rattle.gf_lifts.proofs.LiftsInTurnLaws.{ever_in_turn, placed_variables}
 use Rattle.gf_lifts.proofs.wide.wide_crossed.Goals as goal
 
