@@ -30,9 +30,8 @@ use Rattle.gf_lines.specs.declared.lines.Line.{Line}
 use Rattle.gf_lines.specs.declared.lines.Part.{Part}
 use Rattle.gf_lines.specs.Along.{HasNonzero}
 use Rattle.gf_lines.specs.Lines.{moved, IsSpot, AreSpots, AreFalling, AreLinesOf, point_term, line_terms, line_member, line_members, terms_of_part, facet_order, IsLineAlong, IsLineOf, HasOrigin, IsPartOnLine, IsGround, IsSubtracted, IsWorkOn, KeepsWork, IsLineFrom, HasLineBelow, NoLineBelow, NoneDividesTo, IsMonomialFor}
-use Rattle.gf_lines.specs.Forms.{NoLineFrom}
+use Rattle.gf_lines.specs.Forms.{NoLineFrom, HasCover, IsTakenIn}
 use Rattle.gf_lines.specs.Monomials.{monomial_member, with_monomials}
-use Rattle.gf_lines.specs.Forms.{HasCover, IsTakenIn}
 use Rattle.gf_lines.proofs.LineLaws.{line_listed, line_coefficient, line_variables, member_variables, line_marked}
 use Rattle.gf_lines.proofs.MonomialLaws.{monomial_single, AtFront, AtBehind, front_at, joined_cases, joined_push, behind_contained, front_contained}
 use Rattle.gf_lines.proofs.MoveLaws.{moved-length, moved_plus, on_plus}
