@@ -6,7 +6,7 @@ use Rattle.gf_facets.specs.Rows.{negated}
 use Rattle.gf_facets.specs.Facets.{IsFlippable}
 use Rattle.gf_facets.specs.Neighbours.{AreAdjacent}
 use Rattle.gf_initial.proofs.LawsHold.{neighbours_are_unique}
-use Rattle.gf_flip.specs.Crossings.{IsCrossing, IsNeighbour}
+use Rattle.gf_lifts.specs.Crossings.{IsCrossing, IsNeighbour}
 use Rattle.gf_back.specs.Back.{IsCrossed, FlipsLeadBack}
 
 flipped : (n : ℕ) (bs : List MarkedPolynomial) (a : List ℤ) (cs : List MarkedPolynomial) → IsCrossing n bs a → IsNeighbour n bs a cs → IsCrossed n bs a cs

@@ -6,7 +6,7 @@ use Rattle.gf_ideal.specs.Membership.{AreInVariables}
 use Rattle.gf_facets.specs.Rows.{negated}
 use Rattle.gf_facets.specs.Regions.{Region}
 use Rattle.gf_facets.specs.Neighbours.{AreAdjacent}
-use Rattle.gf_flip.specs.Crossings.{IsCrossing, IsNeighbour}
+use Rattle.gf_lifts.specs.Crossings.{IsCrossing, IsNeighbour}
 
 -- for some ideal in n variables and some region, bs and cs are the bases on both sides of the facet of bs with normal a
 pub record IsCrossed (n : ℕ) (bs : List MarkedPolynomial) (a : List ℤ) (cs : List MarkedPolynomial) : Type 0 where

@@ -8,14 +8,15 @@ use Rattle.gf_facets.specs.Rows.{negated}
 use Rattle.gf_facets.specs.Regions.{Region, IsInRegion, all_positive}
 use Rattle.gf_facets.specs.Facets.{IsFlippable, IsInsideFacet}
 use Rattle.gf_facets.proofs.VectorLaws.{negated-twice}
-use Rattle.gf_flip.specs.Crossings.{IsNeighbour}
+use Rattle.gf_lifts.specs.Crossings.{IsNeighbour}
 use Rattle.gf_flip.specs.Operations.{IsFlipRefusal}
 use Rattle.gf_back.specs.Back.{IsCrossed}
 use Rattle.gf_reverse.specs.Upward.{IsNode, IsNodeIn, fan_of}
 use Rattle.gf_reverse.specs.Answers.{IsAcross}
 use Rattle.gf_reverse.proofs.TreeLaws.{own_fan, node_moved}
-use Rattle.gf_tree.specs.declared.error.TreeError.{TreeError}
-use Rattle.gf_tree.specs.Refusals.{of_flip_error, IsRefusedAtBasis, IsCallRefusal}
+use Rattle.gf_flip.specs.declared.error.TreeError.{TreeError}
+use Rattle.gf_flip.specs.TreeErrors.{of_flip_error}
+use Rattle.gf_tree.specs.Refusals.{IsRefusedAtBasis, IsCallRefusal}
 use Rattle.gf_tree.proofs.LabelLaws.{across_node, across_in}
 use Rattle.gf_tree.proofs.RefusalLaws.{flip_at}
 use Rattle.gf_basis_places.specs.BasisRules.{IsBasisPlace, IsCrossingStep, IsPlaceRefusal}

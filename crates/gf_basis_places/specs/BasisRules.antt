@@ -5,7 +5,7 @@ use Rattle.gf_facets.specs.Regions.{all_positive}
 use Rattle.gf_reverse.specs.Upward.{IsNode}
 use Rattle.gf_reverse.specs.Answers.{IsAcross}
 use Rattle.gf_tree.specs.Refusals.{IsCallRefusal}
-use Rattle.gf_tree.specs.declared.error.TreeError.{TreeError}
+use Rattle.gf_flip.specs.declared.error.TreeError.{TreeError}
 use Rattle.gf_session.specs.Sessions.{Rules}
 use Rattle.gf_basis_places.specs.Crossable.{AreCrossable}
 use Rattle.gf_basis_places.specs.Prompts.{prompt_text}

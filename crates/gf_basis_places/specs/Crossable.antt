@@ -5,7 +5,7 @@ use Rattle.gf_facets.specs.Regions.{Region}
 use Rattle.gf_facets.specs.Facets.{IsFlippable}
 use Rattle.gf_facets.specs.Normals.{Ascends}
 use Rattle.gf_cone.specs.Cones.{ConeRows, normal_at, IsConeOf}
-use Rattle.gf_tree.specs.declared.error.TreeError.{TreeError}
+use Rattle.gf_flip.specs.declared.error.TreeError.{TreeError}
 use Rattle.gf_tree.specs.Refusals.{IsRefusedAtBasis}
 
 -- ns has exactly the normals that a flip may cross inside the region, each once and ascending

@@ -14,7 +14,7 @@ use Rattle.gf_tree.specs.Parents.{IsRootFor}
 use Rattle.gf_tree.specs.Walks.{Walk, ideal_at, walk_at}
 use Rattle.gf_tree.specs.Steps.{IsStepTo, IsEnd, HasGiven}
 use Rattle.gf_tree.specs.Refusals.{IsTreeRefusal}
-use Rattle.gf_tree.specs.declared.error.TreeError.{TreeError}
+use Rattle.gf_flip.specs.declared.error.TreeError.{TreeError}
 use Rattle.gf_tree.proofs.RefusalLaws.{refusal_moved, refusal_beside}
 use Rattle.gf_tree.proofs.ListingLaws.{given_none, given_more, refusal_given, all_listed, part_listed}
 use Rattle.gf_initial_monomials.specs.Outcomes.{IsReached}

@@ -17,8 +17,9 @@ use Rattle.gf_initial.proofs.MatchingLaws.{matched-map, matched-from}
 use Rattle.gf_initial.proofs.PartLaws.{IsLevelPart}
 use Rattle.gf_initial.proofs.SideLaws.{IsSide, level_of_along}
 use Rattle.gf_initial.proofs.FlipLaws.{side_of_inside, along_negated, ArePartFacts, part_facts}
-use Rattle.gf_flip.specs.Along.{AreAlong, IsBasisOfParts}
-use Rattle.gf_flip.specs.Operations.{IsLiftOperation, IsFlipOperation}
+use Rattle.gf_lines.specs.Along.{AreAlong, IsBasisOfParts}
+use Rattle.gf_lifts.specs.LiftRefusals.{IsLiftOperation}
+use Rattle.gf_flip.specs.Operations.{IsFlipOperation}
 use Rattle.gf_binomials.specs.Binomials.{AreBinomials, IsMarkedBinomial, AreMarkedBinomials}
 use Rattle.gf_binomials.proofs.WholeLaws.{IsSmallWhole, fits-sub}
 use Rattle.gf_binomials.proofs.BinomialLaws.{binomial-reached, binomial-monic, binomial-marked, coefficient-small, reduction_fits, monic_fits}

@@ -30,7 +30,7 @@ use Rattle.gf_initial.proofs.MatchingLaws.{matched-map, matched-from}
 use Rattle.gf_initial.proofs.PartLaws.{IsLevelPart, part-there}
 use Rattle.gf_initial.proofs.SideLaws.{IsSide, level_of_along}
 use Rattle.gf_initial.proofs.FlipLaws.{side_of_inside, along_negated, part_facts}
-use Rattle.gf_flip.specs.Along.{AreAlong, IsBasisOfParts}
+use Rattle.gf_lines.specs.Along.{AreAlong, IsBasisOfParts}
 use Rattle.gf_flip.specs.Operations.{IsFlipExponents, IsFlipWithinLimits}
 use Rattle.gf_reverse.specs.Upward.{Fan, IsNodeIn}
 use Rattle.gf_tree.specs.Refusals.{IsConeStep, IsTreeWithinLimits}

@@ -12,8 +12,9 @@ use Rattle.gf_facets.specs.Facets.{IsFlippable}
 use Rattle.gf_facets.specs.MarkedBases.{IsBasisInRegion}
 use Rattle.gf_flip.specs.Operations.{IsFlipRefusal}
 use Rattle.gf_reverse.specs.Upward.{Fan}
-use Rattle.gf_tree.specs.declared.error.TreeError.TheVariants as trees
-use Rattle.gf_tree.specs.Refusals.{of_flip_error, IsTreeRefusal}
+use Rattle.gf_flip.specs.declared.error.TreeError.TheVariants as trees
+use Rattle.gf_flip.specs.TreeErrors.{of_flip_error}
+use Rattle.gf_tree.specs.Refusals.{IsTreeRefusal}
 use Rattle.gf_binomials.specs.Binomials.{AreBinomials}
 use Rattle.gf_binomial_calls.proofs.FlipLaws.{flip_fits}
 

@@ -18,7 +18,7 @@ use Rattle.gf_facets.specs.Facets.{IsFlippable}
 use Rattle.gf_facets.specs.MarkedBases.{IsBasisInRegion}
 use Rattle.gf_flip.specs.Operations.{IsFlipOperation, IsFlipRefusal}
 use Rattle.gf_reverse.specs.Upward.{Fan}
-use Rattle.gf_tree.specs.declared.error.TreeError.TheVariants as tree_errors
+use Rattle.gf_flip.specs.declared.error.TreeError.TheVariants as tree_errors
 use Rattle.gf_tree.specs.Ideals.{ideal_by}
 use Rattle.gf_tree.specs.Refusals.{IsTreeRefusal}
 use Rattle.gf_reduced.specs.declared.error.CheckError.TheVariants as check_errors

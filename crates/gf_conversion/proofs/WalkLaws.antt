@@ -14,7 +14,7 @@ use Rattle.gf_buchberger.proofs.BasesOfRuns.{generated, canonical_variables}
 use Rattle.gf_facets.specs.Regions.{all_positive}
 use Rattle.gf_facets.specs.MarkedBases.{IsBasisInRegion}
 use Rattle.gf_facets.proofs.SystemLaws.{all_positive-region}
-use Rattle.gf_flip.specs.Crossings.{IsCrossing}
+use Rattle.gf_lifts.specs.Crossings.{IsCrossing}
 use Rattle.gf_flip.specs.Reached.{IsReachedByFlips}
 use Rattle.gf_flip.proofs.ReachedLaws.{reached_first, reached_crossing, reached_next}
 use Rattle.gf_reverse.specs.Upward.{LeadsTowards}

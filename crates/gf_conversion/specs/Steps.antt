@@ -5,7 +5,7 @@ use Rattle.gf_poly.specs.Polynomial.{Terms}
 use Rattle.gf_poly.specs.Marking.{MarkedPolynomial, MarkedPolynomials}
 use Rattle.gf_facets.specs.Regions.{Region, all_positive}
 use Rattle.gf_cone.specs.Cones.{ConeRows, normal_at, IsConeOf}
-use Rattle.gf_flip.specs.Crossings.{IsNeighbour}
+use Rattle.gf_lifts.specs.Crossings.{IsNeighbour}
 use Rattle.gf_flip.specs.Reached.{IsReachedByFlips}
 use Rattle.gf_reverse.specs.Upward.{LeadsTowards}
 use Rattle.gf_conversion.specs.declared.steps.Towards.{Towards}

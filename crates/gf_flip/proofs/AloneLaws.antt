@@ -16,8 +16,9 @@ use Rattle.gf_ideal.proofs.ListedTerms.{listed}
 use Rattle.gf_division.specs.NormalForms.{HasSomeWeight}
 use Rattle.gf_initial.specs.Parts.{IsPartAlong, ArePartsAlong}
 use Rattle.gf_initial.proofs.ClassLaws.{multiple-grading}
-use Rattle.gf_flip.specs.Along.{HasNonzero, AreAlong}
-use Rattle.gf_flip.specs.Tops.{IsAlone, AreAloneWhere}
+use Rattle.gf_lines.specs.Along.{HasNonzero, AreAlong}
+use Rattle.gf_lines.specs.Splits.{IsAlone}
+use Rattle.gf_flip.specs.Chosen.{AreAloneWhere}
 
 -- the monomials of a list of one term are the same
 one_place : (f : Terms) (x y : Exponents) → length f ≡ 1 → HasMonomial f x → HasMonomial f y → same x y ≡ true

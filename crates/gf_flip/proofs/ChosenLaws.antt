@@ -14,19 +14,19 @@ use Rattle.gf_division.proofs.ReducerLaws.{member_at, members_equal, member_cont
 use Rattle.gf_initial.specs.Lifts.{IsTopLift, AreTopLifts}
 use Rattle.gf_ideal.specs.OrderTable.{AreMultipleApart}
 use Rattle.gf_initial.proofs.ClassLaws.{multiple-grading}
-use Rattle.gf_flip.specs.declared.lines.Point.{Point}
-use Rattle.gf_flip.specs.declared.lines.Line.{Line}
-use Rattle.gf_flip.specs.Along.{HasNonzero}
-use Rattle.gf_flip.specs.Lines.{line_terms, line_member, line_members, IsLineAlong, IsLineOf, HasOrigin}
-use Rattle.gf_flip.proofs.LineLaws.{line_marked}
+use Rattle.gf_lines.specs.declared.lines.Point.{Point}
+use Rattle.gf_lines.specs.declared.lines.Line.{Line}
+use Rattle.gf_lines.specs.Along.{HasNonzero}
+use Rattle.gf_lines.specs.Lines.{line_terms, line_member, line_members, IsLineAlong, IsLineOf, HasOrigin}
+use Rattle.gf_lines.proofs.LineLaws.{line_marked}
 use Rattle.gf_flip.specs.Chosen.{IsLiftedWhere}
-use Rattle.gf_flip.specs.LiftTails.{AreCopies}
-use Rattle.gf_flip.specs.Monomials.{monomial_member, with_monomials, chosen, IsAddedWhere}
-use Rattle.gf_flip.specs.Splits.{IsAloneAt}
-use Rattle.gf_flip.specs.Tops.{IsAlone, IsQuotientAt}
-use Rattle.gf_flip.proofs.MonomialLaws.{monomial_single, monomial_one, joined_length, front_at, behind_at}
-use Rattle.gf_flip.proofs.LiftTailLaws.{copies_more}
-use Rattle.gf_flip.proofs.TopLaws.{AreTopping, topping_push, untouched_at, top_twin, divided_lift}
+use Rattle.gf_lifts.specs.LiftTails.{AreCopies}
+use Rattle.gf_lines.specs.Monomials.{monomial_member, with_monomials, chosen, IsAddedWhere}
+use Rattle.gf_lines.specs.Splits.{IsAloneAt, IsAlone}
+use Rattle.gf_lifts.specs.Tops.{IsQuotientAt}
+use Rattle.gf_lines.proofs.MonomialLaws.{monomial_single, monomial_one, joined_length, front_at, behind_at}
+use Rattle.gf_lifts.proofs.LiftTailLaws.{copies_more}
+use Rattle.gf_lifts.proofs.TopLaws.{AreTopping, topping_push, untouched_at, top_twin, divided_lift}
 
 -- a term of a descending list is a descending list by itself
 pub descending_one : (f : Terms) (i : ℕ) (t : Term) → IsDescending f → i < length f → t ≡ get_or f i t → IsDescending (t ∷ [])

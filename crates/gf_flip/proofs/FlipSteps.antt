@@ -1,40 +1,37 @@
 -- The steps of a flip, as the code has them.
--- To cite: have_at, weight_at, realisable_at, neighbour_at, if_neighbour, if_tails_refused, job_at, parts_at, Ending,
--- ending_at, lifts_weight, ended_variables, ended_neighbour.
+-- To cite: weight_at, bounded_at, along_at, job_at, parts_at, if_neighbour, if_variables, if_tails_refused, topped_at, Ending, ending_at, lifts_weight,
+-- ended_variables, ended_neighbour.
 use Rattle.std.proofs.Common.{◌≡◌, ℕ, Bool, List, length, Contains, Result, Ok, Err, IfOk, IfErr, ℤ, refl, sym, ap, ◌∙◌, subst}
 use Rattle.gf_exponents.specs.Orders.{negated_row_of}
 use Rattle.gf_exponents.specs.SixOrders.{MonomialOrder}
+use Rattle.gf_exponents.proofs.ExponentsLaws.{same-refl}
 use Rattle.gf_order.specs.Comparisons.{HasEntries}
 use Rattle.gf_poly.specs.declared.error.PolyError.{PolyError}
-use Rattle.gf_exponents.proofs.ExponentsLaws.{same-refl}
 use Rattle.gf_poly.specs.Polynomial.{Terms, HasVariables}
 use Rattle.gf_poly.specs.Marking.{MarkedPolynomial, MarkedPolynomials, HaveVariables, IsArranged}
-use Rattle.gf_ideal.specs.Marks.{IsRealisable}
 use Rattle.gf_ideal.specs.Bases.{AreArranged, AreApart, AreSameBasis, IsTwin, IsCanonical}
 use Rattle.gf_ideal.specs.WorkLists.{AreReducedTails}
 use Rattle.gf_ideal.proofs.ListLaws.{each_contained}
 use Rattle.gf_ideal.proofs.KeptForms.{arranged_list}
 use Rattle.gf_division.specs.NormalForms.{HasSomeWeight}
-use Rattle.gf_division.specs.Autoreduction.{AreNeededForms, IsAutoreduced, IsAutoreductionRefusal}
+use Rattle.gf_division.specs.Autoreduction.{IsAutoreduced, IsAutoreductionRefusal}
 use Rattle.gf_buchberger.specs.Jobs.{IsBasisJob}
 use Rattle.gf_buchberger.specs.Bases.{IsArrangedBasis, IsBasisRefusal, of_poly_error}
 use Rattle.gf_buchberger.specs.declared.bases.BasisError.{BasisError}
 use Rattle.gf_initial.specs.Lifts.{AreLifts, AreTopLifts}
-use Rattle.gf_flip.specs.Crossings.{IsCrossing, IsNeighbour}
-use Rattle.gf_flip.specs.Along.{AreSmall, AreAlong, IsBasisOfParts}
+use Rattle.gf_lines.specs.Along.{AreSmall, AreAlong, IsBasisOfParts}
+use Rattle.gf_lifts.specs.Crossings.{IsCrossing, IsNeighbour}
+use Rattle.gf_lifts.specs.LiftTails.{AreCopies, AreTailsInTurn}
+use Rattle.gf_lifts.proofs.TailsInTurn.{turned_tails, turned_canonical}
+use Rattle.gf_lifts.proofs.LiftedTails.{ever_turned}
+use Rattle.gf_lifts.proofs.CrossingMath.{AreEverLifted, ever_topped, crossing_width, crossing_weight, lifts_marked, lifts_apart, neighbour, neighbour_at}
 use Rattle.gf_flip.specs.Limits.{HaveMonomialsAlone}
-use Rattle.gf_flip.specs.LiftTails.{AreCopies, AreTailsInTurn}
-use Rattle.gf_flip.proofs.TailsInTurn.{turned_tails, turned_canonical}
-use Rattle.gf_flip.proofs.LiftedTails.{ever_turned}
 use Rattle.gf_flip.specs.Operations.{IsFlipRefusal}
 use Rattle.gf_flip.proofs.SmallNormals.{normal_small}
-use Rattle.gf_flip.proofs.CrossingMath.{AreEverLifted, ever_topped, crossing_width, crossing_weight, in_ring, suited, realisable, lifts_marked, lifts_apart, needed_same, neighbour}
+use Rattle.gf_flip.proofs.PartJobs.{in_ring, suited}
 use Rattle.gf_flip.proofs.RefusalSteps.{parts_refused, tails_refused}
 
 -- ---- values under other names
-
-pub have_at : (n m : ℕ) (bs items : List MarkedPolynomial) → HaveVariables n bs → items ≡ bs → m ≡ n → HaveVariables m items
-have_at n m bs items v e q = subst (λ (z : ℕ). HaveVariables z items) (sym q) (subst (HaveVariables n) (sym e) v)
 
 pub weight_at : (n : ℕ) (bs items : List MarkedPolynomial) (a : List ℤ) → IsCrossing n bs a → items ≡ bs → HasSomeWeight items
 weight_at n bs items a c e = let w = crossing_weight n bs a c in subst HasSomeWeight (sym e) (w.0, w.2)
@@ -78,18 +75,6 @@ parts_refused_at n m bs a fs o budget x h e q k =
     parts_refused n bs a fs budget x h (subst (λ (z : MonomialOrder). IsBasisRefusal z n fs budget x) q (subst (λ (z : ℕ). IsBasisRefusal o z fs budget x) e k))
 
 -- ---- lifts
-
-pub realisable_at : (n m : ℕ) (bs : List MarkedPolynomial) (a : List ℤ) (hs ls : List MarkedPolynomial) (s : MarkedPolynomials) → IsCrossing n bs a → IsBasisOfParts n bs a hs →
-    AreEverLifted n bs a hs ls → m ≡ n → s ≡ record { variables = m; items = ls } → IsRealisable s.variables s.items
-realisable_at n m bs a hs ls s c p l e q =
-    subst (λ (z : MarkedPolynomials). IsRealisable z.variables z.items) (sym q) (subst (λ (z : ℕ). IsRealisable z ls) (sym e) (realisable n bs a hs ls c p l))
-
-pub neighbour_at : (n m : ℕ) (bs : List MarkedPolynomial) (a : List ℤ) (hs ls : List MarkedPolynomial) (s t : MarkedPolynomials) → IsCrossing n bs a → IsBasisOfParts n bs a hs →
-    AreEverLifted n bs a hs ls → m ≡ n → s ≡ record { variables = m; items = ls } → IsAutoreduced s t → AreArranged s.variables t.items → IsNeighbour n bs a t.items
-neighbour_at n m bs a hs ls s t c p l e q w o =
-    neighbour n bs a hs ls w.forms w.tails t.items p l
-    (needed_same ls w.forms (lifts_apart n bs a hs ls c p l) (λ b k. ((lifts_marked n bs a hs ls c p l).2 b k).monic) (subst (λ (z : MarkedPolynomials). AreNeededForms z.items w.forms) q w.needed))
-    w.needed.apart w.reduced w.arranged.members (subst (λ (z : ℕ). AreArranged z t.items) (ap (λ (z : MarkedPolynomials). z.variables) q ∙ e) o)
 
 pub if_neighbour : {E : Type 0} (n m : ℕ) (bs : List MarkedPolynomial) (a : List ℤ) (hs ls : List MarkedPolynomial) (s : MarkedPolynomials) (r : Result MarkedPolynomials E) → IsCrossing n bs a → IsBasisOfParts n bs a hs →
     AreEverLifted n bs a hs ls → m ≡ n → s ≡ record { variables = m; items = ls } → IfOk r (IsAutoreduced s) → IfOk r (λ t. AreArranged s.variables t.items) → IfOk r (λ t. IsNeighbour n bs a t.items)

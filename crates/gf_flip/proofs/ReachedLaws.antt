@@ -22,7 +22,7 @@ use Rattle.gf_facets.specs.MarkedBases.{IsBasisInRegion}
 use Rattle.gf_bases.proofs.FiniteLaws.{basis_everywhere}
 use Rattle.gf_cone.specs.Cones.{ConeRows, normal_at, IsConeOf}
 use Rattle.gf_cone.specs.Crossing.{IsFlipDecided}
-use Rattle.gf_flip.specs.Crossings.{IsCrossing, IsNeighbour}
+use Rattle.gf_lifts.specs.Crossings.{IsCrossing, IsNeighbour}
 use Rattle.gf_flip.specs.Reached.{IsReachedByFlips}
 
 pub reached_first : (n : ℕ) (fs : List Terms) (s : MarkedPolynomials) → HaveRingVariables n fs → IsArrangedBasis MonomialOrder.deglex n fs s → IsReachedByFlips fs s

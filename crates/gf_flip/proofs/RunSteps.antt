@@ -9,19 +9,19 @@ use Rattle.gf_poly.specs.Polynomial.{Terms}
 use Rattle.gf_poly.specs.Marking.{MarkedPolynomial, HaveVariables}
 use Rattle.gf_buchberger.proofs.ReducedPairLaws.{variables_each}
 use Rattle.gf_initial.specs.Lifts.{AreTopLifts}
-use Rattle.gf_flip.specs.declared.tops.Lifts.{Lifts}
-use Rattle.gf_flip.specs.Along.{AreSmall, IsBasisOfParts}
+use Rattle.gf_lifts.specs.declared.tops.Lifts.{Lifts}
+use Rattle.gf_lines.specs.Along.{AreSmall, IsBasisOfParts}
 use Rattle.gf_flip.specs.Chosen.{AreLiftsOfParts}
-use Rattle.gf_flip.specs.Crossings.{IsCrossing}
-use Rattle.gf_flip.specs.LiftTails.{AreCopies, AreTailsInTurn}
-use Rattle.gf_flip.specs.Lines.{IsGround, facet_order}
-use Rattle.gf_flip.specs.Monomials.{with_monomials, AreLaterUndivided}
-use Rattle.gf_flip.specs.Settling.{SettlesTo}
-use Rattle.gf_flip.specs.Splits.{AreSplit}
-use Rattle.gf_flip.specs.Turns.{HasEntering, LeadsToEnd}
-use Rattle.gf_flip.proofs.CrossingMath.{crossing_width, crossing_nonzero}
+use Rattle.gf_lifts.specs.Crossings.{IsCrossing}
+use Rattle.gf_lifts.specs.LiftTails.{AreCopies, AreTailsInTurn}
+use Rattle.gf_lines.specs.Lines.{IsGround, facet_order}
+use Rattle.gf_lines.specs.Monomials.{with_monomials, AreLaterUndivided}
+use Rattle.gf_line_runs.specs.Settling.{SettlesTo}
+use Rattle.gf_lines.specs.Splits.{AreSplit}
+use Rattle.gf_line_runs.specs.Turns.{HasEntering, LeadsToEnd}
+use Rattle.gf_lifts.proofs.CrossingMath.{crossing_width, crossing_nonzero}
 use Rattle.gf_flip.proofs.FlipSteps.{topped_at, Ending, ending_at}
-use Rattle.gf_flip.proofs.SplitLaws.{IsStart, split_start}
+use Rattle.gf_flip.proofs.StartLaws.{IsStart, split_start}
 
 -- ---- what a run begins with
 

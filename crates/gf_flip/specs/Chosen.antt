@@ -1,11 +1,18 @@
 -- Lifts of the chosen members of a basis of the parts: copies where a part is one term alone, and what steps lead to elsewhere.
 -- Laws: proofs/ChosenLaws.antt.
-use Rattle.std.specs.Prelude.{◌≡◌, ℕ, Bool, true, false, List, [], ◌∷◌, ◌++◌, ℤ}
+use Rattle.std.specs.Prelude.{◌≡◌, ℕ, Bool, true, false, List, [], ◌∷◌, ◌++◌, ℤ, length, get_or}
 use Rattle.gf_poly.specs.Polynomial.{HasVariables}
 use Rattle.gf_poly.specs.Marking.{MarkedPolynomial, HaveVariables}
+use Rattle.gf_ideal.specs.Settled.{IsAt}
 use Rattle.gf_initial.specs.Lifts.{IsTopLift, AreTopLifts}
-use Rattle.gf_flip.specs.Along.{IsBasisOfParts}
-use Rattle.gf_flip.specs.LiftTails.{IsCopy, AreCopies}
+use Rattle.gf_lines.specs.Along.{IsBasisOfParts}
+use Rattle.gf_lines.specs.Splits.{IsAlone}
+use Rattle.gf_lifts.specs.LiftTails.{IsCopy, AreCopies}
+
+-- no monomial of a member whose flag is set is a multiple of a apart from the mark, but that
+pub record AreAloneWhere (a : List ℤ) (bs : List MarkedPolynomial) (flags : List Bool) : Type 0 where
+  pub size : length flags ≡ length bs
+  pub at : (j : ℕ) (b : MarkedPolynomial) → IsAt bs j b → get_or flags j false ≡ true → IsAlone a b
 
 -- a lift of h is the last one now, with its flag
 pub record IsLiftAdded (n : ℕ) (bs : List MarkedPolynomial) (a : List ℤ) (h : MarkedPolynomial) (old new : List MarkedPolynomial) (flags more : List Bool) : Type 0 where

@@ -2,20 +2,14 @@
 -- They are those of a run on the parts, of taking the remainders by the basis from the members of the basis of the parts,
 -- and of autoreducing the lifts. Laws: proofs/RefusalSteps.antt.
 -- Source: Fukuda, Jensen, Thomas, Computing Gröbner fans, 4.2.
-use Rattle.std.specs.Prelude.{◌≡◌, ℕ, ◌+◌, ◌<◌, ◌≤◌, ◌^◌, List, Contains, ℤ, length}
+use Rattle.std.specs.Prelude.{ℕ, ◌+◌, ◌<◌, ◌≤◌, ◌^◌, List, ℤ, length}
 use Rattle.gf_frac.specs.Fraction.{Fraction}
 use Rattle.gf_frac.specs.Fits.{Fits}
 use Rattle.gf_frac.specs.declared.refusal.Op.{Op}
-use Rattle.gf_frac.specs.declared.refusal.Op.TheVariants.{Sub}
-use Rattle.gf_exponents.specs.Exponents.{Exponents}
 use Rattle.gf_exponents.specs.Orders.{IsFacetBelow, negated_row_of}
 use Rattle.gf_exponents.specs.SixOrders.{MonomialOrder}
-use Rattle.gf_poly.specs.declared.error.PolyError.{PolyError}
-use Rattle.gf_poly.specs.Polynomial.{Terms, coefficient}
-use Rattle.gf_poly.specs.Refusals.{IsRefusedBy}
+use Rattle.gf_poly.specs.Polynomial.{Terms}
 use Rattle.gf_poly.specs.Marking.{MarkedPolynomial, MarkedPolynomials}
-use Rattle.gf_ideal.specs.NormalForms.{IsNormalForm}
-use Rattle.gf_ideal.specs.Operands.{IsReductionOperation, IsReductionExponents}
 use Rattle.gf_ideal.specs.WorkLists.{IsWorkList, IsRunOperation, IsRunExponents}
 use Rattle.gf_division.specs.Autoreduction.{AreNeededForms, IsNeededOperation, IsTailOperation, IsTailExponents}
 use Rattle.gf_buchberger.specs.declared.bases.BasisError.{BasisError}
@@ -23,37 +17,8 @@ use Rattle.gf_buchberger.specs.declared.bases.BasisError.TheVariants as errors
 use Rattle.gf_buchberger.specs.Pairs.{pairs_below}
 use Rattle.gf_buchberger.specs.Bases.{IsBudgetSpent}
 use Rattle.gf_initial.specs.Lifts.{AreLifts}
-use Rattle.gf_flip.specs.Along.{AreAlong, IsBasisOfParts}
-
--- ---- lifts
-
--- the operation is one of a reduction of h by bs, or the difference of a coefficient of h and that of its remainder at the same monomial
-pub data IsLiftOperation (bs : List MarkedPolynomial) (h : MarkedPolynomial) (op : Op) (left right : Fraction) : Type 0 where
-  remainder : IsReductionOperation (Contains bs) h.poly op left right → IsLiftOperation bs h op left right
-  difference : (r : Terms) (at : Exponents) → IsNormalForm bs h.poly r → op ≡ Sub → left ≡ coefficient h.poly at →
-      right ≡ coefficient r at → IsLiftOperation bs h op left right
-
--- why h isn't lifted
-abbrev pub IsLiftRefusal : List MarkedPolynomial → MarkedPolynomial → PolyError → Type 0
-IsLiftRefusal bs h = IsRefusedBy (IsLiftOperation bs h) (IsReductionExponents (Contains bs) h.poly)
-
--- the operation is one of lifting a member
-pub record IsLiftsOperation (bs hs : List MarkedPolynomial) (op : Op) (left right : Fraction) : Type 0 where
-  pub member : MarkedPolynomial
-  pub contained : Contains hs member
-  pub operation : IsLiftOperation bs member op left right
-
--- the exponents are added in lifting a member
-pub record IsLiftsExponents (bs hs : List MarkedPolynomial) (left right : ℕ) : Type 0 where
-  pub member : MarkedPolynomial
-  pub contained : Contains hs member
-  pub sum : IsReductionExponents (Contains bs) member.poly left right
-
--- why hs aren't lifted
-abbrev pub IsLiftsRefusal : List MarkedPolynomial → List MarkedPolynomial → PolyError → Type 0
-IsLiftsRefusal bs hs = IsRefusedBy (IsLiftsOperation bs hs) (IsLiftsExponents bs hs)
-
--- ---- a whole flip
+use Rattle.gf_lines.specs.Along.{AreAlong, IsBasisOfParts}
+use Rattle.gf_lifts.specs.LiftRefusals.{IsLiftsOperation, IsLiftsExponents}
 
 -- the operation is one of a run on the parts, of lifting a member of their basis, of making a lift monic, or of a step at
 -- an unmarked term of a tail by the lifts

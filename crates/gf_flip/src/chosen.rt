@@ -2,22 +2,19 @@
 //! copied; another member is lifted by steps that end once nothing is left along the normal.
 
 ghost use Rattle.gf_division.specs.NormalForms.{HasSomeWeight};
-ghost use Rattle.gf_flip.specs.Along.{AreSmall, HasNonzero};
+ghost use Rattle.gf_lines.specs.Along.{AreSmall, HasNonzero};
 ghost use Rattle.gf_flip.specs.Chosen.{IsLiftedWhere};
-ghost use Rattle.gf_flip.specs.LiftTails.{AreCopies};
-ghost use Rattle.gf_flip.specs.Lines.{AreLinesOf, IsGround, IsLineAlong, IsLineOf, line_member, line_members};
-ghost use Rattle.gf_flip.specs.Monomials.{IsAddedWhere, chosen, with_monomials};
-ghost use Rattle.gf_flip.specs.Splits.{IsAloneAt};
+ghost use Rattle.gf_lifts.specs.LiftTails.{AreCopies};
+ghost use Rattle.gf_lines.specs.Lines.{AreLinesOf, IsGround, IsLineAlong, IsLineOf, line_member, line_members};
+ghost use Rattle.gf_lines.specs.Monomials.{IsAddedWhere, chosen, with_monomials};
+ghost use Rattle.gf_lines.specs.Splits.{IsAloneAt};
 ghost use Rattle.gf_initial.specs.Lifts.{AreTopLifts, IsTopLift};
 ghost use Rattle.gf_poly.specs.Marking.{HaveVariables};
 ghost use Rattle.gf_poly.specs.Polynomial.{HasVariables, SamePolynomial};
 ghost use Rattle.std.specs.Prelude.{IfSome, [], get_or, length, pos, true, ℕ, ◌<◌, ◌≡◌, ◌≢◌};
 
-use crate::SpareLists;
-use crate::along::pivot_of;
-use crate::lines::{Ground, Line, one, spot};
-use crate::room::with_room;
-use crate::tops::{Lifts, divided_at, place_at, push, top_lift};
+use gf_lifts::{Lifts, divided_at, place_at, push, top_lift};
+use gf_lines::{Ground, Line, SpareLists, one, pivot_of, spot, with_room};
 use gf_poly::{Marked, Poly, Term};
 use std::alloc::Global;
 

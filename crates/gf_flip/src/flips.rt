@@ -3,27 +3,21 @@
 ghost use Rattle.std.specs.Prelude.{◌≡◌, ℕ, length, IfOk, IfErr, IfSome};
 ghost use Rattle.gf_poly.specs.Marking.{HaveVariables};
 ghost use Rattle.gf_buchberger.specs.Bases.{IsWantOfMemory, of_poly_error};
-ghost use Rattle.gf_flip.specs.Crossings.{IsCrossing, IsNeighbour};
-ghost use Rattle.gf_flip.specs.Along.{AreAlong, IsBasisOfParts, AreSmall};
+ghost use Rattle.gf_lifts.specs.Crossings.{IsCrossing, IsNeighbour};
+ghost use Rattle.gf_lines.specs.Along.{AreAlong, IsBasisOfParts, AreSmall};
 ghost use Rattle.gf_flip.specs.Operations.{IsFlipRefusal, IsFlipWithinLimits};
 ghost use Rattle.gf_flip.specs.Chosen.{AreLiftsOfParts};
-ghost use Rattle.gf_flip.specs.Lines.{ArePartsOnLines, terms_of_parts};
-ghost use Rattle.gf_flip.specs.Splits.{AreSplit};
+ghost use Rattle.gf_lines.specs.Lines.{ArePartsOnLines, terms_of_parts};
+ghost use Rattle.gf_lines.specs.Splits.{AreSplit};
 
-use crate::SpareLists;
-use crate::along::{Split, are_single, parts, split_parts};
 use crate::chosen::chosen_lifts;
-use crate::lifts::lifts;
 use crate::limits::see_members;
-use crate::lines::{Ground, Part};
-use crate::reduction::settled;
-use crate::tails::reduced_tails;
-use crate::tops::{Lifts, top_lifts};
-use crate::turns::{Task, basis_by_queue, lines_in_turn};
-use crate::weights::Facet;
-use crate::wide::wide_crossed;
+use crate::queued::{Task, basis_by_queue, top_lifts};
 use gf_buchberger::{BasisError, refused};
 use gf_division::autoreduce;
+use gf_lifts::{Facet, Lifts, literal_lifts, reduced_tails, wide_crossed};
+use gf_line_runs::{lines_in_turn, settled};
+use gf_lines::{Ground, Part, SpareLists, Split, are_single, parts, split_parts};
 use gf_order::Order;
 use gf_poly::{Marked, MarkedSet, Poly, PolyError};
 use gf_vec::IntVec;
@@ -169,7 +163,7 @@ fn crossed(
     ensures variables { IfOk result (λ t. t.variables ≡ set.now.variables) }
     ensures cause { IfErr result (λ e. (pairs : ℕ) → IsFlipRefusal set.now.variables set.now.items normal.now pairs (of_poly_error e)) }
 {
-    let lifted = lifts(alloc, below, set)?;
+    let lifted = literal_lifts(alloc, below, set)?;
     let all = MarkedSet::new(set.variables(), lifted);
     autoreduce(alloc, &all)
 }

@@ -26,8 +26,8 @@ use Rattle.gf_reverse.specs.Lists.{IsPathOf}
 use Rattle.gf_reverse.proofs.TreeLaws.{SameFan, node_moved, count, upward_tree, upward_finite, above_node, down_node, own_fan, back_fan}
 use Rattle.gf_reverse.proofs.ListLaws.{own, path_exists, path_one, path_below, root_above, root_own}
 use Rattle.gf_tree.specs.declared.tree.BasisTree.{BasisTree}
-use Rattle.gf_tree.specs.declared.error.TreeError.{TreeError}
-use Rattle.gf_tree.specs.declared.error.TreeError.TheVariants.{Memory}
+use Rattle.gf_flip.specs.declared.error.TreeError.{TreeError}
+use Rattle.gf_flip.specs.declared.error.TreeError.TheVariants.{Memory}
 use Rattle.gf_tree.specs.Refusals.{IsTreeRefusal, IsCallRefusal}
 use Rattle.gf_tree.specs.Walks.{Walk, AreLeft, HasListLeft, walk_at}
 use Rattle.gf_tree.proofs.RefusalLaws.{refusal_moved, call_refused}

@@ -11,8 +11,8 @@ use Rattle.gf_waves.specs.Wave.{IsCall}
 use Rattle.gf_facets.specs.LexPositive.{IsBefore}
 use Rattle.gf_reverse.specs.Upward.{Fan, IsNodeIn, IsNode}
 use Rattle.gf_tree.specs.declared.tree.BasisTree.{BasisTree}
-use Rattle.gf_tree.specs.declared.error.TreeError.{TreeError}
-use Rattle.gf_tree.specs.declared.error.TreeError.TheVariants.{Memory}
+use Rattle.gf_flip.specs.declared.error.TreeError.{TreeError}
+use Rattle.gf_flip.specs.declared.error.TreeError.TheVariants.{Memory}
 use Rattle.gf_tree.specs.Refusals.{IsCallRefusal}
 use Rattle.gf_tree.specs.Walks.{Walk, AreLeft}
 use Rattle.gf_subtree.specs.Rows.{Row, up_in, RefusesWalker, ideal_in, row_left_at_most, AreLeftIn}

@@ -18,7 +18,7 @@ use Rattle.gf_reverse.specs.Upward.{Fan, IsNodeIn, IsParent, fan_of}
 use Rattle.gf_reverse.specs.Lists.{IsPathOf}
 use Rattle.gf_reverse.proofs.TreeLaws.{count}
 use Rattle.gf_tree.specs.declared.tree.BasisTree.{BasisTree}
-use Rattle.gf_tree.specs.declared.error.TreeError.{TreeError}
+use Rattle.gf_flip.specs.declared.error.TreeError.{TreeError}
 use Rattle.gf_tree.specs.Refusals.{IsCallRefusal}
 
 -- ---- the tree of bases

@@ -5,7 +5,7 @@ ghost use Rattle.gf_reverse.specs.Upward.{IsNode};
 ghost use Rattle.gf_waves.specs.Frontier.{AreRefusals, is_ready, is_refused};
 ghost use Rattle.gf_tree.specs.Refusals.{IsTreeRefusal, IsTreeWithinLimits};
 ghost use Rattle.gf_tree.specs.Walks.{AreLeft, walk_at};
-ghost use Rattle.gf_tree.specs.declared.error.TreeError.TheVariants.{Memory};
+ghost use Rattle.gf_flip.specs.declared.error.TreeError.TheVariants.{Memory};
 ghost use Rattle.gf_subtree.specs.Rows.{AreLeftIn, HasRowLeft, RefusesWalker, ideal_in, first_row};
 ghost use Rattle.gf_subtree.specs.Answers.{IsResumedAs, IsRowAnswer, IsRowCall, IsRowKept, IsRefusedEarly, IsToldInFront};
 

@@ -16,7 +16,7 @@ use Rattle.gf_reverse.proofs.OneListLaws.{list_for}
 use Rattle.gf_tree.specs.Parents.{IsRootFor}
 use Rattle.gf_tree.specs.Walks.{Walk, ideal_at, AreLeft, walk_at}
 use Rattle.gf_tree.specs.Steps.{IsStepTo, IsEnd, HasGiven}
-use Rattle.gf_tree.specs.declared.error.TreeError.{TreeError}
+use Rattle.gf_flip.specs.declared.error.TreeError.{TreeError}
 use Rattle.gf_tree.specs.Refusals.{IsTreeRefusal, IsTreeWithinLimits}
 use Rattle.gf_tree.proofs.RefusalLaws.{refusal_beside, limits_moved}
 

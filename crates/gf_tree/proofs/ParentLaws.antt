@@ -12,7 +12,7 @@ use Rattle.gf_reverse.specs.Answers.{IsAcross, IsWayAnswer}
 use Rattle.gf_reverse.proofs.LawsHold.{root_has_no_way_up, bases_make_a_tree}
 use Rattle.gf_reverse.proofs.ListLaws.{root_above, root_own}
 use Rattle.gf_tree.specs.declared.above.Parent.{Parent}
-use Rattle.gf_tree.specs.declared.error.TreeError.{TreeError}
+use Rattle.gf_flip.specs.declared.error.TreeError.{TreeError}
 use Rattle.gf_tree.specs.declared.above.Parent.TheVariants.{Root, Up}
 use Rattle.gf_tree.specs.Parents.{IsParentTold, IsRootBasis, IsRootFor, IsSomeCone}
 

@@ -21,9 +21,10 @@ use Rattle.gf_reverse.specs.Upward.{Fan, IsNodeIn, IsNode, IsParent, fan_of}
 use Rattle.gf_reverse.proofs.TreeLaws.{SameFan, own_fan, back_fan, node_moved}
 use Rattle.gf_reverse.proofs.ListLaws.{root_above, root_own}
 use Rattle.gf_tree.proofs.LabelLaws.{across_in}
-use Rattle.gf_tree.specs.declared.error.TreeError.{TreeError}
-use Rattle.gf_tree.specs.declared.error.TreeError.TheVariants.{Memory}
-use Rattle.gf_tree.specs.Refusals.{of_flip_error, of_cone_error, IsTreeRefusal, IsRefusedAtBasis, IsWayRefused, IsCallRefusal, IsTreeWithinLimits}
+use Rattle.gf_flip.specs.declared.error.TreeError.{TreeError}
+use Rattle.gf_flip.specs.declared.error.TreeError.TheVariants.{Memory}
+use Rattle.gf_flip.specs.TreeErrors.{of_flip_error, of_cone_error}
+use Rattle.gf_tree.specs.Refusals.{IsTreeRefusal, IsRefusedAtBasis, IsWayRefused, IsCallRefusal, IsTreeWithinLimits}
 
 -- ---- steps
 

@@ -2,10 +2,7 @@
 use Rattle.std.specs.Prelude.{◌≡◌, ℕ, ◌<◌, List, ℤ, length, Some}
 use Rattle.gf_poly.specs.Marking.{MarkedPolynomials}
 use Rattle.gf_gordan.specs.declared.error.ConeOverflow.{ConeOverflow}
-use Rattle.gf_gordan.specs.declared.error.GordanError.{GordanError}
-use Rattle.gf_gordan.specs.declared.error.GordanError.TheVariants as cones
 use Rattle.gf_buchberger.specs.declared.bases.BasisError.{BasisError}
-use Rattle.gf_buchberger.specs.declared.bases.BasisError.TheVariants as flips
 use Rattle.gf_facets.specs.Facets.{IsFlippable}
 use Rattle.gf_cone.specs.Cones.{ConeRows, normal_at, other_rows, IsConeOf}
 use Rattle.gf_cone.specs.Answers.{IsNormalStep}
@@ -14,24 +11,9 @@ use Rattle.gf_walk.specs.Walk.{IsRefusedAbove}
 use Rattle.gf_facets.specs.Regions.{Region}
 use Rattle.gf_reverse.specs.Upward.{Fan, IsNodeIn, IsParent, fan_of}
 use Rattle.gf_reverse.specs.Answers.{IsAcross}
-use Rattle.gf_tree.specs.declared.error.TreeError.{TreeError}
-use Rattle.gf_tree.specs.declared.error.TreeError.TheVariants.{Overflow, Exponent, PairBudget, Cone, Memory}
-
--- ---- refusals of other crates
-
--- the refusal of a flip, as one of the search
-abbrev pub of_flip_error : BasisError → TreeError
-of_flip_error (flips.Overflow o) = Overflow o
-of_flip_error (flips.Exponent o) = Exponent o
-of_flip_error (flips.PairBudget s unsettled) = PairBudget s unsettled
-of_flip_error flips.Memory = Memory
-
--- the refusal of the system of a normal, as one of the search
-abbrev pub of_cone_error : GordanError → TreeError
-of_cone_error (cones.Cone s) = Cone s
-of_cone_error cones.Memory = Memory
-
--- ---- causes
+use Rattle.gf_flip.specs.declared.error.TreeError.{TreeError}
+use Rattle.gf_flip.specs.declared.error.TreeError.TheVariants.{Cone, Memory}
+use Rattle.gf_flip.specs.TreeErrors.{of_flip_error}
 
 -- s is a step of the system that decides whether a flip may cross the facet of some normal of v, and it leaves its range
 pub record IsConeStep (F : Fan) (v : MarkedPolynomials) (s : ConeOverflow) : Type 0 where

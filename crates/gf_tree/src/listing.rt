@@ -4,7 +4,7 @@ ghost use Rattle.gf_reverse.specs.Upward.{IsNode, fan_of};
 ghost use Rattle.gf_reverse.specs.Lists.{IsListOfBases};
 ghost use Rattle.gf_tree.specs.Refusals.{IsTreeRefusal, IsTreeWithinLimits};
 ghost use Rattle.gf_tree.specs.Walks.{AreLeft, walk_at};
-ghost use Rattle.gf_tree.specs.declared.error.TreeError.TheVariants.{Memory};
+ghost use Rattle.gf_flip.specs.declared.error.TreeError.TheVariants.{Memory};
 
 use crate::{TreeError, Walker, to_root};
 use gf_cone::Region;

@@ -4,7 +4,7 @@ ghost use Rattle.gf_facets.specs.LexPositive.{IsBefore};
 ghost use Rattle.gf_reverse.specs.Upward.{IsNode, IsParent};
 ghost use Rattle.gf_tree.specs.FanTree.{before_strict, rank, count, upward_tree, upward_nodes, upward_falls, upward_level, upward_finite};
 ghost use Rattle.gf_tree.specs.Refusals.{IsCallRefusal};
-ghost use Rattle.gf_tree.specs.declared.error.TreeError.TheVariants.{Memory};
+ghost use Rattle.gf_flip.specs.declared.error.TreeError.TheVariants.{Memory};
 
 use crate::steps::{arrived, below, downward, led_back, way_up};
 use crate::{Node, Store, TreeError};

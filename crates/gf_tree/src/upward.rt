@@ -3,7 +3,7 @@ ghost use Rattle.std.specs.Prelude.{◌≡◌, ◌↔◌, IfOk, IfErr};
 ghost use Rattle.gf_reverse.specs.Upward.{IsNode, fan_of};
 ghost use Rattle.gf_tree.specs.Parents.{IsParentTold, IsRootFor, IsRootBasis};
 ghost use Rattle.gf_tree.specs.Refusals.{IsTreeRefusal, IsWayRefused, IsTreeWithinLimits};
-ghost use Rattle.gf_tree.specs.declared.error.TreeError.TheVariants.{Memory};
+ghost use Rattle.gf_flip.specs.declared.error.TreeError.TheVariants.{Memory};
 ghost use Rattle.gf_tree.specs.declared.above.Parent.TheVariants.{Root};
 
 use crate::node::cone_of;

@@ -4,7 +4,7 @@ ghost use Rattle.gf_reverse.specs.Upward.{IsNode, fan_of};
 ghost use Rattle.gf_tree.specs.Refusals.{IsTreeRefusal, IsTreeWithinLimits};
 ghost use Rattle.gf_tree.specs.Steps.{IsAdvance, IsResumed};
 ghost use Rattle.gf_tree.specs.Walks.{ideal_at, walk_at, HasListLeft};
-ghost use Rattle.gf_tree.specs.declared.error.TreeError.TheVariants.{Memory};
+ghost use Rattle.gf_flip.specs.declared.error.TreeError.TheVariants.{Memory};
 
 use crate::{BasisTree, Node, TreeError};
 use gf_cone::Region;

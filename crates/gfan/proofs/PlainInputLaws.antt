@@ -38,8 +38,8 @@ use Rattle.gf_division.specs.Autoreduction.{IsAutoreductionRefusal}
 use Rattle.gf_reduced.specs.Forms.{monic_of}
 use Rattle.gf_reduced.specs.Refusals.{of_poly, IsReducedBasisRefusal, IsReducedRefusalBeside}
 use Rattle.gf_reduced.proofs.GroebnerLaws.{polys_variables}
-use Rattle.gf_tree.specs.declared.error.TreeError.{TreeError}
-use Rattle.gf_tree.specs.declared.error.TreeError.TheVariants as tree_errors
+use Rattle.gf_flip.specs.declared.error.TreeError.{TreeError}
+use Rattle.gf_flip.specs.declared.error.TreeError.TheVariants as tree_errors
 use Rattle.gf_facets.specs.Regions.{Region, all_positive}
 use Rattle.gf_reverse.specs.Upward.{Fan}
 use Rattle.gf_tree.specs.Ideals.{ideal_by, ideal_within}

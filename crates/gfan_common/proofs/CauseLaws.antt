@@ -8,8 +8,8 @@ use Rattle.gf_front.specs.declared.refusal.Refusal.TheVariants as refusals
 use Rattle.gf_front.specs.Kinds.{RefusalKind, kind_of_refusal, IsNumbersKind, IsTestKind, IsWorkKind}
 use Rattle.gf_items.specs.Refusals.{IsOfTest, IsOfWork, IsOfNumbers}
 use Rattle.gfan_common.specs.Causes.{of_weight_error, of_tree, of_basis, of_gordan}
-use Rattle.gf_tree.specs.declared.error.TreeError.{TreeError}
-use Rattle.gf_tree.specs.declared.error.TreeError.TheVariants as tree_errors
+use Rattle.gf_flip.specs.declared.error.TreeError.{TreeError}
+use Rattle.gf_flip.specs.declared.error.TreeError.TheVariants as tree_errors
 use Rattle.gfan_common.specs.Refused.{IsNamedBy, IsUnnamed, without_names}
 use Rattle.gf_weights.specs.declared.error.WeightError.{WeightError}
 use Rattle.gf_weights.specs.declared.error.WeightError.TheVariants as weight_errors

@@ -3,8 +3,8 @@ use Rattle.gf_buchberger.specs.declared.bases.BasisError.{BasisError}
 use Rattle.gf_buchberger.specs.declared.bases.BasisError.TheVariants as basis_errors
 use Rattle.gf_front.specs.declared.refusal.Refusal.{Refusal}
 use Rattle.gf_front.specs.declared.refusal.Refusal.TheVariants as refusals
-use Rattle.gf_tree.specs.declared.error.TreeError.{TreeError}
-use Rattle.gf_tree.specs.declared.error.TreeError.TheVariants as tree_errors
+use Rattle.gf_flip.specs.declared.error.TreeError.{TreeError}
+use Rattle.gf_flip.specs.declared.error.TreeError.TheVariants as tree_errors
 use Rattle.gf_weights.specs.declared.error.WeightError.{WeightError}
 use Rattle.gf_weights.specs.declared.error.WeightError.TheVariants as weight_errors
 use Rattle.gf_gordan.specs.declared.error.GordanError.{GordanError}

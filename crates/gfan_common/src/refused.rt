@@ -6,12 +6,12 @@ ghost use Rattle.gfan_common.specs.CheckedSets.{of_check};
 ghost use Rattle.gfan_common.specs.Refused.{names_of, IsNamedBy, WrittenAsFar};
 
 use gf_buchberger::BasisError;
+use gf_flip::TreeError;
 use gf_front::{Refusal, WordsError};
 use gf_gordan::GordanError;
 use gf_outside::Sink;
 use gf_reduced::CheckError;
 use gf_text::{Ring, Syntax, TextError};
-use gf_tree::TreeError;
 use gf_weights::WeightError;
 use std::alloc::AllocError;
 

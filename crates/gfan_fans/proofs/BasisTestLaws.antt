@@ -10,8 +10,8 @@ use Rattle.gf_buchberger.specs.Jobs.{HaveRingVariables, HaveOneDegree}
 use Rattle.gf_tropical.specs.declared.error.TropicalError.TheVariants as tropical_errors
 use Rattle.gf_tropical.specs.Refusals.{IsTropicalRefusal, NoneIsZero}
 use Rattle.gf_tropical.specs.Systems.{IsPairSystem}
-use Rattle.gf_tree.specs.declared.error.TreeError.{TreeError}
-use Rattle.gf_tree.specs.declared.error.TreeError.TheVariants as tree_errors
+use Rattle.gf_flip.specs.declared.error.TreeError.{TreeError}
+use Rattle.gf_flip.specs.declared.error.TreeError.TheVariants as tree_errors
 use Rattle.gf_initial_monomials.specs.declared.error.InitialError.{InitialError}
 use Rattle.gf_initial_monomials.specs.declared.error.InitialError.TheVariants as initial_errors
 use Rattle.gf_initial_monomials.specs.Limits.{IsMemoryWanted}

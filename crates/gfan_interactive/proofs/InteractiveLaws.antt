@@ -17,8 +17,8 @@ use Rattle.gf_bases.proofs.LawsHold.{only_ideals_count}
 use Rattle.gf_reverse.specs.Upward.{Fan, IsNode, IsNodeIn, fan_of}
 use Rattle.gf_reverse.proofs.TreeLaws.{own_fan, back_fan, node_moved}
 use Rattle.gf_reverse.proofs.ListLaws.{own}
-use Rattle.gf_tree.specs.declared.error.TreeError.{TreeError}
-use Rattle.gf_tree.specs.declared.error.TreeError.TheVariants as tree_errors
+use Rattle.gf_flip.specs.declared.error.TreeError.{TreeError}
+use Rattle.gf_flip.specs.declared.error.TreeError.TheVariants as tree_errors
 use Rattle.gf_tree.specs.Ideals.{ideal_by}
 use Rattle.gf_tree.specs.Refusals.{IsTreeRefusal, IsCallRefusal}
 use Rattle.gf_tree.proofs.LabelLaws.{across_in}

@@ -38,8 +38,8 @@ use Rattle.gf_bases.proofs.LawsHold.{of_reduced}
 use Rattle.gf_reverse.specs.Upward.{IsNode, IsNodeIn, fan_of}
 use Rattle.gf_reverse.proofs.TreeLaws.{own_fan, back_fan}
 use Rattle.gf_reverse.proofs.ListLaws.{own}
-use Rattle.gf_tree.specs.declared.error.TreeError.{TreeError}
-use Rattle.gf_tree.specs.declared.error.TreeError.TheVariants as tree_errors
+use Rattle.gf_flip.specs.declared.error.TreeError.{TreeError}
+use Rattle.gf_flip.specs.declared.error.TreeError.TheVariants as tree_errors
 use Rattle.gf_tree.specs.Ideals.{ideal_by}
 use Rattle.gf_tree.specs.Parents.{ideal_of, IsRootFor}
 use Rattle.gf_tree.specs.Refusals.{IsTreeRefusal, IsWayRefused}

@@ -11,8 +11,8 @@ use Rattle.gf_reduced.specs.Forms.{monic_set}
 use Rattle.gf_reduced.specs.Markings.{IsMarkedGroebnerBasis}
 use Rattle.gf_reduced.specs.Refusals.{of_poly, IsReducedBasisRefusal, AreChecksWithinLimits}
 use Rattle.gf_facets.specs.Regions.{all_positive}
-use Rattle.gf_tree.specs.declared.error.TreeError.{TreeError}
-use Rattle.gf_tree.specs.declared.error.TreeError.TheVariants as tree_errors
+use Rattle.gf_flip.specs.declared.error.TreeError.{TreeError}
+use Rattle.gf_flip.specs.declared.error.TreeError.TheVariants as tree_errors
 use Rattle.gf_tree.specs.Ideals.{ideal_by}
 use Rattle.gf_tree.specs.Refusals.{IsWayRefused, IsTreeWithinLimits}
 use Rattle.gf_front.specs.declared.refusal.Refusal.{Refusal}

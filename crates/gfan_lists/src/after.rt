@@ -8,7 +8,7 @@ ghost use Rattle.gf_text.specs.Sets.{AreIn};
 ghost use Rattle.gf_reduced.specs.Markings.{IsMarkedGroebnerBasis};
 ghost use Rattle.gf_reduced.specs.Refusals.{IsReducedRefusalBeside};
 ghost use Rattle.gf_reverse.specs.Upward.{IsNode, IsNodeIn, fan_of};
-ghost use Rattle.gf_tree.specs.declared.error.TreeError.{TreeError};
+ghost use Rattle.gf_flip.specs.declared.error.TreeError.{TreeError};
 ghost use Rattle.gf_tree.specs.Ideals.{ideal_within};
 ghost use Rattle.gf_tree.specs.Refusals.{IsTreeRefusal};
 ghost use Rattle.gfan_common.specs.Causes.{of_tree};

@@ -65,7 +65,7 @@ use Rattle.gf_initial.proofs.MatchingLaws.{matched-from}
 use Rattle.gf_initial.proofs.PartLaws.{part-there}
 use Rattle.gf_initial.proofs.SideLaws.{IsSide, level_of_along}
 use Rattle.gf_initial.proofs.FlipLaws.{side_of_inside, along_negated, part_facts}
-use Rattle.gf_flip.specs.Along.{AreAlong, IsBasisOfParts}
+use Rattle.gf_lines.specs.Along.{AreAlong, IsBasisOfParts}
 use Rattle.gf_flip.specs.Operations.{IsFlipExponents, IsFlipWithinLimits}
 use Rattle.gf_binomial_calls.proofs.FlipLaws.{flip_fits}
 use Rattle.gfan_theory.specs.Linear.{IsLinear, AreLinearForms, AreLinearDifferences}

@@ -1,5 +1,5 @@
 use Rattle.std.proofs.Common.{List, ℤ, IfErr, sym, subst}
-use Rattle.gf_flip.specs.Crossings.{IsCrossing}
+use Rattle.gf_lifts.specs.Crossings.{IsCrossing}
 use Rattle.gf_flip.specs.Operations.{IsFlipRefusal, IsFlipWithinLimits}
 use Rattle.gf_back.proofs.BackLaws.{crosses_back, if_back}
 use Rattle.gf_back.proofs.back.flip_back.Goals as goal

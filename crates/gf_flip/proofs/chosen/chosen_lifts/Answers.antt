@@ -1,7 +1,7 @@
 use Rattle.std.proofs.Common.{get_or, length, arith, false, sym, subst}
 use Rattle.gf_poly.specs.Marking.{MarkedPolynomial}
-use Rattle.gf_flip.specs.Monomials.{IsAddedWhere}
-use Rattle.gf_flip.specs.Lines.{line_members}
+use Rattle.gf_lines.specs.Monomials.{IsAddedWhere}
+use Rattle.gf_lines.specs.Lines.{line_members}
 use Rattle.gf_flip.proofs.ChosenLaws.{lifted_front, lifted_line}
 use Rattle.gf_flip.proofs.chosen.chosen_lifts.Goals as goal
 

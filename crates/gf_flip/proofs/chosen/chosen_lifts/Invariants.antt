@@ -1,6 +1,6 @@
 use Rattle.std.proofs.Common.{◌+◌, ◌≤◌, length}
-use Rattle.gf_flip.specs.Lines.{line_members}
-use Rattle.gf_flip.specs.Monomials.{with_monomials}
+use Rattle.gf_lines.specs.Lines.{line_members}
+use Rattle.gf_lines.specs.Monomials.{with_monomials}
 use Rattle.gf_flip.proofs.ChosenLaws.{AreLiftedTo}
 use Rattle.gf_flip.proofs.chosen.chosen_lifts.Given as goal
 

@@ -1,6 +1,6 @@
 use Rattle.std.proofs.Common.{IfSome, sym, subst}
 use Rattle.gf_poly.specs.Marking.{MarkedPolynomial}
-use Rattle.gf_flip.specs.Tops.{IsQuotientAt}
+use Rattle.gf_lifts.specs.Tops.{IsQuotientAt}
 use Rattle.gf_flip.proofs.ChosenLaws.{if_origin_lifted, if_origin_variables, if_twin_lifted, twin_monic}
 use Rattle.gf_flip.proofs.chosen.lift.Goals as goal
 

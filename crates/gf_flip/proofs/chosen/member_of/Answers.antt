@@ -1,7 +1,7 @@
 use Rattle.std.proofs.Common.{length, arith, sym, ap, subst, refl, ◌≡◌}
 use Rattle.gf_poly.specs.Polynomial.{Terms, HasVariables}
-use Rattle.gf_flip.specs.Lines.{line_member}
-use Rattle.gf_flip.proofs.LineLaws.{member_variables}
+use Rattle.gf_lines.specs.Lines.{line_member}
+use Rattle.gf_lines.proofs.LineLaws.{member_variables}
 use Rattle.gf_flip.proofs.ChosenLaws.{terms_end}
 use Rattle.gf_flip.proofs.chosen.member_of.Goals as goal
 

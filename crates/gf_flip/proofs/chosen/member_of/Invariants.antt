@@ -1,6 +1,6 @@
 use Rattle.std.proofs.Common.{◌≡◌, ◌≤◌, length, take, ◌∷◌}
 use Rattle.gf_frac.specs.Fraction.{one_ℚ}
-use Rattle.gf_flip.specs.Lines.{line_terms}
+use Rattle.gf_lines.specs.Lines.{line_terms}
 use Rattle.gf_flip.proofs.chosen.member_of.Given as goal
 
 abbrev pub invariant-points : goal.invariant-points

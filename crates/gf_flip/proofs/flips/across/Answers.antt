@@ -1,6 +1,7 @@
 use Rattle.std.proofs.Common.{refl, ap, ◌∙◌}
-use Rattle.gf_flip.proofs.LiftTailLaws.{copies-length}
-use Rattle.gf_flip.proofs.FlipSteps.{have_at, lifts_weight, ended_variables, ended_neighbour}
+use Rattle.gf_lifts.proofs.LiftTailLaws.{copies-length}
+use Rattle.gf_lifts.proofs.CrossingMath.{have_at}
+use Rattle.gf_flip.proofs.FlipSteps.{lifts_weight, ended_variables, ended_neighbour}
 use Rattle.gf_flip.proofs.RunSteps.{ending_of}
 use Rattle.gf_flip.proofs.flips.across.Goals as goal
 

@@ -1,11 +1,11 @@
 use Rattle.std.proofs.lemmas.Result.{err_from_is_err_and}
-use Rattle.gf_flip.proofs.CrossingMath.{liftable, ever_lifted}
+use Rattle.gf_lifts.proofs.CrossingMath.{liftable, ever_lifted, realisable_at}
 use Rattle.gf_flip.proofs.RefusalSteps.{lifts_refused}
-use Rattle.gf_flip.proofs.FlipSteps.{realisable_at, if_neighbour, if_variables, if_tails_refused}
+use Rattle.gf_flip.proofs.FlipSteps.{if_neighbour, if_variables, if_tails_refused}
 use Rattle.gf_flip.proofs.flips.crossed.Goals as goal
 
-pub lifts-requires-clause-liftable : goal.lifts-requires-clause-liftable
-lifts-requires-clause-liftable c = liftable c.args.set.now.variables c.args.set.now.items c.args.normal.now c.args.below.now c.requires.crossing c.requires.parts
+pub literal_lifts-requires-clause-liftable : goal.literal_lifts-requires-clause-liftable
+literal_lifts-requires-clause-liftable c = liftable c.args.set.now.variables c.args.set.now.items c.args.normal.now c.args.below.now c.requires.crossing c.requires.parts
 
 pub returns-in_err-lifted-clause-cause : goal.returns-in_err-lifted-clause-cause
 returns-in_err-lifted-clause-cause c =

@@ -2,12 +2,12 @@ use Rattle.std.proofs.Common.{◌≡◌, List, IfSome, length, map, ◌==◌, re
 use Rattle.gf_poly.specs.Polynomial.{Terms}
 use Rattle.gf_poly.specs.Marking.{MarkedPolynomial}
 use Rattle.gf_initial.specs.Lifts.{AreTopLifts}
-use Rattle.gf_flip.specs.Along.{HasNonzero, AreAlong, AreSmall}
-use Rattle.gf_flip.specs.Lifting.{AreMonic}
-use Rattle.gf_flip.specs.Tops.{AreAloneWhere}
+use Rattle.gf_lines.specs.Along.{HasNonzero, AreAlong, AreSmall}
+use Rattle.gf_lines.specs.Members.{AreMonic}
+use Rattle.gf_flip.specs.Chosen.{AreAloneWhere}
 use Rattle.gf_flip.proofs.AloneLaws.{alone_where, alone_at}
-use Rattle.gf_flip.proofs.CrossingMath.{crossing_width, crossing_nonzero, monic_parts}
-use Rattle.gf_flip.proofs.FlipSteps.{along_at, have_at, weight_at}
+use Rattle.gf_lifts.proofs.CrossingMath.{crossing_width, crossing_nonzero, monic_parts, have_at}
+use Rattle.gf_flip.proofs.FlipSteps.{along_at, weight_at}
 use Rattle.gf_flip.proofs.RunSteps.{if_lifts_of}
 use Rattle.gf_flip.proofs.flips.lifts_by_queue.Goals as goal
 

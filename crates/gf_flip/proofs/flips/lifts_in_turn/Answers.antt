@@ -1,7 +1,6 @@
 use Rattle.std.proofs.Common.{length, sym, ap, subst, ◌∙◌}
-use Rattle.gf_flip.specs.Along.{HasNonzero}
-use Rattle.gf_flip.proofs.CrossingMath.{crossing_width, crossing_nonzero}
-use Rattle.gf_flip.proofs.FlipSteps.{have_at}
+use Rattle.gf_lines.specs.Along.{HasNonzero}
+use Rattle.gf_lifts.proofs.CrossingMath.{crossing_width, crossing_nonzero, have_at}
 use Rattle.gf_flip.proofs.RunSteps.{crossing_at, lifts_under}
 use Rattle.gf_flip.proofs.flips.lifts_in_turn.Goals as goal
 

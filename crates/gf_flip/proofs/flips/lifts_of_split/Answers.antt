@@ -3,11 +3,11 @@ use Rattle.gf_initial.specs.Lifts.{AreTopLifts}
 use Rattle.gf_ideal.proofs.ListLaws.{each_contained}
 use Rattle.gf_poly.specs.Polynomial.{HasVariables}
 use Rattle.gf_poly.specs.Marking.{MarkedPolynomial}
-use Rattle.gf_flip.specs.declared.lines.Line.{Line}
-use Rattle.gf_flip.specs.Lines.{line_members, terms_of_parts}
-use Rattle.gf_flip.specs.Monomials.{with_monomials, chosen}
+use Rattle.gf_lines.specs.declared.lines.Line.{Line}
+use Rattle.gf_lines.specs.Lines.{line_members, terms_of_parts}
+use Rattle.gf_lines.specs.Monomials.{with_monomials, chosen}
 use Rattle.gf_flip.proofs.RunSteps.{start_of, entering_of, ground_of, end_later, run_lifts}
-use Rattle.gf_flip.proofs.SplitLaws.{split_size, split_alone}
+use Rattle.gf_lines.proofs.SplitLaws.{split_size, split_alone}
 use Rattle.gf_flip.proofs.flips.lifts_of_split.Goals as goal
 
 pub lines_in_turn-requires-clause-ground : goal.lines_in_turn-requires-clause-ground

@@ -1,8 +1,8 @@
 use Rattle.std.proofs.Common.{length, sym, ap, ◌∙◌, subst}
-use Rattle.gf_flip.specs.Along.{HasNonzero, AreAlong, AreSmall}
+use Rattle.gf_lines.specs.Along.{HasNonzero, AreAlong, AreSmall}
 use Rattle.gf_flip.specs.Operations.{IsFlipRefusal}
-use Rattle.gf_flip.proofs.CrossingMath.{crossing_width, crossing_nonzero}
-use Rattle.gf_flip.proofs.FlipSteps.{along_at, have_at}
+use Rattle.gf_lifts.proofs.CrossingMath.{crossing_width, crossing_nonzero, have_at}
+use Rattle.gf_flip.proofs.FlipSteps.{along_at}
 use Rattle.gf_flip.proofs.flips.literal.Goals as goal
 
 pub parts-requires-clause-variables : goal.parts-requires-clause-variables

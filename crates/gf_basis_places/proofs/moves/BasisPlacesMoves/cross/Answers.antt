@@ -2,7 +2,7 @@ use Rattle.std.proofs.Common.{◌≡◌, ◌<◌, List, [], ℤ, length, get_or,
 use Rattle.std.proofs.lemmas.List.{get_or_default}
 use Rattle.std.proofs.lemmas.Result.{err_from_is_err_and}
 use Rattle.gf_poly.specs.Marking.{MarkedPolynomials}
-use Rattle.gf_flip.specs.Crossings.{IsNeighbour}
+use Rattle.gf_lifts.specs.Crossings.{IsNeighbour}
 use Rattle.gf_flip.specs.Operations.{IsFlipRefusal}
 use Rattle.gf_basis_places.specs.BasisRules.{IsCrossingStep, IsPlaceRefusal}
 use Rattle.gf_basis_places.proofs.StepLaws.{step_across, step_place, flip_here, beside}

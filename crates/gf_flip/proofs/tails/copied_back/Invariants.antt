@@ -1,6 +1,0 @@
-use Rattle.std.proofs.Common.{◌≤◌}
-use Rattle.gf_flip.specs.LiftTails.{AreCopiedFrom}
-use Rattle.gf_flip.proofs.tails.copied_back.Given as goal
-
-abbrev pub invariant-lifts : goal.invariant-lifts
-invariant-lifts l = record { copied : AreCopiedFrom l.copied l.end l.j; within : l.end ≤ l.j }

@@ -1,5 +1,0 @@
-use Rattle.gf_flip.specs.LiftTails.{AreCopiedTo}
-use Rattle.gf_flip.proofs.tails.copied_front.Given as goal
-
-abbrev pub invariant-lifts : goal.invariant-lifts
-invariant-lifts l = AreCopiedTo l.copied l.j

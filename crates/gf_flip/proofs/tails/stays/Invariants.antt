@@ -1,5 +1,0 @@
-use Rattle.gf_flip.proofs.LiftTailLaws.{ArePassed}
-use Rattle.gf_flip.proofs.tails.stays.Given as goal
-
-abbrev pub invariant-terms : goal.invariant-terms
-invariant-terms l = ArePassed l.lifts l.copied l.of_copy l.lift.head l.k l.terms

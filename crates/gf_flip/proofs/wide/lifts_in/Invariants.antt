@@ -1,6 +1,0 @@
-use Rattle.std.proofs.Common.{take}
-use Rattle.gf_flip.specs.LiftsInTurn.{AreLiftsIn}
-use Rattle.gf_flip.proofs.wide.lifts_in.Given as goal
-
-abbrev pub invariant-members : goal.invariant-members
-invariant-members l = AreLiftsIn l.done (take l.i l.below) l.all.items

@@ -1,0 +1,47 @@
+-- Remainders on lines: marks that divide a monomial, and polynomials that are taken in. Laws: proofs/FormLaws.antt, proofs/LineMarks.antt.
+-- Source: Cox, Little, O'Shea, Ideals, Varieties, and Algorithms, 2.3.
+use Rattle.std.specs.Prelude.{◌≡◌, ◌≢◌, ◌⊎◌, ℕ, ◌<◌, List, [], ◌∷◌, ◌++◌, length, Contains, ◌≤◌, get_or}
+use Rattle.gf_exponents.specs.Exponents.{Exponents, Divides}
+use Rattle.gf_exponents.specs.SixOrders.{MonomialOrder, below_of}
+use Rattle.gf_poly.specs.Polynomial.{Terms, HasVariables, KeepsVariables}
+use Rattle.gf_poly.specs.Marking.{MarkedPolynomial}
+use Rattle.gf_ideal.specs.Marks.{IsMarked}
+use Rattle.gf_ideal.specs.Reduction.{IsMonicForm, HasOneMonomial}
+use Rattle.gf_division.specs.Remainders.{IsRemainder}
+use Rattle.gf_lines.specs.declared.lines.Line.{Line}
+
+-- the mark of a member with one monomial divides x
+pub record HasCover (bs : List MarkedPolynomial) (x : Exponents) : Type 0 where
+  pub member : MarkedPolynomial
+  pub contained : Contains bs member
+  pub single : HasOneMonomial member
+  pub divides : Divides member.head x
+
+-- the monic form of r, marked at its greatest monomial, is the last member now
+pub record IsGrown (order : MonomialOrder) (r : Terms) (old new : List MarkedPolynomial) : Type 0 where
+  pub member : MarkedPolynomial
+  pub monic : IsMonicForm r member
+  pub marked : IsMarked (below_of order) member
+  pub poly : (n : ℕ) → HasVariables n r → HasVariables n member.poly
+  pub head : (n : ℕ) → HasVariables n r → length member.head ≡ n
+  pub members : new ≡ old ++ member ∷ []
+
+-- f was reduced by the members: to zero, and they are as before, or what is left is a new member
+pub record IsTakenIn (order : MonomialOrder) (f : Terms) (old new : List MarkedPolynomial) : Type 0 where
+  pub r : Terms
+  pub normal : IsRemainder old f r
+  pub variables : KeepsVariables f r
+  pub left : ((r ≡ []) × (new ≡ old)) ⊎ ((r ≢ []) × IsGrown order r old new)
+
+-- no mark of a line from the place i on divides x
+pub record NoLineFrom (ls : List Line) (i : ℕ) (x : Exponents) : Type 0 where
+  pub none : (j : ℕ) (l : Line) → i ≤ j → j < length ls → get_or ls j l ≡ l → Divides l.mark x → ⊥
+
+-- one does
+pub record HasLineFrom (ls : List Line) (i : ℕ) (x : Exponents) : Type 0 where
+  pub place : ℕ
+  pub from : i ≤ place
+  pub within : place < length ls
+  pub line : Line
+  pub at : get_or ls place line ≡ line
+  pub divides : Divides line.mark x

@@ -1,0 +1,39 @@
+-- The parts of the members along a vector, as a program keeps them: of a part that is one term alone the place of its member and the
+-- mark, of another one the terms. Laws: proofs/SplitLaws.antt.
+use Rattle.std.specs.Prelude.{◌≡◌, ℕ, List, [], ◌∷◌, ◌++◌, length, ℤ, true}
+use Rattle.gf_exponents.specs.Exponents.{Exponents, same}
+use Rattle.gf_poly.specs.Polynomial.{Terms}
+use Rattle.gf_poly.specs.Marking.{MarkedPolynomial}
+use Rattle.gf_ideal.specs.Settled.{IsAt}
+use Rattle.gf_ideal.specs.Membership.{HasMonomial}
+use Rattle.gf_ideal.specs.OrderTable.{AreMultipleApart}
+use Rattle.gf_lines.specs.declared.along.Split.{Split}
+use Rattle.gf_lines.specs.declared.lines.Part.{Part}
+use Rattle.gf_lines.specs.Lines.{IsPartOf, terms_of_part, AreSpots, AreFalling}
+
+-- no monomial of b but the mark is a multiple of a apart from it
+abbrev pub IsAlone : List ℤ → MarkedPolynomial → Type 0
+IsAlone a b = (x : Exponents) → HasMonomial b.poly x → AreMultipleApart a x b.head → same x b.head ≡ true
+
+-- the member at the place p has the mark x, and no other monomial of it is a multiple of a apart from that
+pub record IsAloneAt (a : List ℤ) (bs : List MarkedPolynomial) (p : ℕ) (x : Exponents) : Type 0 where
+  pub member : MarkedPolynomial
+  pub at : IsAt bs p member
+  pub head : member.head ≡ x
+  pub alone : IsAlone a member
+
+-- one member of bs after another, in their order: where no monomial of it but the mark is a multiple of a apart from that, its place may
+-- be the next one of the places and its mark the next one of xs; else its part is the next one of fs
+pub data AreSplit (a : List ℤ) : List MarkedPolynomial → List ℕ → List Exponents → List Terms → Type 0 where
+  none : AreSplit a [] [] [] []
+  alone : (bs : List MarkedPolynomial) (places : List ℕ) (xs : List Exponents) (fs : List Terms) (b : MarkedPolynomial) →
+      AreSplit a bs places xs fs → IsAlone a b → AreSplit a (bs ++ b ∷ []) (places ++ length bs ∷ []) (xs ++ b.head ∷ []) fs
+  part : (bs : List MarkedPolynomial) (places : List ℕ) (xs : List Exponents) (fs : List Terms) (b : MarkedPolynomial) (f : Terms) →
+      AreSplit a bs places xs fs → IsPartOf a b f → AreSplit a (bs ++ b ∷ []) places xs (fs ++ f ∷ [])
+
+-- the member b, which is at the place i, is the next one
+pub data IsSplitOn (a : List ℤ) (i : ℕ) (b : MarkedPolynomial) (old new : Split) : Type 0 where
+  alone : IsAlone a b → new.places.items ≡ old.places.items ++ i ∷ [] → new.marks.items ≡ old.marks.items ++ b.head ∷ [] →
+      new.list.items ≡ old.list.items → IsSplitOn a i b old new
+  part : (p : Part) → p.place ≡ i → p.base ≡ b.head → length p.base ≡ length a → IsPartOf a b (terms_of_part a p) → AreSpots a p.base p.points.items → AreFalling p.points.items →
+      new.places.items ≡ old.places.items → new.marks.items ≡ old.marks.items → new.list.items ≡ old.list.items ++ p ∷ [] → IsSplitOn a i b old new
