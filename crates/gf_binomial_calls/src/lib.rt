@@ -13,8 +13,8 @@ pub fn flips_of_binomials_fit()
     ensures { FlipsOfBinomialsFit }
 {}
 
-/// Reductions, bases, flips, searches over the bases and the tests of marked sets are never refused for the width of a
-/// coefficient, where all generators are pure difference binomials.
+/// Reductions, bases, flips, searches over the bases, saturations, the search for monomials in initial ideals and the tests of marked sets
+/// are never refused for the width of a coefficient, if all generators are pure difference binomials.
 pub fn refusals_tell_no_overflow()
     ensures { RefusalsTellNoOverflow }
 {}

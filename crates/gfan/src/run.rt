@@ -89,7 +89,8 @@ fn outcome<R: Threads + Sync, S: Source, K: Sink, F: Files, G: Gate>(
 /// - `WideRoot` only where they cut out one with an entry of its root above `2^63 - 1`, at the first one; or at an entry past `2^63` in
 ///   absolute value of a vector that `_tropicalintersection --basistest` comes to.
 /// - `Overflow`, `ExponentOverflow`, `ConeOverflow` and `WideVector` only for operands that the job may have, and that don't fit; `Overflow`
-///   never of `_generated`, nor of `_buchberger` and `_bases` where each polynomial is a monomial or a difference of two, without numbers;
+///   never of `_generated`; nor, if each polynomial that is read is a monomial or a difference of two, without numbers, of `_buchberger`,
+///   `_bases`, `_saturation`, `_weightvector`, `_groebnercone`, `_tropicalintersection`, `_ismarkedgroebnerbasis` and `_doesidealcontain`;
 ///   `PairBudget` only where the budget of the words is spent.
 /// - `ListLimit` only where the limit of the words is reached, and the list goes on; and always there, unless numbers of the work don't fit.
 /// - `WriteFault` only where a write of this call failed, or took nothing; a prefix of the answer may be
@@ -142,8 +143,8 @@ pub fn run<R: Threads + Sync, S: Source, K: Sink, E: Sink, F: Files, G: Gate>(
         texts → IsPastReach job texts most → (Rose (K.faults output.old) (K.faults output.new) → ⊥)
         → IsRefusedWith result (Refusal.ListLimit most) }
 
-    // Where each polynomial is written as a monomial or as the difference of two, without numbers, no coefficient of `_buchberger` and `_bases`
-    // leaves its range; nor does one of `_generated`.
+    // If each polynomial is written as a monomial or as the difference of two, without numbers, no coefficient overflows in the commands that
+    // `IsOnBinomials` lists; nor does one in `_generated`.
     ensures binomials { (job : Job) (texts : List (List ℕ)) (o : Overflow) → IsJobOf (map string_bytes words.now) job
         → AreGivenTexts (command_of job)
         (seen (S.left input.old) (S.given input.old) (S.faults input.old) (F.bytes files.old) (F.left files.old)
