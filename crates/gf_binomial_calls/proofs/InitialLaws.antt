@@ -1,8 +1,8 @@
 -- Initial forms of differences of two monomials, by whole weights of any sign: such differences again.
 -- To cite: initial_binomial, initial_monomial, forms_at_binomials, forms_at_variables. The rest are steps.
-use Rattle.std.proofs.Common.{◌≡◌, ◌⊎◌, ℕ, true, List, Contains, ℤ, ◌<ℤ◌, ◌≤ℤ◌, Option, Some, None, arith, refl, sym, ap, ◌∙◌, subst, inl, inr}
+use Rattle.std.proofs.Common.{if◌then◌else◌, ◌≡◌, ◌⊎◌, ℕ, true, List, Contains, ℤ, ◌<ℤ◌, ◌≤ℤ◌, Option, Some, None, arith, refl, sym, ap, ◌∙◌, subst, inl, inr}
 use Rattle.std.proofs.lemmas.Int.{ints}
-use Rattle.gf_frac.specs.Fraction.{◌+ℚ◌, neg_ℚ, zero_ℚ}
+use Rattle.gf_frac.specs.Fraction.{◌+ℚ◌, neg_ℚ, zero_ℚ, one_ℚ}
 use Rattle.gf_frac.proofs.FractionLaws.{+ℚ-neg_ℚ, zero_or_not}
 use Rattle.gf_exponents.specs.Exponents.{Exponents, same, whole_weight}
 use Rattle.gf_exponents.proofs.WholeWeightLaws.{whole_weight-same}
@@ -29,7 +29,7 @@ IsAt (Some x) e = same e x ≡ true
 
 at_or_off : (p : Option Exponents) (e : Exponents) → IsAt p e ⊎ (indicator p e ≡ zero_ℚ)
 at_or_off None e = inr refl
-at_or_off (Some x) e = elim (same_or_not e x) [ inl s ↦ inl s | inr n ↦ inr (grind (n)) ]
+at_or_off (Some x) e = elim (same_or_not e x) [ inl s ↦ inl s | inr n ↦ inr (ap (λ b. if b then one_ℚ else zero_ℚ) n) ]
 
 none_left : (p q : Option Exponents) (e : Exponents) → indicator p e ≡ zero_ℚ → indicator q e ≡ zero_ℚ → indicator p e +ℚ neg_ℚ (indicator q e) ≡ zero_ℚ
 none_left p q e a b = ap (λ z. z +ℚ neg_ℚ (indicator q e)) a ∙ ap (λ z. zero_ℚ +ℚ neg_ℚ z) b ∙ +ℚ-neg_ℚ zero_ℚ
@@ -182,7 +182,7 @@ module _ (w : List ℤ) (f g : Terms) (i : IsInitialForm w f g) where
 -- ---- those of the members of a basis
 
 module _ (v : List ℤ) (bs : List MarkedPolynomial) (fs : List Terms) (a : AreFormsAt v bs fs)
-(two : (b : MarkedPolynomial) → Contains bs b → IsBinomial b.poly) where
+    (two : (b : MarkedPolynomial) → Contains bs b → IsBinomial b.poly) where
   of_member : (f : Terms) → Contains fs f → (b : MarkedPolynomial) × Contains bs b × IsInitialForm v b.poly f
   of_member f c = at (Contains-marked a.parts f (subst (λ (z : List Terms). Contains z f) (sym a.polys_are) c))
     where

@@ -14,7 +14,7 @@ use Rattle.gf_poly.specs.Polynomial.{Terms}
 use Rattle.gf_poly.specs.Marking.{MarkedPolynomial, MarkedPolynomials, Each, polys}
 use Rattle.gf_ideal.specs.Membership.{IsInVariables, AreInVariables}
 use Rattle.gf_ideal.specs.Marks.{HasPositiveWeight}
-use Rattle.gf_ideal.specs.MonomialOrders.{IsOfGrade}
+use Rattle.gf_ideal.specs.MonomialOrders.{IsOfGrade, IsAdmissible}
 use Rattle.gf_ideal.specs.Bases.{IsBasis}
 use Rattle.gf_ideal.proofs.BasisLaws.{basis_of_groebner_for}
 use Rattle.gf_ideal.proofs.ListedTerms.{variables_by_terms}
@@ -27,14 +27,16 @@ use Rattle.gf_ideal.proofs.RingLaws.{in_ring_of}
 use Rattle.gf_buchberger.specs.declared.bases.BasisError.TheVariants as basis_errors
 use Rattle.gf_buchberger.specs.Bases.{IsArrangedBasis, IsBasisRefusal}
 use Rattle.gf_duality.specs.Faces.{Rows}
+use Rattle.gf_saturation.specs.Saturations.{AreLeftOver}
 use Rattle.gf_saturation.proofs.SaturationLaws.{extended_variables}
-use Rattle.gf_saturate.specs.Widening.{widened_term, rabinowitsch_terms, extended_list, variable_at}
+use Rattle.gf_saturate.specs.Widening.{widened_term, rabinowitsch_terms, extended_list, left_over, variable_at}
 use Rattle.gf_saturate.specs.Saturating.{step_order, step_list, IsVariableStep, IsOnTheWay, IsSaturateRefusal}
 use Rattle.gf_saturate.proofs.WideningLaws.{same-widened, length-variable}
 use Rattle.gf_saturate.proofs.StepLaws.{extended, left_over-are, to_eliminate}
 use Rattle.gf_initial_monomials.specs.declared.error.InitialError.TheVariants as initial
 use Rattle.gf_initial_monomials.specs.Refusals.{IsConeRefusal, IsFaceRefusal}
 use Rattle.gf_binomials.specs.Binomials.{indicator, IsBinomial, AreBinomials, AreMarkedBinomials}
+use Rattle.gf_binomials.proofs.MonomialLaws.{neg-zero}
 use Rattle.gf_binomials.proofs.BinomialLaws.{binomial-marked}
 use Rattle.gf_binomials.proofs.RunLaws.{run_fits}
 use Rattle.gf_binomial_bases.proofs.DecidedLaws.{decided_by_basis}
@@ -42,18 +44,18 @@ use Rattle.gf_binomial_bases.proofs.ReducedLaws.{reduced_binomials}
 use Rattle.gf_binomial_calls.proofs.InitialLaws.{forms_at_binomials, forms_at_variables}
 
 -- in n variables, and such binomials
-record AreInside (n : ℕ) (fs : List Terms) : Type 0 where
-  variables : AreInVariables n fs
-  binomials : AreBinomials fs
+pub record AreInside (n : ℕ) (fs : List Terms) : Type 0 where
+  pub variables : AreInVariables n fs
+  pub binomials : AreBinomials fs
 
 -- ---- one basis
 
-module _ (o : MonomialOrder) (n : ℕ) (fs : List Terms) (s : MarkedPolynomials) (i : AreInside n fs) (b : IsArrangedBasis o n fs s) where
+module _ (o : MonomialOrder) (n : ℕ) (fs : List Terms) (s : MarkedPolynomials) (a : IsAdmissible o n []) (i : AreInside n fs) (b : IsArrangedBasis o n fs s) where
   basis : IsBasis n fs s.items
   basis = basis_of_groebner_for n fs s.items (below_of o) (order-is o) weight b.reduced.basis
     where
       weight : HasPositiveWeight n s.items
-      weight = marked_positive (IsOfGrade n []) (below_of o) n s.items (order-weights o n [] tt) b.marked
+      weight = marked_positive (IsOfGrade n []) (below_of o) n s.items (order-weights o n [] a) b.marked
           (λ d c x p.
               let w = variables_by_terms n d.poly (b.arranged.canonical d c).variables in
               (refl, λ i l. w x p i l ∙ sym (w d.head (mark-there (below_of o) d (b.marked d c)) i l)))
@@ -79,7 +81,7 @@ widened_binomial f h = record { first = h.first; second = h.second; binomial = r
 
 negative : (b : Bool) → (if b then neg_ℚ one_ℚ else zero_ℚ) ≡ neg_ℚ (if b then one_ℚ else zero_ℚ)
 negative true = refl
-negative false = refl
+negative false = sym neg-zero
 
 relation_binomial : (u : Exponents) → IsBinomial (rabinowitsch_terms u)
 relation_binomial u = record {
@@ -115,20 +117,21 @@ module _ (n k : ℕ) (fs : List Terms) (l : k < n) (i : AreInside n fs) where
     variables = λ h c. let m = left.only h c in variables-equal n m.0.poly h m.3 m.2;
     binomials = λ h c.
         let m = left.only h c in
-        let d = binomial-marked m.0 (basis_binomials (step_order n) (n + 1) (step_list n k fs) s.basis step_inside s.is_basis m.0 m.1) in
+        let d = binomial-marked m.0 (basis_binomials (step_order n) (n + 1) (step_list n k fs) s.basis tt step_inside s.is_basis m.0 m.1) in
         record { first = d.first; second = d.second; binomial = record { equation = λ e. sym (m.3 e) ∙ d.binomial.equation e } };
   })
     where
+      left : AreLeftOver n s.basis.items (left_over n s.basis.items)
       left = left_over-are n s.basis.items s.basis.items (to_eliminate n (step_list n k fs) s.basis s.is_basis) (λ c m. m)
 
 -- ---- each set on the way
 
 pub way_on : (n : ℕ) (fs : List Terms) (k : ℕ) (hs : List Terms) → k ≤ n → AreInVariables n fs → AreBinomials fs → IsOnTheWay n fs k hs → AreInside n hs
 way_on n fs zero hs l v two (inl e) = subst (AreInside n) (sym e) (record { variables = v; binomials = two })
-way_on n fs zero hs l v two (inr (s, (b, e))) =
-    subst (AreInside n) (sym e) (basis_inside MonomialOrder.deglex n fs s (record { variables = v; binomials = two }) b)
-way_on n fs (suc k) hs l v two (gs, (w, inl s)) = left_inside n k gs (omega arith) (way_on n fs k gs (omega arith) v two w) hs s
-way_on n fs (suc k) hs l v two (gs, (w, inr (a, e))) = subst (AreInside n) (sym e) (way_on n fs k gs (omega arith) v two w)
+way_on n fs zero hs l v two (inr (s, b, e)) =
+    subst (AreInside n) (sym e) (basis_inside MonomialOrder.deglex n fs s tt (record { variables = v; binomials = two }) b)
+way_on n fs (suc k) hs l v two (gs, w, inl s) = left_inside n k gs (omega arith) (way_on n fs k gs (omega arith) v two w) hs s
+way_on n fs (suc k) hs l v two (gs, w, inr (a, e)) = subst (AreInside n) (sym e) (way_on n fs k gs (omega arith) v two w)
 
 run_narrow : (o : MonomialOrder) (n : ℕ) (fs : List Terms) (budget : ℕ) (x : Overflow) → AreBinomials fs →
     IsBasisRefusal o n fs budget (basis_errors.Overflow x) → ⊥
@@ -145,7 +148,7 @@ saturation_narrow n fs budget x v two (IsSaturateRefusal.no_memory m) = cc
 -- ---- initial ideals at the faces of a cone
 
 module _ (n : ℕ) (bs : List MarkedPolynomial) (two : AreMarkedBinomials (Contains bs))
-(inside : (b : MarkedPolynomial) → Contains bs b → IsInVariables n b.poly) where
+    (inside : (b : MarkedPolynomial) → Contains bs b → IsInVariables n b.poly) where
   pub cone_narrow : (rows : List (List ℤ)) (c : Rows) (pairs : ℕ) (x : Overflow) →
       IsConeRefusal n bs rows c pairs (initial.Saturation (basis_errors.Overflow x)) → ⊥
   cone_narrow rows c pairs x (IsConeRefusal.at_rays s h q) = absurd (cc)

@@ -120,7 +120,7 @@ fan_text_never n cones x (IsNoFanText.too_wide f w i h q) = cc
 fan_text_never n cones x (IsNoFanText.no_memory q) = cc
 
 untold_never : (as_fan certified : Bool) (n : ℕ) (hs es : List (List ℤ)) (x : Overflow) → IsUntoldAs as_fan certified n hs es (refusals.Overflow x) → ⊥
-untold_never false certified n hs es x (e, (q, h)) = sections_never e x q
+untold_never false certified n hs es x (e, q, h) = sections_never e x q
 untold_never true certified n hs es x (IsConeFanCause.at_rays o h q) = cc
 untold_never true certified n hs es x (IsConeFanCause.at_fan c i h) = fan_text_never n (c ∷ []) x h
 untold_never true certified n hs es x (IsConeFanCause.no_memory q) = cc

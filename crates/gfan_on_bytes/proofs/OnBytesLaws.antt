@@ -67,7 +67,7 @@ pub record IsRunOnBytes (input : List ℕ) (files : List FileInMemory) (p q : Se
   pub unwritten : o.faults ≡ 0
 
 module _ (words : List (List ℕ)) (input : List ℕ) (files : List FileInMemory) (p q : Seen) (o s : OutputSeen) (out : List ℕ)
-(b : IsRunOnBytes input files p q o s out) where
+    (b : IsRunOnBytes input files p q o s out) where
   known : (os : List Origin) → AreKnown os p q (map (text_of input files) os)
   known [] = tt
   known (Origin.the_input ∷ os) = ((b.bytes, b.read), known os)
