@@ -18,6 +18,7 @@ use Rattle.gf_binomial_calls.specs.Written.{written_polynomials}
 use Rattle.gf_binomial_calls.specs.Laws.{FlipsOfBinomialsFit, RefusalsTellNoOverflow, PlainSetsAreBinomials}
 use Rattle.gf_binomial_calls.proofs.FlipLaws.{flip_fits}
 use Rattle.gf_binomial_calls.proofs.TreeLaws.{flip_narrow, tree_narrow}
+use Rattle.gf_binomial_calls.proofs.SaturationLaws.{saturation_narrow, cone_narrow}
 use Rattle.gf_binomial_calls.proofs.CheckLaws.{polys_binomial, autoreduction_fits, paired_fits, test_fits, monic_forms_fit}
 use Rattle.gf_binomial_calls.specs.Limits.{LimitsAreMet}
 use Rattle.gf_binomial_calls.proofs.LimitLaws.{plain_difference, runs_within, flip_within, search_within}
@@ -42,6 +43,8 @@ refusals_tell_no_overflow = record {
   basis = basis_narrow;
   flip = flip_narrow;
   search = tree_narrow;
+  saturation = saturation_narrow;
+  initial_ideals = λ n bs rows c pairs o two inside r. cone_narrow n bs two inside rows c pairs o r;
   marked_basis = paired_fits (Unit {0});
   reduced_basis = λ k s o p r. paired_fits (AreReduced s.items) k s o p r;
   test = test_fits;

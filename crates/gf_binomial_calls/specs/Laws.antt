@@ -8,11 +8,15 @@ use Rattle.gf_exponents.specs.SixOrders.{MonomialOrder}
 use Rattle.gf_poly.specs.declared.error.PolyError.TheVariants as errors
 use Rattle.gf_poly.specs.Polynomial.{Terms}
 use Rattle.gf_poly.specs.Marking.{MarkedPolynomial, MarkedPolynomials, polys, IsArranged}
-use Rattle.gf_ideal.specs.Membership.{AreInVariables}
+use Rattle.gf_ideal.specs.Membership.{IsInVariables, AreInVariables}
 use Rattle.gf_division.specs.Steps.{IsReductionRefusal}
 use Rattle.gf_division.specs.Autoreduction.{IsAutoreductionRefusal}
 use Rattle.gf_buchberger.specs.declared.bases.BasisError.TheVariants as basis_errors
 use Rattle.gf_buchberger.specs.Bases.{IsBasisRefusal}
+use Rattle.gf_duality.specs.Faces.{Rows}
+use Rattle.gf_saturate.specs.Saturating.{IsSaturateRefusal}
+use Rattle.gf_initial_monomials.specs.declared.error.InitialError.TheVariants as initial
+use Rattle.gf_initial_monomials.specs.Refusals.{IsConeRefusal}
 use Rattle.gf_facets.specs.Regions.{Region}
 use Rattle.gf_facets.specs.Facets.{IsFlippable}
 use Rattle.gf_facets.specs.MarkedBases.{IsBasisInRegion}
@@ -39,9 +43,9 @@ FlipsOfBinomialsFit = (n : ℕ) (fs : List Terms) (k : Region) (bs : List Marked
     AreInVariables n fs → AreBinomials fs → IsBasisInRegion n fs k bs → IsFlippable n k bs a → IsFlipOperation n bs a op left right →
     Fits op left right
 
--- for pure difference binomials no overflow of fractions is reported: not for a reduction, for autoreduction, for a basis for an order, for
--- a flip, or for a search over the bases. Nor, for a marked set as it is read: for the test whether it is a Gröbner basis, for the test
--- whether it is the reduced one, for the autoreduction of its monic forms, or for a search over the bases of its ideal
+-- No refusal names two fractions: of a reduction, of autoreduction, of a basis for an order, of a flip, of a search over the bases, of a
+-- saturation, or of the question at which vectors of a cone the initial ideal has a monomial. Nor, of a marked set as it is read, one of the
+-- tests whether it is a Gröbner basis or the reduced one, of the autoreduction of its monic forms, or of a search over the bases of its ideal.
 pub record RefusalsTellNoOverflow : Type 0 where
   pub reduction : (bs : List MarkedPolynomial) (f : Terms) (o : Overflow) → AreMarkedBinomials (Contains bs) → IsBinomial f →
       IsReductionRefusal bs f (errors.Overflow o) → ⊥
@@ -53,6 +57,10 @@ pub record RefusalsTellNoOverflow : Type 0 where
       AreInVariables n fs → AreBinomials fs → IsBasisInRegion n fs k bs → IsFlippable n k bs a →
       IsFlipRefusal n bs a budget (basis_errors.Overflow o) → ⊥
   pub search : (F : Fan) (pairs : ℕ) (o : Overflow) → AreBinomials F.ideal → IsTreeRefusal F pairs (tree_errors.Overflow o) → ⊥
+  pub saturation : (n : ℕ) (fs : List Terms) (budget : ℕ) (o : Overflow) → AreInVariables n fs → AreBinomials fs →
+      IsSaturateRefusal n fs budget (basis_errors.Overflow o) → ⊥
+  pub initial_ideals : (n : ℕ) (bs : List MarkedPolynomial) (rows : List (List ℤ)) (c : Rows) (pairs : ℕ) (o : Overflow) → AreMarkedBinomials (Contains bs) →
+      ((b : MarkedPolynomial) → Contains bs b → IsInVariables n b.poly) → IsConeRefusal n bs rows c pairs (initial.Saturation (basis_errors.Overflow o)) → ⊥
   pub marked_basis : (k : ℕ) (s : MarkedPolynomials) (o : Overflow) → IsBinomialSet s → IsReducedBasisRefusal k s (check_errors.Overflow o) → ⊥
   pub reduced_basis : (k : ℕ) (s : MarkedPolynomials) (o : Overflow) → IsBinomialSet s → IsReducedRefusal k s (check_errors.Overflow o) → ⊥
   pub test : (s : MarkedPolynomials) (o : Overflow) → IsBinomialSet s → IsTestRefusal s (check_errors.Overflow o) → ⊥

@@ -11,8 +11,8 @@ pub fn flips_of_binomials_fit()
     ensures { FlipsOfBinomialsFit }
 {}
 
-/// If all generators are pure difference binomials, then reductions, bases, flips, searches over the bases and the tests of marked sets are
-/// never refused because a coefficient is too wide.
+/// Reductions, bases, flips, searches over the bases, saturations, the search for monomials in initial ideals and the tests of marked sets
+/// are never refused for the width of a coefficient, if all generators are pure difference binomials.
 pub fn refusals_tell_no_overflow()
     ensures { RefusalsTellNoOverflow }
 {}

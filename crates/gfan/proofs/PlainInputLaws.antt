@@ -1,38 +1,19 @@
--- Where each polynomial is written as a monomial or as the difference of two, without numbers, `_buchberger` and `_bases` are never refused for
--- a coefficient; nor is `_generated`.
--- To cite: never_overflows; one_input. The rest are steps.
+-- If each polynomial is written as a monomial or as the difference of two, without numbers, no coefficient of these commands overflows:
+-- `_buchberger`, `_bases`, `_saturation`, `_weightvector`, `_groebnercone`, `_tropicalintersection`, also with `--basistest`,
+-- `_ismarkedgroebnerbasis`, `_doesidealcontain`; nor one of `_generated`.
+-- To cite: never_overflows. The rest are steps.
 use Rattle.std.specs.Prelude.{◌≡◌, ℕ, Bool, true, false, List, [], ◌∷◌, ◌++◌, length, map, Contains, Option, None, Some, is_some, ℤ}
-use Rattle.std.proofs.Common.{arith, refl, sym, ap, ◌∙◌, subst, inl, inr}
+use Rattle.std.proofs.Common.{subst, inl, inr}
 use Rattle.std.proofs.lemmas.List.Sorted.{Contains-permutation, IsPermutation-sym}
 use Rattle.gf_frac.specs.declared.refusal.Overflow.{Overflow}
 use Rattle.gf_exponents.specs.SixOrders.{MonomialOrder}
-use Rattle.gf_exponents.proofs.ExponentsLaws.{same_lists, entries_same}
 use Rattle.gf_poly.specs.declared.error.PolyError.{PolyError}
 use Rattle.gf_poly.specs.declared.error.PolyError.TheVariants as errors
-use Rattle.gf_poly.specs.Polynomial.{Terms, HasVariables}
-use Rattle.gf_poly.specs.Marking.{MarkedPolynomial, MarkedPolynomials, Each, HasMarkedTerm, polys}
-use Rattle.gf_poly.proofs.CoefficientLaws.{term_length}
-use Rattle.gf_poly.proofs.InitialFormLaws.{occurs}
+use Rattle.gf_poly.specs.Polynomial.{Terms}
+use Rattle.gf_poly.specs.Marking.{MarkedPolynomial, MarkedPolynomials, polys}
 use Rattle.gf_ideal.specs.Membership.{AreInVariables}
-use Rattle.gf_ideal.proofs.ListLaws.{each_contained, contained_each}
 use Rattle.gf_ideal.proofs.PieceLaws.{Contains-marked}
-use Rattle.gf_text.specs.declared.error.TextError.{TextError}
 use Rattle.gf_text.specs.declared.error.TextError.TheVariants as text_errors
-use Rattle.gf_text.specs.declared.tree.WrittenTerm.{WrittenTerm}
-use Rattle.gf_text.specs.declared.written.Written.{Written}
-use Rattle.gf_text.specs.declared.written.Written.TheVariants as written
-use Rattle.gf_text.specs.Machine.{Reads}
-use Rattle.gf_text.specs.Tokens.{Position, lexemes, ring_more, lex_tokens}
-use Rattle.gf_text.specs.Rings.{IsRingRead}
-use Rattle.gf_text.specs.SetText.{IsSetText}
-use Rattle.gf_text.specs.Combining.{SumsHaveVariables, IsSumMarked}
-use Rattle.gf_text.specs.Sets.{AreWritten, IsSetRead, IsMarkedRead, HasSumOverflow}
-use Rattle.gf_text.proofs.CombiningLaws.{sums_variables}
-use Rattle.gf_text.proofs.SetMachineLaws.{one_set}
-use Rattle.gf_buchberger.specs.declared.bases.BasisError.{BasisError}
-use Rattle.gf_buchberger.specs.declared.bases.BasisError.TheVariants as basis_errors
-use Rattle.gf_buchberger.specs.Bases.{IsBasisRefusal}
-use Rattle.gf_reduced.specs.declared.error.CheckError.{CheckError}
 use Rattle.gf_reduced.specs.declared.error.CheckError.TheVariants as check_errors
 use Rattle.gf_division.specs.Autoreduction.{IsAutoreductionRefusal}
 use Rattle.gf_reduced.specs.Forms.{monic_of}
@@ -41,18 +22,14 @@ use Rattle.gf_reduced.proofs.GroebnerLaws.{polys_variables}
 use Rattle.gf_flip.specs.declared.error.TreeError.{TreeError}
 use Rattle.gf_flip.specs.declared.error.TreeError.TheVariants as tree_errors
 use Rattle.gf_facets.specs.Regions.{Region, all_positive}
-use Rattle.gf_reverse.specs.Upward.{Fan}
 use Rattle.gf_tree.specs.Ideals.{ideal_by, ideal_within}
 use Rattle.gf_tree.specs.Refusals.{IsTreeRefusal}
 use Rattle.gf_subtree.proofs.BasisRowLaws.{early_refused}
-use Rattle.gf_weights.specs.declared.error.WeightError.{WeightError}
-use Rattle.gf_weights.specs.declared.error.WeightError.TheVariants as weight_errors
 use Rattle.gf_binomials.specs.Binomials.{IsBinomial, AreBinomials, AreMarkedBinomials}
 use Rattle.gf_binomial_bases.proofs.LawsHold.{bases_of_binomials}
 use Rattle.gf_binomial_calls.specs.Sets.{IsBinomialSet}
-use Rattle.gf_binomial_calls.specs.Written.{ArePlainlyWritten, written_polynomials}
 use Rattle.gf_binomial_calls.proofs.CheckLaws.{member_fits, polys_binomial, forms_binomial, pairs_fit}
-use Rattle.gf_binomial_calls.proofs.LawsHold.{refusals_tell_no_overflow, plain_sets_are_binomials}
+use Rattle.gf_binomial_calls.proofs.LawsHold.{refusals_tell_no_overflow}
 use Rattle.gf_generated.specs.Generated.{generated_set}
 use Rattle.gf_generated.proofs.GeneratedLaws.{generators_are_binomials}
 use Rattle.gf_front.specs.declared.options.BuchbergerOptions.{BuchbergerOptions}
@@ -62,11 +39,9 @@ use Rattle.gf_front.specs.declared.command_line.Job.TheVariants as jobs
 use Rattle.gf_front.specs.declared.refusal.Refusal.{Refusal}
 use Rattle.gf_front.specs.declared.refusal.Refusal.TheVariants as refusals
 use Rattle.gf_front.specs.Jobs.{IsJobOf}
-use Rattle.gf_items.specs.Items.{from, a_vector, IsOneRefused, IsRefusedWhere, IsTextOf, IsTextRefused}
+use Rattle.gf_items.specs.Items.{IsTextOf, IsTextRefused}
 use Rattle.gf_items.specs.Sources.{vectors_alone, ring_set_vector, ring_marked_set}
 use Rattle.gf_items.specs.Checks.{FirstFails}
-use Rattle.gf_items.specs.Refusals.{of_text}
-use Rattle.gf_items.proofs.ItemLaws.{ring_once}
 use Rattle.gf_frame.specs.Seen.{Seen, OutputSeen}
 use Rattle.gf_frame.specs.Loading.{Origin, AreLoaded}
 use Rattle.gf_frame.specs.Readings.{of_more}
@@ -77,7 +52,7 @@ use Rattle.gf_frame.proofs.LoadingLaws.{loaded_known, unloaded_known}
 use Rattle.gf_frame.proofs.ProgramLaws.{stopped_as}
 use Rattle.gfan_lists.specs.declared.bases.ListOptions.{ListOptions}
 use Rattle.gfan_common.specs.Forms.{generators_of, form}
-use Rattle.gfan_common.specs.Causes.{of_basis, of_weight_error, of_tree}
+use Rattle.gfan_common.specs.Causes.{of_tree}
 use Rattle.gfan_sets.specs.Buchberger.{buchberger_command}
 use Rattle.gfan_lists.specs.BasesWriting.{StartsIn}
 use Rattle.gfan_common.specs.CheckedSets.{of_check, IsSomeReductionRefusal}
@@ -92,43 +67,14 @@ use Rattle.gfan_common.specs.ToolForms.{for_each}
 use Rattle.gfan_lists.specs.Within.{of_region, IsCauseWithin, IsGivenRegionRootRefusal, IsGivenStartRefusal, IsGivenCauseWithin, bases_within_command, given_within_command}
 use Rattle.gfan.specs.Commands.{list_options, list_command, bases_of, list_of, command_of}
 use Rattle.gfan.specs.PlainInputs.{IsPlainList, BeginsPlainly, IsPlainAfter, IsOnBinomials, IsPlainFrom}
-use Rattle.gfan_common.proofs.ReadSetLaws.{IsKeptMember, marked_kept, one_kept}
 use Rattle.gfan_lists.proofs.BasesListLaws.{given_node}
 use Rattle.gfan_lists.proofs.GivenBasisLaws.{way_in_tree}
 use Rattle.gfan.proofs.CommandLaws.{lawful}
 use Rattle.gfan.proofs.SourceLaws.{from_alone}
-
--- ---- what a refusal tells
-
-tells_text : (e : TextError) (x : Overflow) → refusals.Overflow x ≡ of_text e → e ≡ text_errors.Overflow x
-tells_text (text_errors.Overflow o) x q = let s : o ≡ x = cc in ap (λ z. text_errors.Overflow z) s
-tells_text (text_errors.Exponent o) x q = cc
-tells_text (text_errors.Syntax s) x q = cc
-tells_text (text_errors.TooWide at) x q = cc
-tells_text (text_errors.UnknownName at) x q = cc
-tells_text (text_errors.TooManyVariables count) x q = cc
-tells_text (text_errors.ZeroPolynomial set index) x q = cc
-tells_text text_errors.Memory x q = cc
-
-no_weight : (e : WeightError) (x : Overflow) → refusals.Overflow x ≡ of_weight_error e → ⊥
-no_weight (weight_errors.Cone o) x q = cc
-no_weight (weight_errors.Wide w) x q = cc
-no_weight weight_errors.Memory x q = cc
+use Rattle.gfan.proofs.PlainReadLaws.{tells_text, no_weight, basis_never, tree_never, check_never, poly_never, set_binomials, marked_binomials, set_text_never, marked_text_never}
+use Rattle.gfan.proofs.PlainToolLaws.{saturation_never, tropical_never, tropical_at_end, weights_never, weights_at_end, cone_never, cone_at_end, plain_never, plain_at_end}
 
 -- ---- runs and searches
-
-basis_never : (order : MonomialOrder) (n : ℕ) (fs : List Terms) (pairs : ℕ) (e : BasisError) (x : Overflow) → AreBinomials fs → IsBasisRefusal order n fs pairs e → refusals.Overflow x ≡ of_basis e → ⊥
-basis_never order n fs pairs (basis_errors.Overflow o) x b h q = refusals_tell_no_overflow.basis order n fs pairs o b h
-basis_never order n fs pairs (basis_errors.Exponent o) x b h q = cc
-basis_never order n fs pairs (basis_errors.PairBudget s u) x b h q = cc
-basis_never order n fs pairs basis_errors.Memory x b h q = cc
-
-tree_never : (F : Fan) (pairs : ℕ) (e : TreeError) (x : Overflow) → ((o : Overflow) → IsTreeRefusal F pairs (tree_errors.Overflow o) → ⊥) → IsTreeRefusal F pairs e → refusals.Overflow x ≡ of_tree e → ⊥
-tree_never F pairs (tree_errors.Overflow o) x never h q = never o h
-tree_never F pairs (tree_errors.Exponent o) x never h q = cc
-tree_never F pairs (tree_errors.PairBudget s u) x never h q = cc
-tree_never F pairs (tree_errors.Cone o) x never h q = cc
-tree_never F pairs tree_errors.Memory x never h q = cc
 
 search_never : (before : List MarkedPolynomials) (o : ListOptions) (n : ℕ) (k : Region) (fs : List Terms) (e : TreeError) (x : Overflow) → ((o : Overflow) (pairs : ℕ) → IsTreeRefusal (ideal_within n fs k) pairs (tree_errors.Overflow o) → ⊥) → IsSearchRefusedBehind before o n k fs e →
     refusals.Overflow x ≡ of_tree e → ⊥
@@ -142,20 +88,6 @@ going_never before o n k fs x never (IsGoingCauseBehind.at_certificates c) = no_
 list_never : (o : ListOptions) (n : ℕ) (fs : List Terms) (x : Overflow) → AreBinomials fs → IsListCause o n fs (refusals.Overflow x) → ⊥
 list_never o n fs x b (IsListCause.at_root e h q) = basis_never MonomialOrder.deglex n fs o.pairs e x b h q
 list_never o n fs x b (IsListCause.going h) = going_never [] o n (all_positive n) fs x (λ y pairs k. refusals_tell_no_overflow.search (ideal_by n fs) pairs y b k) h
-
-check_never : (s : MarkedPolynomials) (e : CheckError) (x : Overflow) → ((o : Overflow) → e ≡ check_errors.Overflow o → ⊥) → refusals.Overflow x ≡ of_check e → ⊥
-check_never s (check_errors.Overflow o) x never q = never o refl
-check_never s (check_errors.Exponent o) x never q = cc
-check_never s (check_errors.NotReduced set polynomial term) x never q = cc
-check_never s (check_errors.NotBasis set first second remainder) x never q = cc
-check_never s (check_errors.Inconsistent set multipliers) x never q = cc
-check_never s (check_errors.Cone o) x never q = cc
-check_never s check_errors.Memory x never q = cc
-
-poly_never : (e : PolyError) (x : Overflow) → ((o : Overflow) → e ≡ errors.Overflow o → ⊥) → refusals.Overflow x ≡ of_check (of_poly e) → ⊥
-poly_never (errors.Overflow o) x never q = never o refl
-poly_never (errors.Exponent o) x never q = cc
-poly_never errors.Memory x never q = cc
 
 given_never : (o : ListOptions) (n : ℕ) (s : MarkedPolynomials) (x : Overflow) → IsBinomialSet s → IsGivenListCause o n s (refusals.Overflow x) → ⊥
 given_never o n s x b (IsGivenListCause.at_root (IsGivenRootRefusal.at_check e h q)) =
@@ -203,75 +135,9 @@ vectors_never : (file : List ℕ) (o : Overflow) → IsTextRefused vectors_alone
 vectors_never file o (IsTextRefused.in_items h) = h
 vectors_never file o (IsTextRefused.behind_items end a s r m q) = cc
 
--- ---- what is read
-
--- a polynomial that is read is marked at one of its terms
-marked_term : (n : ℕ) (f : Terms) (m : MarkedPolynomial) → HasVariables n f → IsSumMarked f m → length m.head ≡ n → HasMarkedTerm m
-marked_term n f m v h l =
-    let t = occurs m.poly m.head (λ z. h.marked.remains (sym (h.sum m.head) ∙ z)) in
-    let e : m.head ≡ t.0.mono = same_lists m.head t.0.mono (l ∙ sym (term_length n m.poly t.0 (h.variables.at n v) t.1)) (entries_same m.head t.0.mono t.2) in
-    record { descending = h.descending; mark = t.0.coef; term = subst (λ z. Contains m.poly (record { coef = t.0.coef; mono = z })) (sym e) t.1 }
-
-members_marked : (n : ℕ) (fs : List Terms) (bs : List MarkedPolynomial) → SumsHaveVariables n fs → AreWritten fs (map (λ b. written.Nonzero b) bs) → Each (IsKeptMember n) bs → Each HasMarkedTerm bs
-members_marked n [] [] v a k = tt
-members_marked n [] (b ∷ bs) v a k = absurd a
-members_marked n (f ∷ fs) [] v a k = absurd a
-members_marked n (f ∷ fs) (b ∷ bs) v a k = (marked_term n f b v.0 a.0 k.0.1, members_marked n fs bs v.1 a.1 k.1)
-
-each_member : (bs : List MarkedPolynomial) → Each IsBinomial (generators_of (map (λ b. written.Nonzero b) bs)) → Each (λ b. IsBinomial b.poly) bs
-each_member [] h = tt
-each_member (b ∷ bs) h = (h.0, each_member bs h.1)
-
-same_generators : (ws : List Written) → written_polynomials ws ≡ generators_of ws
-same_generators [] = refl
-same_generators (written.Zero ∷ ws) = ap (λ fs. [] ∷ fs) (same_generators ws)
-same_generators (written.Nonzero m ∷ ws) = ap (λ fs. m.poly ∷ fs) (same_generators ws)
+-- ---- one source
 
 module _ (source : List ℕ) (b : BeginsPlainly source) where
-  -- the source begins with one ring, and behind it one set
-  said_plain : (behind : ℕ) (ring : List (List ℕ)) (said : List (List WrittenTerm)) (place : ℕ) → IsRingRead (from source 0) behind ring → Reads (IsSetText ring) (lexemes (ring_more ring) source behind) said place → ArePlainlyWritten said
-  said_plain behind ring said place r t =
-      let same = ring_once.once (from source 0) behind b.behind ring b.ring r b.is_ring in
-      let moved = subst (λ n. Reads (IsSetText ring) (lexemes (ring_more ring) source n) b.said b.place) same.0 (subst (λ z. Reads (IsSetText z) (lexemes (ring_more z) source b.behind) b.said b.place) same.1 b.is_set) in
-      subst ArePlainlyWritten (one_set ring r.ring (lexemes (ring_more ring) source behind) b.said said b.place place moved t).0 b.plain
-
-  sum_never : (behind : ℕ) (ring : List (List ℕ)) (o : Overflow) → IsRingRead (from source 0) behind ring → HasSumOverflow ring (from source behind) o → ⊥
-  sum_never behind ring o r h = plain_sets_are_binomials.sums (length ring) h.said o (said_plain behind ring h.said h.place r h.text) (h.sums, h.exponents, h.overflow)
-
-  set_binomials : (behind : ℕ) (ring : List (List ℕ)) (place : ℕ) (ws : List Written) → IsRingRead (from source 0) behind ring → IsSetRead ring (from source behind) place ws → AreBinomials (generators_of ws)
-  set_binomials behind ring place ws r h =
-      subst AreBinomials (same_generators ws)
-      (plain_sets_are_binomials.meaning (length ring) h.said ws (said_plain behind ring h.said place r h.text) (record { sums = h.sums; exponents = h.exponents; fits = h.fits; written = h.written }))
-
-  marked_binomials : (behind : ℕ) (ring : List (List ℕ)) (place : ℕ) (s : MarkedPolynomials) → IsRingRead (from source 0) behind ring → IsMarkedRead ring (from source behind) place s → IsBinomialSet s
-  marked_binomials behind ring place s r h =
-      let k = one_kept ring (from source behind) place s h in
-      let terms = members_marked (length ring) h.read.sums s.items (sums_variables (length ring) h.read.said h.read.sums h.read.exponents) (subst (λ ws. AreWritten h.read.sums ws) h.items h.read.written) k.1 in
-      let each = each_member s.items (each_contained IsBinomial _ (subst (λ ws. AreBinomials (generators_of ws)) h.items (set_binomials behind ring place h.written r h.read))) in
-      record {
-        variables = marked_kept ring (from source behind) place s h;
-        marked = contained_each HasMarkedTerm s.items terms;
-        binomials = contained_each (λ c. IsBinomial c.poly) s.items each;
-      }
-
-  -- the text isn't refused so
-  vector_never : (asked : Bool) (p : Position) (o : Overflow) → IsRefusedWhere asked a_vector p (text_errors.Overflow o) → ⊥
-  vector_never true p o h = h
-  vector_never false p o h = h
-
-  set_text_never : (asked : Bool) (o : Overflow) → IsTextRefused (ring_set_vector asked) source (text_errors.Overflow o) → ⊥
-  set_text_never asked o (IsTextRefused.in_items (IsOneRefused.at_first h)) = h
-  set_text_never asked o (IsTextRefused.in_items (IsOneRefused.at_second behind ring r (IsOneRefused.at_first h))) = sum_never behind ring o r h
-  set_text_never asked o (IsTextRefused.in_items (IsOneRefused.at_second behind ring r (IsOneRefused.at_second place ws s h))) = vector_never asked (from source place) o h
-  set_text_never asked o (IsTextRefused.behind_items end a s r m q) = cc
-
-  marked_text_never : (o : Overflow) → IsTextRefused ring_marked_set source (text_errors.Overflow o) → ⊥
-  marked_text_never o (IsTextRefused.in_items (IsOneRefused.at_first h)) = h
-  marked_text_never o (IsTextRefused.in_items (IsOneRefused.at_second behind ring r h)) = sum_never behind ring o r h
-  marked_text_never o (IsTextRefused.behind_items end a s r m q) = cc
-
-  -- ---- the commands
-
   form_never : (revlex : Bool) (n : ℕ) (weight : Option (List ℤ)) (fs : List Terms) (x : Overflow) → FirstFails (form revlex n weight fs) (refusals.Overflow x) → ⊥
   form_never revlex n weight fs x (inl h) = h
   form_never revlex n weight fs x (inr (k, inl h)) = h
@@ -279,25 +145,25 @@ module _ (source : List ℕ) (b : BeginsPlainly source) where
   form_never revlex n weight fs x (inr (k, inr (l, inr (m, h)))) = h
 
   buchberger_never : (o : BuchbergerOptions) (x : Overflow) → IsRefusedOn (buchberger_command o) (source ∷ []) (refusals.Overflow x) → ⊥
-  buchberger_never o x (IsRefusedOn.in_text e h q) = set_text_never o.weighted x (subst (λ d. IsTextRefused (ring_set_vector o.weighted) source d) (tells_text e x q) h)
+  buchberger_never o x (IsRefusedOn.in_text e h q) = set_text_never source b o.weighted x (subst (λ d. IsTextRefused (ring_set_vector o.weighted) source d) (tells_text e x q) h)
   buchberger_never o x (IsRefusedOn.behind_text v r (IsUnanswered.in_form f)) = form_never o.revlex (length v.0) v.1.1 (generators_of v.1.0) x f
   buchberger_never o x (IsRefusedOn.behind_text v r (IsUnanswered.in_work f w)) =
-      basis_never _ (length v.0) (generators_of v.1.0) o.pairs w.0 x (set_binomials r.read.behind v.0 r.read.two.behind v.1.0 r.read.one r.read.two.one) w.2 w.1
+      basis_never _ (length v.0) (generators_of v.1.0) o.pairs w.0 x (set_binomials source b r.read.behind v.0 r.read.two.behind v.1.0 r.read.one r.read.two.one) w.2 w.1
   buchberger_never o x (IsRefusedOn.behind_text v r (IsUnanswered.no_memory m)) = cc
   buchberger_never o x (IsRefusedOn.no_memory m) = cc
 
   bases_never : (o : ListOptions) (x : Overflow) → IsRefusedOn (bases_command o) (source ∷ []) (refusals.Overflow x) → ⊥
-  bases_never o x (IsRefusedOn.in_text e h q) = set_text_never false x (subst (λ d. IsTextRefused (ring_set_vector false) source d) (tells_text e x q) h)
+  bases_never o x (IsRefusedOn.in_text e h q) = set_text_never source b false x (subst (λ d. IsTextRefused (ring_set_vector false) source d) (tells_text e x q) h)
   bases_never o x (IsRefusedOn.behind_text v r (IsUnanswered.in_form f)) = f
   bases_never o x (IsRefusedOn.behind_text v r (IsUnanswered.in_work f w)) =
-      list_never o (length v.0) (generators_of v.1.0) x (set_binomials r.read.behind v.0 r.read.two.behind v.1.0 r.read.one r.read.two.one) w
+      list_never o (length v.0) (generators_of v.1.0) x (set_binomials source b r.read.behind v.0 r.read.two.behind v.1.0 r.read.one r.read.two.one) w
   bases_never o x (IsRefusedOn.behind_text v r (IsUnanswered.no_memory m)) = cc
   bases_never o x (IsRefusedOn.no_memory m) = cc
 
   given_bases_never : (o : ListOptions) (x : Overflow) → IsRefusedOn (given_bases_command o) (source ∷ []) (refusals.Overflow x) → ⊥
-  given_bases_never o x (IsRefusedOn.in_text e h q) = marked_text_never x (subst (λ d. IsTextRefused ring_marked_set source d) (tells_text e x q) h)
+  given_bases_never o x (IsRefusedOn.in_text e h q) = marked_text_never source b x (subst (λ d. IsTextRefused ring_marked_set source d) (tells_text e x q) h)
   given_bases_never o x (IsRefusedOn.behind_text v r (IsUnanswered.in_form f)) = f
-  given_bases_never o x (IsRefusedOn.behind_text v r (IsUnanswered.in_work f w)) = given_never o (length v.0) v.1 x (marked_binomials r.read.behind v.0 r.end v.1 r.read.one r.read.two) w
+  given_bases_never o x (IsRefusedOn.behind_text v r (IsUnanswered.in_work f w)) = given_never o (length v.0) v.1 x (marked_binomials source b r.read.behind v.0 r.end v.1 r.read.one r.read.two) w
   given_bases_never o x (IsRefusedOn.behind_text v r (IsUnanswered.no_memory m)) = cc
   given_bases_never o x (IsRefusedOn.no_memory m) = cc
 
@@ -323,19 +189,19 @@ module _ (source : List ℕ) (b : BeginsPlainly source) where
 
   within_never : (name : List ℕ) (o : ListOptions) (file : List ℕ) (x : Overflow) → IsRefusedOn (bases_within_command name o) (file ∷ (source ∷ [])) (refusals.Overflow x) → ⊥
   within_never name o file x (IsRefusedOn.in_text e (inl h) q) = vectors_never file x (subst (λ d. IsTextRefused vectors_alone file d) (tells_text e x q) h)
-  within_never name o file x (IsRefusedOn.in_text e (inr h) q) = set_text_never false x (subst (λ d. IsTextRefused (ring_set_vector false) source d) (tells_text e x q) h.2)
+  within_never name o file x (IsRefusedOn.in_text e (inr h) q) = set_text_never source b false x (subst (λ d. IsTextRefused (ring_set_vector false) source d) (tells_text e x q) h.2)
   within_never name o file x (IsRefusedOn.behind_text v r (IsUnanswered.in_form f)) = lengths_never (length v.1.0) v.0 x f
   within_never name o file x (IsRefusedOn.behind_text v r (IsUnanswered.in_work f w)) =
-      cause_never o (length v.1.0) v.0 (generators_of v.1.1.0) x (set_binomials r.1.read.behind v.1.0 r.1.read.two.behind v.1.1.0 r.1.read.one r.1.read.two.one) w
+      cause_never o (length v.1.0) v.0 (generators_of v.1.1.0) x (set_binomials source b r.1.read.behind v.1.0 r.1.read.two.behind v.1.1.0 r.1.read.one r.1.read.two.one) w
   within_never name o file x (IsRefusedOn.behind_text v r (IsUnanswered.no_memory m)) = cc
   within_never name o file x (IsRefusedOn.no_memory m) = cc
 
   given_within_never : (name : List ℕ) (o : ListOptions) (file : List ℕ) (x : Overflow) → IsRefusedOn (given_within_command name o) (file ∷ (source ∷ [])) (refusals.Overflow x) → ⊥
   given_within_never name o file x (IsRefusedOn.in_text e (inl h) q) = vectors_never file x (subst (λ d. IsTextRefused vectors_alone file d) (tells_text e x q) h)
-  given_within_never name o file x (IsRefusedOn.in_text e (inr h) q) = marked_text_never x (subst (λ d. IsTextRefused ring_marked_set source d) (tells_text e x q) h.2)
+  given_within_never name o file x (IsRefusedOn.in_text e (inr h) q) = marked_text_never source b x (subst (λ d. IsTextRefused ring_marked_set source d) (tells_text e x q) h.2)
   given_within_never name o file x (IsRefusedOn.behind_text v r (IsUnanswered.in_form f)) = lengths_never (length v.1.0) v.0 x f
   given_within_never name o file x (IsRefusedOn.behind_text v r (IsUnanswered.in_work f w)) =
-      given_cause_never o (length v.1.0) v.0 v.1.1 x (marked_binomials r.1.read.behind v.1.0 r.1.end v.1.1 r.1.read.one r.1.read.two) w
+      given_cause_never o (length v.1.0) v.0 v.1.1 x (marked_binomials source b r.1.read.behind v.1.0 r.1.end v.1.1 r.1.read.one r.1.read.two) w
   given_within_never name o file x (IsRefusedOn.behind_text v r (IsUnanswered.no_memory m)) = cc
   given_within_never name o file x (IsRefusedOn.no_memory m) = cc
 
@@ -478,6 +344,11 @@ job_never (jobs.Buchberger o) (source ∷ []) x b h = buchberger_never source b 
 job_never (jobs.Buchberger o) (source ∷ (other ∷ others)) x b h = b
 job_never (jobs.Bases o) texts x b h = list_of_never o.after o.within o.from_basis (list_options o) texts x b h
 job_never (jobs.Generated o) texts x b h = generated_never o texts x h
+job_never (jobs.Saturation o) texts x b h = saturation_never o texts x b h
+job_never (jobs.WeightVector o) texts x b h = weights_never o.listed o.echoed texts x b h
+job_never (jobs.GroebnerCone o) texts x b h = cone_never o.vector_input o texts x b h
+job_never (jobs.TropicalIntersection o) texts x b h = tropical_never o.basis_test texts x b h
+job_never (jobs.Plain c) texts x b h = plain_never c texts x b h
 job_never _ texts x b h = absurd b
 
 -- ---- the run
@@ -486,6 +357,11 @@ takes_no_turns : (job : Job) (texts : List (List ℕ)) → IsOnBinomials job tex
 takes_no_turns (jobs.Buchberger o) texts b t = t
 takes_no_turns (jobs.Bases o) texts b t = from_alone o.after o.within o.from_basis (list_options o) t
 takes_no_turns (jobs.Generated o) texts b t = t
+takes_no_turns (jobs.Saturation o) texts b t = t
+takes_no_turns (jobs.WeightVector o) texts b t = weights_at_end o.listed o.echoed t
+takes_no_turns (jobs.GroebnerCone o) texts b t = cone_at_end o.vector_input o t
+takes_no_turns (jobs.TropicalIntersection o) texts b t = tropical_at_end o.basis_test t
+takes_no_turns (jobs.Plain c) texts b t = plain_at_end c t
 takes_no_turns _ texts b t = b
 
 not_cut : (c : Command) (writing : Writing c.Value) (texts : List (List ℕ)) (m q : Seen) (o s : OutputSeen) (r : Refusal) → (TakesTurns writing → ⊥) → AreCut c writing texts m q o s r → ⊥
@@ -508,63 +384,3 @@ module _ (words : List (List ℕ)) (p q : Seen) (o s : OutputSeen) (job : Job) (
     | inl k ↦ stopped k
     | inr m ↦ (let e : refusals.Overflow x ≡ refusals.Memory = m.0 in cc)
   ]
-
--- ---- an input that is written so
-
--- Q[a,b]{a-b}
-abbrev an_input : List ℕ
-an_input = 81 ∷ 91 ∷ 97 ∷ 44 ∷ 98 ∷ 93 ∷ 123 ∷ 97 ∷ 45 ∷ 98 ∷ 125 ∷ []
-
-abbrev two_names : List (List ℕ)
-two_names = (97 ∷ []) ∷ (98 ∷ []) ∷ []
-
-abbrev term_of : Bool → ℕ → WrittenTerm
-term_of minus variable = record { minus = minus; numer = 1; denom = 1; factors = record { variable = variable; exponent = 1 } ∷ [] }
-
-its_ring : IsRingRead (from an_input 0) 6 two_names
-unfolding lex_tokens
-its_ring = record {
-  text = record {
-    front = record { text = 81 ∷ []; at = 0 } ∷ record { text = 91 ∷ []; at = 1 } ∷ record { text = 97 ∷ []; at = 2 } ∷ record { text = 44 ∷ []; at = 3 } ∷ record { text = 98 ∷ []; at = 4 } ∷ record { text = 93 ∷ []; at = 5 } ∷ [];
-    back = record { text = 123 ∷ []; at = 6 } ∷ record { text = 97 ∷ []; at = 7 } ∷ record { text = 45 ∷ []; at = 8 } ∷ record { text = 98 ∷ []; at = 9 } ∷ record { text = 125 ∷ []; at = 10 } ∷ [];
-    whole = refl;
-    text = record { tokens = refl; some = omega arith; different = (refl, refl, (refl, refl, tt)) };
-    end = refl;
-  };
-  ring = record { some = omega arith; few = omega arith; different = (refl, refl, (refl, refl, tt)) };
-}
-
-its_set : Reads (IsSetText two_names) (lexemes (ring_more two_names) an_input 6) ((term_of false 0 ∷ term_of true 1 ∷ []) ∷ []) 11
-unfolding lex_tokens
-its_set = record {
-  front = record { text = 123 ∷ []; at = 6 } ∷ record { text = 97 ∷ []; at = 7 } ∷ record { text = 45 ∷ []; at = 8 } ∷ record { text = 98 ∷ []; at = 9 } ∷ record { text = 125 ∷ []; at = 10 } ∷ [];
-  back = [];
-  whole = refl;
-  text = (
-    (97 ∷ []) ∷ (45 ∷ []) ∷ (98 ∷ []) ∷ [],
-    [],
-    refl,
-    (
-      [],
-      (97 ∷ []) ∷ [],
-      (45 ∷ []) ∷ (98 ∷ []) ∷ [],
-      refl,
-      inr (refl, refl),
-      inr (refl, refl, ((97 ∷ []) ∷ [], [], refl, (97 ∷ [], refl, inl (refl, refl)), refl)),
-      ((98 ∷ []) ∷ [], [], refl, inr (refl, refl, ((98 ∷ []) ∷ [], [], refl, (98 ∷ [], refl, inl (refl, refl)), refl)), refl),
-    ),
-    refl,
-  );
-  end = refl;
-}
-
-pub one_input : BeginsPlainly an_input
-one_input = record {
-  ring = two_names;
-  behind = 6;
-  is_ring = its_ring;
-  said = (term_of false 0 ∷ term_of true 1 ∷ []) ∷ [];
-  place = 11;
-  is_set = its_set;
-  plain = ((record { numerator = refl; denominator = refl }, record { numerator = refl; denominator = refl }, λ e. cc), tt);
-}

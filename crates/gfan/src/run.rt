@@ -95,8 +95,8 @@ fn outcome<R: Threads + Sync, S: Source, K: Sink, F: Files, G: Gate>(
 /// - `WideRoot`: they cut out a region, and this is the first entry of its root that is greater than `2^63 - 1`; or it is an entry, greater
 ///   than `2^63` in absolute value, of a vector at which `_tropicalintersection --basistest` arrives.
 /// - `Overflow`, `ExponentOverflow`, `ConeOverflow`, `WideVector`: the operands of an operation that the job may need don't fit; never
-///   `Overflow` for `_generated`, nor for `_buchberger` and `_bases` if each polynomial is written as a monomial or a difference of two,
-///   without numbers.
+///   `Overflow` for `_generated`, nor, if each polynomial is written as a monomial or a difference of two, without numbers, for `_buchberger`,
+///   `_bases`, `_saturation`, `_weightvector`, `_groebnercone`, `_tropicalintersection`, `_ismarkedgroebnerbasis`, `_doesidealcontain`.
 /// - `PairBudget`: the budget that the arguments give is spent.
 /// - `ListLimit`: the limit that the arguments give is reached, and the list continues. It is always reported then, unless numbers of the
 ///   work don't fit.
@@ -150,8 +150,8 @@ pub fn run<R: Threads + Sync, S: Source, K: Sink, E: Sink, F: Files, G: Gate>(
         texts → IsPastReach job texts most → (Rose (K.faults output.old) (K.faults output.new) → ⊥)
         → IsRefusedWith result (Refusal.ListLimit most) }
 
-    // If each polynomial is written as a monomial or as a difference of two, without numbers, no coefficient of `_buchberger` and `_bases`
-    // leaves its range; nor does one of `_generated`.
+    // If each polynomial is written as a monomial or as a difference of two, without numbers, no coefficient overflows in the commands that
+    // `IsOnBinomials` lists; nor does one in `_generated`.
     ensures binomials { (job : Job) (texts : List (List ℕ)) (o : Overflow) → IsJobOf (map string_bytes words.now) job
         → AreGivenTexts (command_of job)
         (seen (S.left input.old) (S.given input.old) (S.faults input.old) (F.bytes files.old) (F.left files.old)

@@ -1,0 +1,1 @@
+pub mod OnBytesLaws  -- what the clauses of `run` say of bytes in memory
