@@ -50,7 +50,8 @@ pub record AreInside (n : ℕ) (fs : List Terms) : Type 0 where
 
 -- ---- one basis
 
-module _ (o : MonomialOrder) (n : ℕ) (fs : List Terms) (s : MarkedPolynomials) (a : IsAdmissible o n []) (i : AreInside n fs) (b : IsArrangedBasis o n fs s) where
+module _ (o : MonomialOrder) (n : ℕ) (fs : List Terms) (s : MarkedPolynomials) (a : IsAdmissible o n []) (i : AreInside n fs)
+    (b : IsArrangedBasis o n fs s) where
   basis : IsBasis n fs s.items
   basis = basis_of_groebner_for n fs s.items (below_of o) (order-is o) weight b.reduced.basis
     where
