@@ -1,6 +1,5 @@
 use Rattle.std.proofs.Common.{sym, subst}
-use Rattle.gf_reverse.specs.Lists.{IsListOfBases}
-use Rattle.gf_tree.specs.Walks.{AreLeft, walk_at}
+use Rattle.gf_tree.specs.Walks.{walk_at}
 use Rattle.gf_tree.proofs.ListingLaws.{list_below}
 use Rattle.gf_subtree.specs.Answers.{IsRowAnswer}
 use Rattle.gfan_callers.specs.Lists.{HaveGiven}
