@@ -7,8 +7,8 @@ ghost use Rattle.gf_initial_monomials.specs.Refusals.{IsFirstWideEntry, IsVector
 use crate::error::InitialError;
 use crate::forms::forms_at;
 use crate::seen::Seen;
-use gf_one_term::has_monomial;
 use gf_poly::{MarkedSet, ROOM};
+use gf_saturate::has_monomial;
 use gf_vec::IntVec;
 use std::alloc::Global;
 

@@ -5,3 +5,5 @@ pub mod SparedLaws  -- a variable that divides no mark adds nothing
 pub mod StageLaws  -- the sets on the way, and what stands at the end
 pub mod GradedLaws  -- sets that steps by division leave, and what stands at the end
 pub mod ChoiceLaws  -- which variables are enough
+pub mod SearchLaws  -- a list searched place by place
+pub mod OneTermLaws  -- what a polynomial of one term, or a mark that is 1, says of the ideal

@@ -1,9 +1,10 @@
 -- Saturations by division: one basis for each variable that is chosen, and members without all that their terms share.
 -- Laws: proofs/GradedLaws.antt. Source: Sturmfels, Gröbner Bases and Convex Polytopes, 12.
 use Rattle.std.specs.Prelude.{◌≡◌, ◌↔◌, ℕ, ◌<◌, ◌≤◌, List, [], ◌∷◌, Contains, All, ℤ, pos, ◌≤ℤ◌, length}
-use Rattle.gf_exponents.specs.Exponents.{Exponents, entry}
+use Rattle.gf_exponents.specs.Exponents.{Exponents, entry, join}
 use Rattle.gf_exponents.specs.Orders.{gains}
 use Rattle.gf_exponents.specs.SixOrders.{MonomialOrder}
+use Rattle.gf_poly.specs.declared.Term.{Term}
 use Rattle.gf_poly.specs.Polynomial.{Terms, HasVariables}
 use Rattle.gf_poly.specs.Marking.{MarkedPolynomial, MarkedPolynomials}
 use Rattle.gf_ideal.specs.Membership.{IsMember}
@@ -14,6 +15,20 @@ use Rattle.gf_dividing.specs.declared.Factors.{Factors}
 use Rattle.gf_dividing.specs.Dividing.{IsStripped}
 
 -- ---- which variables are enough
+
+-- each variable that occurs in x occurs in y
+abbrev pub AreInside : Exponents → Exponents → Type 0
+AreInside x y = (i : ℕ) → entry y i ≡ 0 → entry x i ≡ 0
+
+-- y is x; or f has two terms, the variables of one of which are in x, and y is x with those of the other
+pub data IsFollowed (f : Terms) (x y : Exponents) : Type 0 where
+  kept : y ≡ x → IsFollowed f x y
+  first : (t s : Term) → f ≡ t ∷ s ∷ [] → AreInside s.mono x → y ≡ join x t.mono → IsFollowed f x y
+  second : (t s : Term) → f ≡ t ∷ s ∷ [] → AreInside t.mono x → y ≡ join x s.mono → IsFollowed f x y
+
+-- what is in the saturation by y is in that by x
+abbrev pub IsEnoughFor : ℕ → List Terms → Exponents → Exponents → Type 0
+IsEnoughFor n fs y x = (f : Terms) → IsSaturatedBy n fs y f → IsSaturatedBy n fs x f
 
 -- saturating by v, in which each of n variables occurs once or not, is saturating by all
 pub record IsChoice (n : ℕ) (fs : List Terms) (v : Exponents) : Type 0 where

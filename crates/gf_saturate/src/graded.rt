@@ -11,9 +11,10 @@ ghost use Rattle.gf_saturate.specs.Graded.{IsByWeights, IsWeightedBasis, IsDivid
 ghost use Rattle.gf_saturate.specs.Graded.{IsDividedStep, IsChoice, GenerateSaturation};
 ghost use Rattle.gf_saturate.specs.Saturating.{IsSaturation};
 
+use crate::choice::{chosen, trials};
 use crate::grades::grade_of;
-use crate::stages::{copies, product};
-use gf_buchberger::basis;
+use crate::stages::copies;
+use gf_buchberger::{BasisError, basis};
 use gf_dividing::{Factors, stripped};
 use gf_order::Order;
 use gf_poly::{Marked, MarkedSet, Mono, Poly, ROOM};
@@ -87,6 +88,32 @@ fn lowered_basis(
     match basis(alloc, n, set, &order, pairs) {
         Ok(found) => Some(found),
         Err(_) => None,
+    }
+}
+
+/// The most pairs that a run may settle by which variables are compared.
+const FEW: u64 = 100;
+
+/// The most pairs of a run that ends soon.
+const SOON: u64 = 1000;
+
+/// How many members a run by this order has after a few pairs; 0 if it ends before.
+pub(crate) fn members_after(
+    alloc: Global,
+    n: u32,
+    k: u32,
+    grade: &[i128],
+    set: &[Poly],
+    pairs: u64,
+) -> u64
+    requires { HaveRingVariables n set.now }
+{
+    let Some(order) = lowered_order(alloc, n, k, grade) else {
+        return 0;
+    };
+    match basis(alloc, n, set, &order, pairs.min(FEW)) {
+        Err(BasisError::PairBudget { basis: members, .. }) => members.items().len() as u64,
+        _ => 0,
     }
 }
 
@@ -193,6 +220,23 @@ fn divided_by(
     Some(polys)
 }
 
+/// What the steps by the variables of a choice leave: where each run ends soon, of the first one, and else of one by which runs are faster.
+fn divided(alloc: Global, n: u32, grade: &[i128], set: &[Poly], pairs: u64) -> Option<Vec<Poly>>
+    requires room { n ≤ ROOM }
+    requires variables { HaveRingVariables n set.now }
+    ensures { IfSome result (λ all. GenerateSaturation n set.now all.items) }
+{
+    let first = chosen(alloc, n, [1; ROOM], set);
+    match divided_by(alloc, n, grade, &first, set, pairs.min(SOON)) {
+        Some(polys) => Some(polys),
+        None => {
+            let numbers = trials(alloc, n, grade, set, pairs);
+            let second = chosen(alloc, n, numbers, set);
+            divided_by(alloc, n, grade, &second, set, pairs)
+        }
+    }
+}
+
 /// The saturation of polynomials that a positive weight makes homogeneous, if such a weight is found and nothing is refused.
 pub(crate) fn by_division(alloc: Global, n: u32, set: &[Poly], pairs: u64) -> Option<MarkedSet>
     requires room { n < ROOM }
@@ -202,8 +246,7 @@ pub(crate) fn by_division(alloc: Global, n: u32, set: &[Poly], pairs: u64) -> Op
     let Some(grade) = grade_of(alloc, n, set) else {
         return None;
     };
-    let left = product(alloc, n);
-    let Some(polys) = divided_by(alloc, n, grade.as_slice(), &left, set, pairs) else {
+    let Some(polys) = divided(alloc, n, grade.as_slice(), set, pairs) else {
         return None;
     };
     match basis(alloc, n, &polys, &Order::deglex(), pairs) {

@@ -62,7 +62,8 @@ fn by_degree(alloc: Global, n: u32, set: &[Poly], pairs: u64) -> Result<MarkedSe
 /// a monomial has room for one variable more.
 ///
 /// Where a positive weight that makes the polynomials homogeneous is found, one variable x after another is taken out by a basis by twice
-/// this weight, less 1 at x, then revlex: its members are divided by all that their terms share. At the end the basis by deglex is made.
+/// this weight, less 1 at x, then revlex: its members are divided by all that their terms share. At the end the basis by deglex is made. A
+/// variable that follows from others, by polynomials of two terms among those given, is left out.
 ///
 /// Else, and where one of these runs is refused, x is taken out so: with a new last variable t and `t*x - 1` among the generators a basis by
 /// the weight of t, then lex, is made, and its members without t generate the saturation by x. At the end the basis by deglex is made. A

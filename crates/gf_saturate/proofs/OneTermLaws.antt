@@ -19,7 +19,7 @@ use Rattle.gf_buchberger.proofs.JobLaws.{ring_variables}
 use Rattle.gf_saturation.specs.Saturations.{IsOfOneTerm, HasOneTermMember, one_polynomial}
 use Rattle.gf_saturation.proofs.LawsHold.{monomials_are_told}
 use Rattle.gf_saturate.specs.Saturating.{IsSaturation}
-use Rattle.gf_one_term.specs.OneTerm.{HasUnitMark}
+use Rattle.gf_saturate.specs.OneTerm.{HasUnitMark}
 
 -- ---- a polynomial of one term
 

@@ -5,11 +5,11 @@ ghost use Rattle.gf_buchberger.specs.Bases.{IsWantOfMemory};
 ghost use Rattle.gf_buchberger.specs.Jobs.{HaveRingVariables};
 ghost use Rattle.gf_saturation.specs.Saturations.{HasOneTermMember};
 ghost use Rattle.gf_saturate.specs.Saturating.{IsSaturateRefusal, AreStepsWithinLimits};
-ghost use Rattle.gf_one_term.specs.OneTerm.{HasOneTerm, HasUnitMark};
+ghost use Rattle.gf_saturate.specs.OneTerm.{HasOneTerm, HasUnitMark};
 
+use crate::saturation::saturate;
 use gf_buchberger::BasisError;
 use gf_poly::{MarkedSet, Poly, ROOM};
-use gf_saturate::saturate;
 use std::alloc::Global;
 
 /// Whether the polynomial has one term alone.

@@ -3,9 +3,9 @@ use Rattle.gf_exponents.specs.Exponents.{degree, same}
 use Rattle.gf_exponents.proofs.WeightLaws.{degree-same}
 use Rattle.gf_poly.specs.Marking.{MarkedPolynomial}
 use Rattle.gf_ideal.proofs.RingLaws.{degree-none}
-use Rattle.gf_one_term.specs.OneTerm.{HasUnitMark}
-use Rattle.gf_one_term.proofs.SearchLaws.{found_here, not_yet, nowhere}
-use Rattle.gf_one_term.proofs.monomials.has_unit_mark.Goals as goal
+use Rattle.gf_saturate.specs.OneTerm.{HasUnitMark}
+use Rattle.gf_saturate.proofs.SearchLaws.{found_here, not_yet, nowhere}
+use Rattle.gf_saturate.proofs.monomials.has_unit_mark.Goals as goal
 
 pub returns-then-degree-eq0 : goal.returns-then-degree-eq0
 returns-then-degree-eq0 c =

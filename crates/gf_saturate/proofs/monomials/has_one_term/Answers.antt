@@ -1,9 +1,9 @@
 use Rattle.std.proofs.Common.{rules, ◌≡◌, ◌∙◌, sym, length}
 use Rattle.gf_poly.specs.Polynomial.{Terms}
 use Rattle.gf_saturate.proofs.StepLaws.{contains_at}
-use Rattle.gf_one_term.proofs.SearchLaws.{found_here, not_yet, nowhere}
-use Rattle.gf_one_term.proofs.OneTermLaws.{one_term_member, is_one, is_not_one}
-use Rattle.gf_one_term.proofs.monomials.has_one_term.Goals as goal
+use Rattle.gf_saturate.proofs.SearchLaws.{found_here, not_yet, nowhere}
+use Rattle.gf_saturate.proofs.OneTermLaws.{one_term_member, is_one, is_not_one}
+use Rattle.gf_saturate.proofs.monomials.has_one_term.Goals as goal
 
 pub returns-then-is_of_one_term-clause-exact : goal.returns-then-is_of_one_term-clause-exact
 returns-then-is_of_one_term-clause-exact c =

@@ -1,6 +1,6 @@
 use Rattle.std.proofs.Common.{rules}
-use Rattle.gf_one_term.proofs.OneTermLaws.{told_as}
-use Rattle.gf_one_term.proofs.monomials.has_monomial.Goals as goal
+use Rattle.gf_saturate.proofs.OneTermLaws.{told_as}
+use Rattle.gf_saturate.proofs.monomials.has_monomial.Goals as goal
 
 pub returns-then-has_one_term-clause-ok : goal.returns-then-has_one_term-clause-ok
 returns-then-has_one_term-clause-ok c = (λ t. c.has_one_term.ensures.member (search rules), λ m. search rules)

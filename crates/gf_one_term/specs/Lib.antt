@@ -1,1 +1,0 @@
-pub mod OneTerm  -- polynomials of one term as they are kept, and marks that are 1
