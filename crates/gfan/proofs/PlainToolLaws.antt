@@ -19,6 +19,7 @@ use Rattle.gf_buchberger.specs.declared.bases.BasisError.{BasisError}
 use Rattle.gf_buchberger.specs.declared.bases.BasisError.TheVariants as basis_errors
 use Rattle.gf_duality.specs.Faces.{Rows}
 use Rattle.gf_reverse.specs.Upward.{IsNodeIn}
+use Rattle.gf_reverse.proofs.FanLaws.{among_of}
 use Rattle.gf_tree.specs.Ideals.{ideal_by}
 use Rattle.gf_saturate.specs.Saturating.{IsSaturateRefusal}
 use Rattle.gf_initial_monomials.specs.declared.error.InitialError.{InitialError}
@@ -62,7 +63,7 @@ use Rattle.gf_front.specs.declared.plain.PlainCommand.{PlainCommand}
 use Rattle.gf_front.specs.declared.plain.PlainCommand.TheVariants as plains
 use Rattle.gf_front.specs.declared.refusal.Refusal.TheVariants as refusals
 use Rattle.gf_items.specs.Items.{from, IsOneRefused, IsTextRefused}
-use Rattle.gf_items.specs.Sources.{ring_marked_set_and_set, ring_marked_sets, dimension_two_lists}
+use Rattle.gf_items.specs.Sources.{ring_set_vector, ring_marked_set, ring_marked_set_and_set, ring_marked_sets, dimension_two_lists}
 use Rattle.gf_items.specs.Checks.{FirstFails}
 use Rattle.gf_items.proofs.ItemLaws.{ring_once}
 use Rattle.gf_frame.specs.Commands.{IsUnanswered, IsRefusedOn}
@@ -129,7 +130,7 @@ untold_never true certified n hs es x (IsConeFanCause.no_memory q) = cc
 
 module _ (source : List ℕ) (b : BeginsPlainly source) where
   saturated_never : (o : SaturationOptions) (x : Overflow) → IsRefusedOn (saturation_command o) (source ∷ []) (refusals.Overflow x) → ⊥
-  saturated_never o x (IsRefusedOn.in_text e h q) = set_text_never source b false x (subst (λ d. IsTextRefused _ source d) (tells_text e x q) h)
+  saturated_never o x (IsRefusedOn.in_text e h q) = set_text_never source b false x (subst (λ d. IsTextRefused (ring_set_vector false) source d) (tells_text e x q) h)
   saturated_never o x (IsRefusedOn.behind_text v r (IsUnanswered.in_form f)) = f
   saturated_never o x (IsRefusedOn.behind_text v r (IsUnanswered.in_work f w)) = at w.0 w.1 w.2
     where
@@ -147,7 +148,7 @@ module _ (source : List ℕ) (b : BeginsPlainly source) where
   saturated_never o x (IsRefusedOn.no_memory m) = cc
 
   marked_never : (x : Overflow) → IsRefusedOn (plain_command plains.IsMarkedGroebnerBasis) (source ∷ []) (refusals.Overflow x) → ⊥
-  marked_never x (IsRefusedOn.in_text e h q) = marked_text_never source b x (subst (λ d. IsTextRefused _ source d) (tells_text e x q) h)
+  marked_never x (IsRefusedOn.in_text e h q) = marked_text_never source b x (subst (λ d. IsTextRefused ring_marked_set source d) (tells_text e x q) h)
   marked_never x (IsRefusedOn.behind_text v r (IsUnanswered.in_form f)) = f
   marked_never x (IsRefusedOn.behind_text v r (IsUnanswered.in_work f w)) =
       test_never v.1 w.0 x (marked_binomials source b r.read.behind v.0 r.end v.1 r.read.one r.read.two) w.2 w.1
@@ -155,7 +156,7 @@ module _ (source : List ℕ) (b : BeginsPlainly source) where
   marked_never x (IsRefusedOn.no_memory m) = cc
 
   basis_cone_never : (o : GroebnerConeOptions) (x : Overflow) → IsRefusedOn (cone_command false o) (source ∷ []) (refusals.Overflow x) → ⊥
-  basis_cone_never o x (IsRefusedOn.in_text e h q) = marked_text_never source b x (subst (λ d. IsTextRefused _ source d) (tells_text e x q) h)
+  basis_cone_never o x (IsRefusedOn.in_text e h q) = marked_text_never source b x (subst (λ d. IsTextRefused ring_marked_set source d) (tells_text e x q) h)
   basis_cone_never o x (IsRefusedOn.behind_text v r (IsUnanswered.in_form f)) = f
   basis_cone_never o x (IsRefusedOn.behind_text v r (IsUnanswered.in_work f (IsBasisConeCause.at_check e h q))) =
       reduced_never 0 v.1 e x (marked_binomials source b r.read.behind v.0 r.end v.1 r.read.one r.read.two) h q
@@ -178,7 +179,7 @@ unweighed_never sets x b (IsUnweighed.no_memory q) = cc
 
 weight_never : (source : List ℕ) (b : BeginsPlainly source) (echoed : Bool) (x : Overflow) →
     IsRefusedOn (weights_command false echoed) (source ∷ []) (refusals.Overflow x) → ⊥
-weight_never source b echoed x (IsRefusedOn.in_text e h q) = marked_text_never source b x (subst (λ d. IsTextRefused _ source d) (tells_text e x q) h)
+weight_never source b echoed x (IsRefusedOn.in_text e h q) = marked_text_never source b x (subst (λ d. IsTextRefused ring_marked_set source d) (tells_text e x q) h)
 weight_never source b echoed x (IsRefusedOn.behind_text v r (IsUnanswered.in_form f)) = f
 weight_never source b echoed x (IsRefusedOn.behind_text v r (IsUnanswered.in_work f w)) =
     unweighed_never (v.1 ∷ []) x (marked_binomials source b r.read.behind v.0 r.end v.1 r.read.one r.read.two, tt) w
@@ -299,16 +300,13 @@ module _ (source : List ℕ) (b : BeginsWithTwoPlainly source) where
   containment_never x (IsRefusedOn.behind_text v r (IsUnanswered.in_form f)) = f
   containment_never x (IsRefusedOn.behind_text v r (IsUnanswered.in_work f w)) = at w.0 w.1 w.2
     where
-      first = r.read.two.one
-      second = r.read.two.two
-
       set : IsBinomialSet v.1.0
-      set = marked_binomials source b.first r.read.behind v.0 r.read.two.behind v.1.0 r.read.one first
+      set = marked_binomials source b.first r.read.behind v.0 r.read.two.behind v.1.0 r.read.one r.read.two.one
 
       fs : AreBinomials (generators_of v.1.1)
-      fs = subst AreBinomials (same_generators v.1.1) (plain_sets_are_binomials.meaning (length v.0) second.said v.1.1
-          (second_plain r.read.behind r.read.two.behind v.0 first.read.said second.said r.end r.read.one first.read.text second.text)
-          (record { sums = second.sums; exponents = second.exponents; fits = second.fits; written = second.written }))
+      fs = subst AreBinomials (same_generators v.1.1) (plain_sets_are_binomials.meaning (length v.0) r.read.two.two.said v.1.1
+          (second_plain r.read.behind r.read.two.behind v.0 r.read.two.one.read.said r.read.two.two.said r.end r.read.one r.read.two.one.read.text r.read.two.two.text)
+          (record { sums = r.read.two.two.sums; exponents = r.read.two.two.exponents; fits = r.read.two.two.fits; written = r.read.two.two.written }))
 
       at : (e : CheckError) → refusals.Overflow x ≡ of_check e → IsContainmentRefusal v.1.0 (generators_of v.1.1) e → ⊥
       at e q (IsContainmentRefusal.at_basis h) = basis_check_never 0 v.1.0 e x set h q
@@ -421,7 +419,7 @@ module _ (n : ℕ) (fs : List Terms) (inside : AreInVariables n fs) (two : AreBi
 
 module _ (source : List ℕ) (b : BeginsPlainly source) where
   fan_source_never : (x : Overflow) → IsRefusedOn (intersection_by false) (source ∷ []) (refusals.Overflow x) → ⊥
-  fan_source_never x (IsRefusedOn.in_text e h q) = set_text_never source b false x (subst (λ d. IsTextRefused _ source d) (tells_text e x q) h)
+  fan_source_never x (IsRefusedOn.in_text e h q) = set_text_never source b false x (subst (λ d. IsTextRefused (ring_set_vector false) source d) (tells_text e x q) h)
   fan_source_never x (IsRefusedOn.behind_text v r (IsUnanswered.in_form (inl f))) = f
   fan_source_never x (IsRefusedOn.behind_text v r (IsUnanswered.in_form (inr (k, inl f)))) = f
   fan_source_never x (IsRefusedOn.behind_text v r (IsUnanswered.in_form (inr (k, inr (l, f))))) = f
@@ -432,7 +430,7 @@ module _ (source : List ℕ) (b : BeginsPlainly source) where
   fan_source_never x (IsRefusedOn.no_memory m) = cc
 
   test_source_never : (x : Overflow) → IsRefusedOn (intersection_by true) (source ∷ []) (refusals.Overflow x) → ⊥
-  test_source_never x (IsRefusedOn.in_text e h q) = set_text_never source b false x (subst (λ d. IsTextRefused _ source d) (tells_text e x q) h)
+  test_source_never x (IsRefusedOn.in_text e h q) = set_text_never source b false x (subst (λ d. IsTextRefused (ring_set_vector false) source d) (tells_text e x q) h)
   test_source_never x (IsRefusedOn.behind_text v r (IsUnanswered.in_form (inl f))) = f
   test_source_never x (IsRefusedOn.behind_text v r (IsUnanswered.in_form (inr (k, inl f)))) = f
   test_source_never x (IsRefusedOn.behind_text v r (IsUnanswered.in_form (inr (k, inr (l, f))))) = f
