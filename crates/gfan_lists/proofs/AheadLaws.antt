@@ -1,5 +1,6 @@
 -- The bases that are taken out of a list before those in front of them are written.
--- To cite: kept_here, next_kept, way_kept, end_kept, one_ahead, ahead_push, ahead_left, ahead_ideal, ahead_variables, ahead_worked, ahead_fewer. The rest are steps.
+-- To cite: kept_here, next_kept, way_kept, end_kept, one_ahead, ahead_push, ahead_left, ahead_ideal, ahead_variables, ahead_worked, ahead_fewer. The rest
+-- are steps.
 use Rattle.std.specs.Prelude.{◌≡◌, ℕ, suc, ◌+◌, ◌-◌, ◌<◌, ◌≤◌, Bool, false, List, [], ◌∷◌, ◌++◌, length, slice_index_or, Option}
 use Rattle.std.specs.List.{All}
 use Rattle.std.proofs.Common.{arith, refl, sym, ap, ap₂, ◌∙◌, subst}
@@ -28,7 +29,8 @@ same_ideal : (old new : Row) → IsSameList old new → ideal_in new ≡ ideal_i
 same_ideal old new same = ap₂ (λ (k : Region) (v : MarkedPolynomials). fan_of k v) same.region same.start
 
 kept_count : (old new : Row) → IsRowKept old new → row_left_at_most new ≡ row_left_at_most old
-kept_count old new kept = ap₂ (λ (k : Region) (v : MarkedPolynomials). count k v - new.given) kept.same.region kept.same.start ∙ ap (λ g. count old.region old.start - g) kept.given
+kept_count old new kept = ap₂ (λ (k : Region) (v : MarkedPolynomials). count k v - new.given) kept.same.region kept.same.start ∙ ap
+    (λ g. count old.region old.start - g) kept.given
 
 -- the next basis of a row that kept what another has is the next one of that
 pub next_kept : (row old new : Row) (b : MarkedPolynomials) → IsRowKept row old → IsNextRow old new b → IsNextRow row new b
@@ -47,7 +49,8 @@ next_kept row old new b kept step = record {
 }
 
 -- and the list goes on from there
-pub way_kept : (before : List MarkedPolynomials) (o : ListOptions) (ring : List (List ℕ)) (k : Region) (fs : List Terms) (room : Room) (is_first : Bool) (held holds : Option (List ℕ)) (row left : Row) → IsRowKept row left →
+pub way_kept : (before : List MarkedPolynomials) (o : ListOptions) (ring : List (List ℕ)) (k : Region) (fs : List Terms) (room : Room) (is_first : Bool)
+    (held holds : Option (List ℕ)) (row left : Row) → IsRowKept row left →
     IsUnderWay before o ring k fs row room is_first held holds → IsUnderWay before o ring k fs left room is_first held holds
 way_kept before o ring k fs room is_first held holds row left kept way = record {
   written = way.written;
@@ -72,20 +75,24 @@ end_kept old new end = record { same = end.same; given = end.given; left = λ no
 
 module _ (certified : Bool) (ring : List (List ℕ)) (k : Region) where
   -- one basis is taken
-  pub one_ahead : (is_first : Bool) (row old new : Row) (x : Taken) → IsRowKept row old → IsNextRow old new x.basis → x.is_first ≡ is_first → IsWorkedOut certified ring k x → AreAhead certified ring k is_first (x ∷ []) row new
+  pub one_ahead : (is_first : Bool) (row old new : Row) (x : Taken) → IsRowKept row old → IsNextRow old new x.basis → x.is_first ≡ is_first →
+      IsWorkedOut certified ring k x → AreAhead certified ring k is_first (x ∷ []) row new
   one_ahead is_first row old new x kept step first worked = (new, next_kept row old new x.basis kept step, first, worked, kept_here new)
 
-  push_behind : (xs : List Taken) (row old new : Row) (y : Taken) → AreAhead certified ring k false xs row old → IsNextRow old new y.basis → y.is_first ≡ false → IsWorkedOut certified ring k y → AreAhead certified ring k false (xs ++ y ∷ []) row new
+  push_behind : (xs : List Taken) (row old new : Row) (y : Taken) → AreAhead certified ring k false xs row old → IsNextRow old new y.basis →
+      y.is_first ≡ false → IsWorkedOut certified ring k y → AreAhead certified ring k false (xs ++ y ∷ []) row new
   push_behind [] row old new y kept step first worked = (new, next_kept row old new y.basis kept step, first, worked, kept_here new)
   push_behind (x ∷ xs) row old new y h step first worked = (h.0, h.1, h.2, h.3, push_behind xs h.0 old new y h.4 step first worked)
 
   -- one more is taken
-  pub ahead_push : (is_first : Bool) (xs : List Taken) (row old new : Row) (y : Taken) → 0 < length xs → AreAhead certified ring k is_first xs row old → IsNextRow old new y.basis → y.is_first ≡ false → IsWorkedOut certified ring k y → AreAhead certified ring k is_first (xs ++ y ∷ []) row new
+  pub ahead_push : (is_first : Bool) (xs : List Taken) (row old new : Row) (y : Taken) → 0 < length xs → AreAhead certified ring k is_first xs row old →
+      IsNextRow old new y.basis → y.is_first ≡ false → IsWorkedOut certified ring k y → AreAhead certified ring k is_first (xs ++ y ∷ []) row new
   ahead_push is_first [] row old new y some h step first worked = absurd (omega (arith, some))
   ahead_push is_first (x ∷ xs) row old new y some h step first worked = (h.0, h.1, h.2, h.3, push_behind xs h.0 old new y h.4 step first worked)
 
   -- the row that is left keeps what it has
-  pub ahead_left : (is_first : Bool) (xs : List Taken) (row old new : Row) → IsRowKept old new → AreAhead certified ring k is_first xs row old → AreAhead certified ring k is_first xs row new
+  pub ahead_left : (is_first : Bool) (xs : List Taken) (row old new : Row) → IsRowKept old new → AreAhead certified ring k is_first xs row old →
+      AreAhead certified ring k is_first xs row new
   ahead_left is_first [] row old new kept h = record {
     same = record {
       workers = kept.same.workers ∙ h.same.workers;
@@ -104,23 +111,31 @@ module _ (certified : Bool) (ring : List (List ℕ)) (k : Region) where
   ahead_ideal is_first (x ∷ xs) row left h = ahead_ideal false xs h.0 left h.4 ∙ same_ideal row h.0 h.1.same
 
   -- all are of the variables of the ideal
-  pub ahead_variables : (n : ℕ) (is_first : Bool) (xs : List Taken) (row left : Row) → ((v : MarkedPolynomials) → IsNodeIn (ideal_in row) v → v.variables ≡ n) → AreAhead certified ring k is_first xs row left → All (HasVariables n) xs
+  pub ahead_variables : (n : ℕ) (is_first : Bool) (xs : List Taken) (row left : Row) → ((v : MarkedPolynomials) → IsNodeIn (ideal_in row) v →
+      v.variables ≡ n) → AreAhead certified ring k is_first xs row left → All (HasVariables n) xs
   ahead_variables n is_first [] row left has h = All-nil (HasVariables n)
   ahead_variables n is_first (x ∷ xs) row left has h =
-      All-cons (HasVariables n) x xs (has x.basis h.1.basis) (ahead_variables n false xs h.0 left (λ v node. has v (subst (λ (F : Fan). IsNodeIn F v) (same_ideal row h.0 h.1.same) node)) h.4)
+      All-cons (HasVariables n) x xs (has x.basis h.1.basis) (ahead_variables n false xs h.0 left (λ v node. has v (subst (λ (F : Fan). IsNodeIn F v)
+      (same_ideal row h.0 h.1.same) node)) h.4)
 
   -- their pieces are worked out
-  pub ahead_worked : (is_first : Bool) (xs ys : List Taken) (row left : Row) → AreWorkedOutAt certified ring k xs ys → AreAhead certified ring k is_first xs row left → AreAhead certified ring k is_first ys row left
+  pub ahead_worked : (is_first : Bool) (xs ys : List Taken) (row left : Row) → AreWorkedOutAt certified ring k xs ys →
+      AreAhead certified ring k is_first xs row left → AreAhead certified ring k is_first ys row left
   ahead_worked is_first [] [] row left w h = h
   ahead_worked is_first [] (y ∷ ys) row left w h = (let e : suc (length ys) ≡ 0 = w.same_length in absurd (omega (arith, e)))
   ahead_worked is_first (x ∷ xs) [] row left w h = (let e : 0 ≡ suc (length xs) = w.same_length in absurd (omega (arith, e)))
   ahead_worked is_first (x ∷ xs) (y ∷ ys) row left w h =
       let one : IsWorkedFrom certified ring k x y = w.each 0 x (omega arith) in
       let e : suc (length ys) ≡ suc (length xs) = w.same_length in
-      let rest : AreWorkedOutAt certified ring k xs ys = record { same_length = omega (arith, e); each = λ i d inside. w.each (suc i) d (omega (arith, inside)) } in
+      let rest : AreWorkedOutAt certified ring k xs ys = record {
+        same_length = omega (arith, e);
+        each = λ i d inside. w.each (suc i) d (omega
+            (arith, inside));
+      } in
       (h.0, subst (IsNextRow row h.0) (sym one.basis) h.1, one.is_first ∙ h.2, one.worked, ahead_worked false xs ys h.0 left rest h.4)
 
   -- each leaves fewer
-  pub ahead_fewer : (is_first : Bool) (xs : List Taken) (row left : Row) → AreAhead certified ring k is_first xs row left → row_left_at_most left + length xs ≤ row_left_at_most row
+  pub ahead_fewer : (is_first : Bool) (xs : List Taken) (row left : Row) → AreAhead certified ring k is_first xs row left →
+      row_left_at_most left + length xs ≤ row_left_at_most row
   ahead_fewer is_first [] row left h = (let e = kept_count row left h in omega (arith, e))
   ahead_fewer is_first (x ∷ xs) row left h = (let rest = ahead_fewer false xs h.0 left h.4 in let one = h.1.fewer in omega (arith, rest, one))

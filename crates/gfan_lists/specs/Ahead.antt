@@ -15,7 +15,8 @@ HasVariables n x = x.basis.variables ≡ n
 
 -- where its piece is worked out, that is the piece of the basis, or why there is none
 abbrev pub IsWorkedOut : Bool → List (List ℕ) → Region → Taken → Type 0
-IsWorkedOut certified ring k x = IfSome x.piece (λ made. MatchResult made (λ text. IsPieceOf certified ring k x.is_first x.basis text.items) (λ r. IsItemRefusalIn certified k x.basis r))
+IsWorkedOut certified ring k x = IfSome x.piece (λ made. MatchResult made (λ text. IsPieceOf certified ring k x.is_first x.basis text.items)
+    (λ r. IsItemRefusalIn certified k x.basis r))
 
 -- the same basis, with its piece
 pub record IsWorkedFrom (certified : Bool) (ring : List (List ℕ)) (k : Region) (old new : Taken) : Type 0 where

@@ -73,7 +73,8 @@ fn take_ready<'g, R: Threads + Sync, G: Gate>(
     requires { 0 < length taken.old.items }
     ensures some { 0 < length taken.new.items }
     ensures workers { waves.new.frontier.workers ≡ waves.old.frontier.workers }
-    ensures ahead { (certified : Bool) (ring : List (List ℕ)) (k : Region) (is_first : Bool) (row : Row) → AreAhead certified ring k is_first taken.old.items row waves.old
+    ensures ahead { (certified : Bool) (ring : List (List ℕ)) (k : Region) (is_first : Bool) (row : Row)
+        → AreAhead certified ring k is_first taken.old.items row waves.old
         → AreAhead certified ring k is_first taken.new.items row waves.new }
 {
     'ready: while taken.len() < taken.capacity() && waves.is_served() {
@@ -106,7 +107,8 @@ fn worked_ahead<'g, R: Threads + Sync, G: Gate>(
 ) -> VecDeque<Taken>
     requires some { 0 < length taken.items }
     requires workers { 0 < waves.old.frontier.workers }
-    requires variables { (is_first : Bool) × (row : Row) × AreAhead certified ring.now region.now is_first taken.items row waves.old × ((v : MarkedPolynomials) → IsNodeIn (ideal_in row) v → v.variables ≡ length ring.now) }
+    requires variables { (is_first : Bool) × (row : Row) × AreAhead certified ring.now region.now is_first taken.items row waves.old
+        × ((v : MarkedPolynomials) → IsNodeIn (ideal_in row) v → v.variables ≡ length ring.now) }
     requires region { length region.now.root ≡ length ring.now }
     ensures some { 0 < length result.items }
     ensures ahead { (is_first : Bool) (row : Row) → AreAhead certified ring.now region.now is_first taken.items row waves.old
@@ -188,8 +190,10 @@ pub(crate) fn next_taken<'g, R: Threads + Sync, G: Gate>(
     requires region { length region.now.root ≡ length ring.now }
     ensures ok { IfOk result (λ o. (row : Row) → AreAhead certified ring.now region.now is_first ahead.old.items row waves.old
         → IsNextTaken certified ring.now region.now is_first row waves.old o ahead.new.items waves.new) }
-    ensures fewer { IfOk result (λ o. IfSome o (λ _. row_left_at_most waves.new + length ahead.new.items < row_left_at_most waves.old + length ahead.old.items)) }
-    ensures none { IfErr result (λ e. (row : Row) → AreAhead certified ring.now region.now is_first ahead.old.items row waves.old → IsRowKept row waves.old) }
+    ensures fewer { IfOk result (λ o. IfSome o (λ _. row_left_at_most waves.new + length ahead.new.items
+        < row_left_at_most waves.old + length ahead.old.items)) }
+    ensures none { IfErr result (λ e. (row : Row) → AreAhead certified ring.now region.now is_first ahead.old.items row waves.old
+        → IsRowKept row waves.old) }
     ensures early { IfErr result (λ e. (nodes : List MarkedPolynomials) → AreLeftIn waves.old nodes
         → IsRefusedEarly (ideal_in waves.old) waves.old.pairs nodes e) }
 {

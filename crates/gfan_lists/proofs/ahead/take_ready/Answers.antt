@@ -10,7 +10,8 @@ returns-in-Ok-None-clause-ahead g c =
     let new = c.next_written.new.self in
     let end : IsRowEnd c.ready.waves new = subst (λ o. IsRowAnswer c.ready.waves new o) c.in-Ok-None.field-0-is c.in-Ok-None.ensures.ok in
     λ certified ring k is_first row h.
-    ahead_left certified ring k is_first c.ready.taken.items row c.ready.waves new (end_kept c.ready.waves new end) (c.ready.invariant.ahead certified ring k is_first row h)
+    ahead_left certified ring k is_first c.ready.taken.items row c.ready.waves new (end_kept c.ready.waves new end)
+    (c.ready.invariant.ahead certified ring k is_first row h)
 
 pub returns-in-Err-clause-ahead : goal.returns-in-Err-clause-ahead
 returns-in-Err-clause-ahead g c = λ certified ring k is_first row h.
@@ -20,7 +21,8 @@ returns-in-Err-clause-ahead g c = λ certified ring k is_first row h.
 pub ready-preserved : goal.ready-preserved
 ready-preserved g c =
     let new = c.next_written.new.self in
-    let step : IsNextRow c.ready.waves new c.in-Ok-Some.basis = subst (λ o. IsRowAnswer c.ready.waves new o) c.in-Ok-Some.field-0-is c.in-Ok-Some.ensures.ok in
+    let step : IsNextRow c.ready.waves new c.in-Ok-Some.basis = subst
+    (λ o. IsRowAnswer c.ready.waves new o) c.in-Ok-Some.field-0-is c.in-Ok-Some.ensures.ok in
     let next : Taken = record { basis = c.in-Ok-Some.basis; is_first = false; piece = None } in
     let is : c.push.new.self.items ≡ c.ready.taken.items ++ next ∷ [] = search rules in
     record {

@@ -9,7 +9,8 @@ abbrev pub invariant-ready : goal.invariant-ready
 invariant-ready g l = record {
   some : 0 < length l.taken.items;
   workers : l.waves.frontier.workers ≡ l.fn.waves.frontier.workers;
-  ahead : (certified : Bool) (ring : List (List ℕ)) (k : Region) (is_first : Bool) (row : Row) → AreAhead certified ring k is_first l.fn.taken.items row l.fn.waves
+  ahead : (certified : Bool) (ring : List (List ℕ)) (k : Region) (is_first : Bool) (row : Row) →
+      AreAhead certified ring k is_first l.fn.taken.items row l.fn.waves
       → AreAhead certified ring k is_first l.taken.items row l.waves;
 }
 
