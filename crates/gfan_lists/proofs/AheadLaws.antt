@@ -1,7 +1,7 @@
 -- The bases that are taken out of a list before those in front of them are written.
--- To cite: kept_here, next_kept, way_kept, end_kept, one_ahead, ahead_push, ahead_left, ahead_ideal, ahead_variables, ahead_worked, ahead_fewer. The rest
--- are steps.
-use Rattle.std.specs.Prelude.{◌≡◌, ℕ, suc, ◌+◌, ◌-◌, ◌<◌, ◌≤◌, Bool, false, List, [], ◌∷◌, ◌++◌, length, slice_index_or, Option}
+-- To cite: kept_here, next_kept, way_kept, end_kept, one_ahead, ahead_push, ahead_left, ahead_ideal, ahead_variables, ahead_worked, ahead_fewer,
+-- popped_ahead, popped_fewer. The rest are steps.
+use Rattle.std.specs.Prelude.{◌≡◌, ℕ, suc, ◌+◌, ◌-◌, ◌<◌, ◌≤◌, Bool, false, List, [], ◌∷◌, ◌++◌, length, slice_index_or, Option, None, Some, IfSome, MatchOption, option_to_list}
 use Rattle.std.specs.List.{All}
 use Rattle.std.proofs.Common.{arith, refl, sym, ap, ap₂, ◌∙◌, subst}
 use Rattle.std.proofs.lemmas.List.Elements.{All-nil, All-cons}
@@ -17,7 +17,7 @@ use Rattle.gfan_lists.specs.declared.ahead.Taken.{Taken}
 use Rattle.gfan_lists.specs.declared.bases.ListOptions.{ListOptions}
 use Rattle.gfan_lists.specs.declared.bases.Room.{Room}
 use Rattle.gfan_lists.specs.BasesWriting.{IsUnderWay}
-use Rattle.gfan_lists.specs.Ahead.{HasVariables, IsWorkedOut, IsWorkedFrom, AreWorkedOutAt, AreAhead}
+use Rattle.gfan_lists.specs.Ahead.{HasVariables, IsWorkedOut, IsWorkedFrom, AreWorkedOutAt, AreAhead, IsNextTaken}
 
 -- ---- rows
 
@@ -139,3 +139,19 @@ module _ (certified : Bool) (ring : List (List ℕ)) (k : Region) where
       row_left_at_most left + length xs ≤ row_left_at_most row
   ahead_fewer is_first [] row left h = (let e = kept_count row left h in omega (arith, e))
   ahead_fewer is_first (x ∷ xs) row left h = (let rest = ahead_fewer false xs h.0 left h.4 in let one = h.1.fewer in omega (arith, rest, one))
+
+  -- the first of those that were taken is the next basis
+  pub popped_ahead : (is_first : Bool) (all : List Taken) (o : Option Taken) (xs : List Taken) (row old left : Row) (n m : ℕ) → 0 < n →
+      MatchOption o ((n ≡ 0) × (m ≡ 0)) (λ _. m + 1 ≡ n) → all ≡ option_to_list o ++ xs → AreAhead certified ring k is_first all row left →
+      IsNextTaken certified ring k is_first row old o xs left
+  popped_ahead is_first all None xs row old left n m some cases e h = absurd (omega (arith, some, cases.0))
+  popped_ahead is_first all (Some x) xs row old left n m some cases e h = subst (λ ys. AreAhead certified ring k is_first ys row left) e h
+
+  -- and it leaves fewer
+  pub popped_fewer : (is_first : Bool) (all : List Taken) (o : Option Taken) (xs : List Taken) (row left : Row) (m : ℕ) → all ≡ option_to_list o ++ xs →
+      AreAhead certified ring k is_first all row left → IfSome o (λ _. row_left_at_most left + length xs < row_left_at_most row + m)
+  popped_fewer is_first all None xs row left m e h = tt
+  popped_fewer is_first all (Some x) xs row left m e h =
+      let fewer = ahead_fewer is_first all row left h in
+      let long : length all ≡ suc (length xs) = ap (λ (ys : List Taken). length ys) e in
+      omega (arith, fewer, long)

@@ -1,4 +1,5 @@
-use Rattle.std.proofs.Common.{◌≡◌, length, sym, subst, rules}
+use Rattle.std.proofs.Common.{◌≡◌, ◌∙◌, length, sym, subst}
+use Rattle.std.proofs.lemmas.List.{take_at}
 use Rattle.std.specs.List.{All}
 use Rattle.gfan_lists.specs.Ahead.{AreAhead, HasVariables}
 use Rattle.gfan_lists.proofs.AheadLaws.{ahead_variables, ahead_worked}
@@ -20,7 +21,8 @@ returns-clause-ahead g c =
     let old = c.as_mut_slice.result.now in
     let new = c.work_all.new.taken in
     let left = c.take_ready.new.waves in
-    let is : c.from_vec.result.items ≡ new = search rules in
+    let len : length new ≡ c.take_ready.new.taken.len = c.work_all.ensures.same_length ∙ c.as_mut_slice.ensures.len in
+    let is : c.from_vec.result.items ≡ new = c.from_vec.ensures.items ∙ take_at new _ _ len in
     λ is_first row h.
     subst (λ xs. AreAhead c.args.certified ring k is_first xs row left) (sym is)
     (ahead_worked c.args.certified ring k is_first old new row left c.work_all.ensures
