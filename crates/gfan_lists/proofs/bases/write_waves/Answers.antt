@@ -20,13 +20,13 @@ list-init g c = record {
 }
 
 pub next_taken-requires-clause-variables : goal.next_taken-requires-clause-variables
-next_taken-requires-clause-variables g c =
+next_taken-requires-clause-variables g c κs within =
     let r = c.requires.row in
     let ideal = ahead_ideal c.args.options.certified c.args.ring.now c.args.region.now c.list.is_first c.list.ahead.items c.list.invariant.under_way.0 c.list.waves c.list.invariant.under_way.1 in
     λ v node. (from_row r.0 c.args.options c.args.ring.now c.args.region.now r.1 c.list.invariant.under_way.0 c.list.room c.list.is_first (g.K.Sink.held c.args.output.now) (g.K.Sink.held c.list.output) (c.list.invariant.under_way.2 r.0 r.1 r.2) v (subst (λ (F : Fan). IsNodeIn F v) ideal node)).variables
 
 pub next_taken-requires-clause-region : goal.next_taken-requires-clause-region
-next_taken-requires-clause-region g c = c.requires.row.2.basis.fan.region.root.width
+next_taken-requires-clause-region g c κs within = c.requires.row.2.basis.fan.region.root.width
 
 pub returns-in_err-end-clause-stopped : goal.returns-in_err-end-clause-stopped
 returns-in_err-end-clause-stopped g c =
