@@ -64,7 +64,8 @@ returns-in-Ok-clause-ok g c =
     let rest = c.pop_front-in-Ok.new.self.items in
     let left = c.worked_ahead.new.waves in
     let some : 0 < c.worked_ahead.result.len = search rules in
-    λ row h. popped_ahead certified ring k first all popped rest row old left _ _ some c.pop_front-in-Ok.ensures.cases c.pop_front-in-Ok.ensures.items (c.worked_ahead.ensures.ahead first row
+    λ row h. popped_ahead certified ring k first all popped rest row old left _ _ some c.pop_front-in-Ok.ensures.cases c.pop_front-in-Ok.ensures.items
+    (c.worked_ahead.ensures.ahead first row
     (subst (λ xs. AreAhead certified ring k first xs row new) (sym c.in-Ok.ensures.ok) (one row (kept row h))))
 
 pub returns-in-Ok-clause-fewer : goal.returns-in-Ok-clause-fewer
