@@ -3,6 +3,7 @@ ghost use Rattle.std.specs.Prelude.{◌≡◌, ◌+◌, ◌*◌, ◌≤◌, leng
 ghost use Rattle.gf_poly.specs.Marking.{MarkedPolynomials};
 ghost use Rattle.gf_reverse.specs.Upward.{IsNode};
 ghost use Rattle.gf_waves.specs.Frontier.{AreRefusals, is_ready, is_refused};
+ghost use Rattle.gf_waves.specs.Wave.{is_served};
 ghost use Rattle.gf_tree.specs.Refusals.{IsTreeRefusal, IsTreeWithinLimits};
 ghost use Rattle.gf_tree.specs.Walks.{AreLeft, walk_at};
 ghost use Rattle.gf_flip.specs.declared.error.TreeError.TheVariants.{Memory};
@@ -120,6 +121,13 @@ impl<'g, G: Gate> Waves<'g, G> {
         ensures { result ≡ self.now.frontier.workers }
     {
         self.inner.workers()
+    }
+
+    /// Whether a basis is ready in front, or nothing is left: the next call runs no job.
+    pub fn is_served(&self) -> bool
+        ensures { result ≡ is_served self.now.frontier.pieces }
+    {
+        self.inner.is_served()
     }
 
     /// How many bases of the row are ready.

@@ -16,7 +16,7 @@ use std::collections::VecDeque;
 use std::thread::Threads;
 
 /// Whether a node is ready in front, or nothing is left.
-fn is_served<T: Tree>(row: &VecDeque<Piece<T>>) -> bool
+pub fn is_served<T: Tree>(row: &VecDeque<Piece<T>>) -> bool
     ensures { result ≡ is_served row.now.items }
 {
     match row.front() {

@@ -7,11 +7,11 @@ ghost use Rattle.gf_walk.specs.declared.expand.Piece.TheVariants.{Ready, Under};
 ghost use Rattle.gf_walk.specs.Pieces.{PiecesLeave, RefusesAt};
 ghost use Rattle.gf_walk.specs.Listing.{Leaves, IsLeftAt};
 ghost use Rattle.gf_waves.specs.Frontier.{AreRefusals, IsFrontRefused, is_ready, is_refused};
-ghost use Rattle.gf_waves.specs.Wave.{IsAfter, IsCall};
+ghost use Rattle.gf_waves.specs.Wave.{IsAfter, IsCall, is_served};
 
 use crate::Gate;
 use crate::rows::push;
-use crate::serving::{give, no_memory, work_off};
+use crate::serving::{give, is_served, no_memory, work_off};
 use gf_walk::{Piece, ReusingTree, Tree, Walker};
 use std::alloc::Global;
 use std::collections::VecDeque;
@@ -108,6 +108,13 @@ impl<'g, T: Tree, G: Gate> Waves<'g, T, G> {
         ensures { result ≡ self.now.workers }
     {
         self.workers
+    }
+
+    /// Whether a node is ready in front, or nothing is left: the next call runs no job.
+    pub fn is_served(&self) -> bool
+        ensures { result ≡ is_served self.now.pieces }
+    {
+        is_served(&self.row)
     }
 
     /// How many nodes of the row are ready.

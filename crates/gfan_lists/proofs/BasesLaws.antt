@@ -123,7 +123,7 @@ module _ (before : List MarkedPolynomials) (o : ListOptions) (ring : List (List 
     same_fan : SameFan (ideal_in row) (ideal_within (length ring) fs j)
     same_fan = subst (λ (k : Region). SameFan (fan_of k row.start) (ideal_within (length ring) fs j)) (sym way.region) (back_fan (ideal_within (length ring) fs j) (fan_of j row.start) (own_fan (ideal_within (length ring) fs j) row.start way.basis))
 
-    from_row : (x : MarkedPolynomials) → IsNodeIn (ideal_in row) x → IsNodeIn (ideal_within (length ring) fs j) x
+    pub from_row : (x : MarkedPolynomials) → IsNodeIn (ideal_in row) x → IsNodeIn (ideal_within (length ring) fs j) x
     from_row x h = node_moved (ideal_in row) (ideal_within (length ring) fs j) x same_fan h
 
     -- a refusal of the waves comes of a call at a basis of that ideal, one that is written or the next one

@@ -11,6 +11,7 @@ ghost use Rattle.gf_text.specs.PrintedSets.{basis_text};
 ghost use Rattle.gf_text.specs.Sets.{AreIn};
 ghost use Rattle.gfan_common.specs.Forms.{generators_of};
 ghost use Rattle.gfan_lists.specs.Certificates.{IsItemRefusalIn};
+ghost use Rattle.gfan_lists.specs.Ahead.{IsWorkedOut};
 ghost use Rattle.gfan_lists.specs.Bases.{bases_command};
 ghost use Rattle.gfan_lists.specs.BasesWriting.{basis_piece, end_piece, GoesOnBehind, IsListWrittenBehind, IsListStoppedBehind, IsPieceOf, IsBasisWritten, IsUnwritten, IsBasisUnwritten, HasRoomFor, IsOneLess, IsFull, IsFirstBasis, IsRootRefusal, StartsIn, IsListWrittenIn, IsListStoppedIn};
 ghost use Rattle.gfan_common.specs.Refused.{IsUnnamed, IsOfSource};
@@ -18,6 +19,7 @@ ghost use Rattle.gf_frame.specs.Seen.{output_seen};
 ghost use Rattle.gf_frame.specs.Runs.{IsDoneOn, IsStoppedOn};
 ghost use Rattle.gfan_common.specs.Performed.{IsPerformedFor, IsStoppedFor};
 
+use crate::ahead::{Taken, next_taken};
 use crate::certificates::push_certified;
 use gf_cone::Region;
 use gf_conversion::basis_by_several_ways;
@@ -32,6 +34,7 @@ use gf_waves::Gate;
 use gfan_common::refused::Refused;
 use gfan_common::written_sets::polynomials;
 use std::alloc::{AllocError, Global};
+use std::collections::VecDeque;
 use std::thread::Threads;
 
 /// The options of `_bases`.
@@ -121,7 +124,7 @@ fn piece(
 }
 
 /// The piece of a basis, with its certificates in the region where they are asked for.
-fn item_piece(
+pub(crate) fn item_piece(
     alloc: Global,
     ring: &Ring,
     basis: &MarkedSet,
@@ -141,25 +144,50 @@ fn item_piece(
     Ok(text)
 }
 
-/// Writes the piece of a basis.
-fn write_basis<K: Sink>(
+/// The piece of a basis that was taken out of the list: the one that is worked out already, or else it is worked out now.
+fn made(
     alloc: Global,
     ring: &Ring,
-    basis: &MarkedSet,
+    taken: Taken,
     region: &Region,
-    is_first: bool,
+    certified: bool,
+) -> Result<Vec<u8>, Refusal>
+    requires variables { taken.basis.variables ≡ length ring.now }
+    requires region { length region.now.root ≡ taken.basis.variables }
+    requires worked { IsWorkedOut certified ring.now region.now taken }
+    ensures ok { IfOk result (λ text. IsPieceOf certified ring.now region.now taken.is_first taken.basis text.items) }
+    ensures err { IfErr result (IsItemRefusalIn certified region.now taken.basis) }
+{
+    let Taken {
+        basis,
+        is_first,
+        piece,
+    } = taken;
+    match piece {
+        Some(made) => made,
+        None => item_piece(alloc, ring, &basis, region, is_first, certified),
+    }
+}
+
+/// Writes the piece of a basis that was taken out of the list.
+fn write_taken<K: Sink>(
+    alloc: Global,
+    ring: &Ring,
+    taken: Taken,
+    region: &Region,
     certified: bool,
     output: &mut K,
 ) -> Result<(), Refusal>
-    requires variables { basis.now.variables ≡ length ring.now }
-    requires region { length region.now.root ≡ basis.now.variables }
-    ensures all { OnOk result (IsBasisWritten certified ring.now region.now is_first basis.now (K.held output.old)
+    requires variables { taken.basis.variables ≡ length ring.now }
+    requires region { length region.now.root ≡ taken.basis.variables }
+    requires worked { IsWorkedOut certified ring.now region.now taken }
+    ensures all { OnOk result (IsBasisWritten certified ring.now region.now taken.is_first taken.basis (K.held output.old)
         (K.held output.new)) }
-    ensures err { IfErr result (IsBasisUnwritten certified ring.now region.now is_first basis.now (K.held output.old)
+    ensures err { IfErr result (IsBasisUnwritten certified ring.now region.now taken.is_first taken.basis (K.held output.old)
         (K.held output.new) (K.faults output.old) (K.faults output.new)) }
     ensures calm { OnOk result (K.faults output.new ≡ K.faults output.old) }
 {
-    let text = item_piece(alloc, ring, basis, region, is_first, certified)?;
+    let text = made(alloc, ring, taken, region, certified)?;
     offer(output, &text)
 }
 
@@ -244,18 +272,20 @@ pub(crate) fn write_waves<'g, R: Threads + Sync, K: Sink, G: Gate>(
         (λ e. (e.refusal ≡ Refusal.WriteFault → ⊥) → K.faults output.new ≡ K.faults output.old) }
 {
     let mut room = Room::of(options.limit);
+    let mut ahead = VecDeque::new(alloc);
     let mut is_first = true;
-    'list: while let Some(basis) = waves.next_written(rt)? {
+    'list: while let Some(taken) = next_taken(
+        rt,
+        alloc,
+        ring,
+        &mut waves,
+        &mut ahead,
+        region,
+        is_first,
+        options.certified,
+    )? {
         room = room.with_one_more()?;
-        write_basis(
-            alloc,
-            ring,
-            &basis,
-            region,
-            is_first,
-            options.certified,
-            output,
-        )?;
+        write_taken(alloc, ring, taken, region, options.certified, output)?;
         is_first = false;
     }
     let end = end_piece(alloc, ring, is_first)?;

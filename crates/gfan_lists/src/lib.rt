@@ -5,6 +5,7 @@
 #![tactic(auto)]
 
 pub mod after;
+mod ahead;
 pub mod bases;
 mod certificates;
 pub mod generated;

@@ -1,7 +1,7 @@
 use Rattle.std.proofs.Common.{subst}
 use Rattle.gfan_lists.specs.BasesWriting.{IsUnwritten, IsBasisUnwritten}
 use Rattle.gfan_common.proofs.PerformedLaws.{on_err}
-use Rattle.gfan_lists.proofs.bases.write_basis.Goals as goal
+use Rattle.gfan_lists.proofs.bases.write_taken.Goals as goal
 
 pub returns-clause-err : goal.returns-clause-err
 returns-clause-err g c =
