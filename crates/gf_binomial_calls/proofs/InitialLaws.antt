@@ -71,39 +71,54 @@ top_or_none w p q f h = at (of_or_not p f) (of_or_not q f)
   where
     two : (x y : Exponents) → p ≡ Some x → q ≡ Some y → HasMonomial f x → HasMonomial f y →
         (whole_weight w x <ℤ whole_weight w y) ⊎ ((whole_weight w x ≡ whole_weight w y) ⊎ (whole_weight w y <ℤ whole_weight w x)) → (d : ℤ) × IsTop w f d
-    two x y a b m n (inl l) = (whole_weight w y, record {
-      at = y;
-      there = n;
-      weight = refl;
-      under = λ e k. elim (one_of p q f e h k) [ inl s ↦ omega (arith, ints, at_weight w p x e a s, l) | inr s ↦ omega (arith, ints, at_weight w q y e b s) ];
-    })
-    two x y a b m n (inr (inl l)) = (whole_weight w x, record {
-      at = x;
-      there = m;
-      weight = refl;
-      under = λ e k. elim (one_of p q f e h k) [ inl s ↦ omega (arith, ints, at_weight w p x e a s) | inr s ↦ omega (arith, ints, at_weight w q y e b s, l) ];
-    })
-    two x y a b m n (inr (inr l)) = (whole_weight w x, record {
-      at = x;
-      there = m;
-      weight = refl;
-      under = λ e k. elim (one_of p q f e h k) [ inl s ↦ omega (arith, ints, at_weight w p x e a s) | inr s ↦ omega (arith, ints, at_weight w q y e b s, l) ];
-    })
+    two x y a b m n (inl l) = (
+      whole_weight w y,
+      record {
+        at = y;
+        there = n;
+        weight = refl;
+        under = λ e k. elim (one_of p q f e h k) [ inl s ↦ omega (arith, ints, at_weight w p x e a s, l) | inr s ↦ omega (arith, ints, at_weight w q y e b s) ];
+      },
+    )
+    two x y a b m n (inr (inl l)) = (
+      whole_weight w x,
+      record {
+        at = x;
+        there = m;
+        weight = refl;
+        under = λ e k. elim (one_of p q f e h k) [ inl s ↦ omega (arith, ints, at_weight w p x e a s) | inr s ↦ omega (arith, ints, at_weight w q y e b s, l) ];
+      },
+    )
+    two x y a b m n (inr (inr l)) = (
+      whole_weight w x,
+      record {
+        at = x;
+        there = m;
+        weight = refl;
+        under = λ e k. elim (one_of p q f e h k) [ inl s ↦ omega (arith, ints, at_weight w p x e a s) | inr s ↦ omega (arith, ints, at_weight w q y e b s, l) ];
+      },
+    )
 
     at : IsOf p f → IsOf q f → ((e : Exponents) → HasMonomial f e → ⊥) ⊎ ((d : ℤ) × IsTop w f d)
     at (inl x) (inl y) = inr (two x.0 y.0 x.1 y.1 x.2 y.2 (three (whole_weight w x.0) (whole_weight w y.0)))
-    at (inl x) (inr n) = inr (whole_weight w x.0, record {
-      at = x.0;
-      there = x.2;
-      weight = refl;
-      under = λ e k. elim (one_of p q f e h k) [ inl s ↦ omega (arith, ints, at_weight w p x.0 e x.1 s) | inr s ↦ absurd (n e k s) ];
-    })
-    at (inr n) (inl y) = inr (whole_weight w y.0, record {
-      at = y.0;
-      there = y.2;
-      weight = refl;
-      under = λ e k. elim (one_of p q f e h k) [ inl s ↦ absurd (n e k s) | inr s ↦ omega (arith, ints, at_weight w q y.0 e y.1 s) ];
-    })
+    at (inl x) (inr n) = inr (
+      whole_weight w x.0,
+      record {
+        at = x.0;
+        there = x.2;
+        weight = refl;
+        under = λ e k. elim (one_of p q f e h k) [ inl s ↦ omega (arith, ints, at_weight w p x.0 e x.1 s) | inr s ↦ absurd (n e k s) ];
+      },
+    )
+    at (inr n) (inl y) = inr (
+      whole_weight w y.0,
+      record {
+        at = y.0;
+        there = y.2;
+        weight = refl;
+        under = λ e k. elim (one_of p q f e h k) [ inl s ↦ absurd (n e k s) | inr s ↦ omega (arith, ints, at_weight w q y.0 e y.1 s) ];
+      },
+    )
     at (inr n) (inr m) = inl (λ e k. elim (one_of p q f e h k) [ inl s ↦ n e k s | inr s ↦ m e k s ])
 
 -- ---- the terms of one weight
@@ -133,7 +148,7 @@ level_binomial w d f g h on off = record {
   binomial = record {
     equation = λ e. elim (equal_or_not (whole_weight w e) d) [
       | inl l ↦ on e l ∙ h.binomial.equation e ∙ ap (λ z. z +ℚ neg_ℚ (indicator h.second e)) (sym (p.on e l))
-      ∙ ap (λ z. indicator p.left e +ℚ neg_ℚ z) (sym (q.on e l))
+          ∙ ap (λ z. indicator p.left e +ℚ neg_ℚ z) (sym (q.on e l))
       | inr n ↦ off e n ∙ sym (none_left p.left q.left e (p.off e n) (q.off e n))
     ];
   };

@@ -58,8 +58,8 @@ module _ (o : MonomialOrder) (n : ℕ) (fs : List Terms) (s : MarkedPolynomials)
       weight : HasPositiveWeight n s.items
       weight = marked_positive (IsOfGrade n []) (below_of o) n s.items (order-weights o n [] a) b.marked
           (λ d c x p.
-              let w = variables_by_terms n d.poly (b.arranged.canonical d c).variables in
-              (refl, λ i l. w x p i l ∙ sym (w d.head (mark-there (below_of o) d (b.marked d c)) i l)))
+          let w = variables_by_terms n d.poly (b.arranged.canonical d c).variables in
+          (refl, λ i l. w x p i l ∙ sym (w d.head (mark-there (below_of o) d (b.marked d c)) i l)))
 
   basis_binomials : AreMarkedBinomials (Contains s.items)
   basis_binomials =

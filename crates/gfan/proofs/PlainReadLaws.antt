@@ -135,8 +135,8 @@ module _ (source : List ℕ) (b : BeginsPlainly source) where
   said_plain behind ring said place r t =
       let same = ring_once.once (from source 0) behind b.behind ring b.ring r b.is_ring in
       let moved =
-          subst (λ n. Reads (IsSetText ring) (lexemes (ring_more ring) source n) b.said b.place) same.0
-          (subst (λ z. Reads (IsSetText z) (lexemes (ring_more z) source b.behind) b.said b.place) same.1 b.is_set) in
+      subst (λ n. Reads (IsSetText ring) (lexemes (ring_more ring) source n) b.said b.place) same.0
+      (subst (λ z. Reads (IsSetText z) (lexemes (ring_more z) source b.behind) b.said b.place) same.1 b.is_set) in
       subst ArePlainlyWritten (one_set ring r.ring (lexemes (ring_more ring) source behind) b.said said b.place place moved t).0 b.plain
 
   pub sum_never : (behind : ℕ) (ring : List (List ℕ)) (o : Overflow) → IsRingRead (from source 0) behind ring → HasSumOverflow ring (from source behind) o → ⊥
@@ -154,11 +154,11 @@ module _ (source : List ℕ) (b : BeginsPlainly source) where
   marked_binomials behind ring place s r h =
       let k = one_kept ring (from source behind) place s h in
       let terms =
-          members_marked (length ring) h.read.sums s.items (sums_variables (length ring) h.read.said h.read.sums h.read.exponents)
-          (subst (λ ws. AreWritten h.read.sums ws) h.items h.read.written) k.1 in
+      members_marked (length ring) h.read.sums s.items (sums_variables (length ring) h.read.said h.read.sums h.read.exponents)
+      (subst (λ ws. AreWritten h.read.sums ws) h.items h.read.written) k.1 in
       let each =
-          each_member s.items
-          (each_contained IsBinomial _ (subst (λ ws. AreBinomials (generators_of ws)) h.items (set_binomials behind ring place h.written r h.read))) in
+      each_member s.items
+      (each_contained IsBinomial _ (subst (λ ws. AreBinomials (generators_of ws)) h.items (set_binomials behind ring place h.written r h.read))) in
       record {
         variables = marked_kept ring (from source behind) place s h;
         marked = contained_each HasMarkedTerm s.items terms;
@@ -181,7 +181,6 @@ module _ (source : List ℕ) (b : BeginsPlainly source) where
   marked_text_never o (IsTextRefused.in_items (IsOneRefused.at_first h)) = h
   marked_text_never o (IsTextRefused.in_items (IsOneRefused.at_second behind ring r h)) = sum_never behind ring o r h
   marked_text_never o (IsTextRefused.behind_items end a s r m q) = cc
-
 
 -- ---- an input that is written so
 

@@ -220,7 +220,7 @@ module _ (source : List ℕ) (b : BeginsWithPlainSets source) where
   list_plain behind ring said place r t =
       let same = ring_once.once (from source 0) behind b.behind ring b.ring r b.is_ring in
       let moved = subst (λ n. Reads (IsListText (IsSetText ring)) (lexemes (ring_more ring) source n) b.said b.place) same.0
-          (subst (λ z. Reads (IsListText (IsSetText z)) (lexemes (ring_more z) source b.behind) b.said b.place) same.1 b.are_sets) in
+      (subst (λ z. Reads (IsListText (IsSetText z)) (lexemes (ring_more z) source b.behind) b.said b.place) same.1 b.are_sets) in
       subst (λ z. Each ArePlainlyWritten z) (one_list_of_sets ring r.ring (lexemes (ring_more ring) source behind) b.said said b.place place moved t).0 b.plain
 
   list_sum_never : (behind : ℕ) (ring : List (List ℕ)) (o : Overflow) → IsRingRead (from source 0) behind ring → HaveSumOverflow ring (from source behind) o → ⊥
@@ -271,10 +271,10 @@ module _ (source : List ℕ) (b : BeginsWithTwoPlainly source) where
       let a = b.first in
       let same = ring_once.once (from source 0) behind a.behind ring a.ring r a.is_ring in
       let one = subst (λ n. Reads (IsSetText ring) (lexemes (ring_more ring) source n) a.said a.place) same.0
-          (subst (λ z. Reads (IsSetText z) (lexemes (ring_more z) source a.behind) a.said a.place) same.1 a.is_set) in
+      (subst (λ z. Reads (IsSetText z) (lexemes (ring_more z) source a.behind) a.said a.place) same.1 a.is_set) in
       let there = (one_set ring r.ring (lexemes (ring_more ring) source behind) a.said first a.place place one t).1 in
       let two = subst (λ n. Reads (IsSetText ring) (lexemes (ring_more ring) source n) b.more b.end) there
-          (subst (λ z. Reads (IsSetText z) (lexemes (ring_more z) source a.place) b.more b.end) same.1 b.is_second) in
+      (subst (λ z. Reads (IsSetText z) (lexemes (ring_more z) source a.place) b.more b.end) same.1 b.is_second) in
       subst ArePlainlyWritten (one_set ring r.ring (lexemes (ring_more ring) source place) b.more second b.end end two u).0 b.plain
 
   two_text_never : (o : Overflow) → IsTextRefused ring_marked_set_and_set source (text_errors.Overflow o) → ⊥

@@ -50,7 +50,7 @@ kept : (old new : Option (List ℕ)) (out : List ℕ) → old ≡ Some [] → ne
 kept old new out a b h = let k : Keeps (Some []) (Some out) = subst (λ z. Keeps (Some []) z) b (subst (λ z. Keeps z new) a h) in k
 
 -- a count of failures that stays 0 never rose
-calm : (before now : ℕ) → before ≡ 0 → now ≡ 0 → Rose before now → ⊥
+pub calm : (before now : ℕ) → before ≡ 0 → now ≡ 0 → Rose before now → ⊥
 calm before now a b r = omega (arith, a, b, r)
 
 -- ---- a run
@@ -115,7 +115,7 @@ module _ (words : List (List ℕ)) (input : List ℕ) (files : List FileInMemory
         within : (status ≡ statuses.Refused refusals.WriteFault → ⊥) → IsDoneUnlessMemory status
         within w =
             elim (c.complete job texts asked (record { known = known (command_of job).reads; short = short }) h (heard (command_of job).writing p q n)
-              (calm o.faults s.faults b.unwritten (c.output_calm w ∙ b.unwritten))) [
+            (calm o.faults s.faults b.unwritten (c.output_calm w ∙ b.unwritten))) [
               | inl d ↦ inl d
               | inr m ↦ inr (inl m)
             ]
