@@ -74,11 +74,8 @@ module _ (words : List (List ℕ)) (input : List ℕ) (files : List FileInMemory
   known (Origin.a_file name ∷ os) = ((b.named name, b.opened, b.files_read), known os)
 
   module _ (job : Job) (asked : IsJobOf words job) where
-    texts : List (List ℕ)
-    texts = texts_of input files job
-
-    same_texts : (m : Seen) (ts : List (List ℕ)) → AreLoaded (command_of job).reads p m ts → ts ≡ texts
-    same_texts m ts l = loaded_known (command_of job).reads p q m texts ts (lawful job).input (known (command_of job).reads) l
+    same_texts : (m : Seen) (ts : List (List ℕ)) → AreLoaded (command_of job).reads p m ts → ts ≡ texts_of input files job
+    same_texts m ts l = loaded_known (command_of job).reads p q m (texts_of input files job) ts (lawful job).input (known (command_of job).reads) l
 
     pub done_on_bytes : IsOneAnswer job → IsRunDone command_of words p q o s → IsAnswered (command_of job) (texts_of input files job) out
     done_on_bytes n d = at (done_as command_of lawful words p q o s job asked d)
@@ -106,7 +103,7 @@ module _ (words : List (List ℕ)) (input : List ℕ) (files : List FileInMemory
 
     pub exact_on_bytes : (status : Status) (r : Refusal) → AreShort (texts_of input files job) → RunClauses command_of words p q o s status →
         IsRefusedAtOnce (command_of job) (texts_of input files job) r → IsRefusedWith status r
-    exact_on_bytes status r short c h = c.exact job texts r asked (record { known = known (command_of job).reads; short = short }) h
+    exact_on_bytes status r short c h = c.exact job (texts_of input files job) r asked (record { known = known (command_of job).reads; short = short }) h
 
     pub complete_on_bytes : (status : Status) → IsOneAnswer job → AreShort (texts_of input files job) → RunClauses command_of words p q o s status →
         IsInReach (command_of job) (texts_of input files job) → IsDoneUnlessMemory status
@@ -114,7 +111,7 @@ module _ (words : List (List ℕ)) (input : List ℕ) (files : List FileInMemory
       where
         within : (status ≡ statuses.Refused refusals.WriteFault → ⊥) → IsDoneUnlessMemory status
         within w =
-            elim (c.complete job texts asked (record { known = known (command_of job).reads; short = short }) h (heard (command_of job).writing p q n)
+            elim (c.complete job (texts_of input files job) asked (record { known = known (command_of job).reads; short = short }) h (heard (command_of job).writing p q n)
             (calm o.faults s.faults b.unwritten (c.output_calm w ∙ b.unwritten))) [
               | inl d ↦ inl d
               | inr m ↦ inr (inl m)
