@@ -1,22 +1,49 @@
-use gf_poly::PolyError;
-use gf_samples::{lists, lists_members, marked, marked_set, poly};
-use std::test::Fail;
+//! Polynomials and marked sets in two variables, written as rows of numbers.
+use gf_rows::texts;
+use gf_samples::{lists, lists_members, marked_set, poly};
+use std::alloc::Global;
 
-/// 2ab - a + a, and 3a^2 + b marked at b; and what is no polynomial
-#[test]
-fn rows(rt: HostRuntime) -> Result<(), Fail> {
-    let alloc = rt.alloc();
-    let f = poly(alloc, &[(2, [1, 1]), (-1, [1, 0]), (1, [1, 0])])?;
-    assert!(rt; lists(&f, &[(2, 1, [1, 1])]));
-    let set = marked_set(alloc, 2, &[&[(1, [0, 1]), (3, [2, 0])]])?;
-    assert!(rt; lists_members(&set, &[(1, &[(3, 1, [2, 0]), (1, 1, [0, 1])])]));
-    assert!(rt; matches!(poly(alloc, &[(i128::MIN, [0])]), Err(PolyError::Memory)));
-    assert!(rt; matches!(poly(alloc, &[(1, [1 << 31])]), Err(PolyError::Memory)));
-    assert!(rt;
-        matches!(
-            marked(alloc, &[(1, [1]), (-1, [1])]),
-            Err(PolyError::Memory)
-        )
-    );
-    Ok(())
+/// The rows `2,1,1 -1,1,0`, apart, of a coefficient and two exponents each.
+fn rows(alloc: Global, text: &str) -> Option<Vec<(i128, [u32; 2])>> {
+    let mut rows = Vec::new(alloc);
+    for word in text.split_whitespace() {
+        let numbers: Vec<&str> = word.split(',').collect(alloc).ok()?;
+        let [coef, a, b] = numbers.as_slice() else {
+            return None;
+        };
+        let exponents = [a.parse::<u32>().ok()?, b.parse::<u32>().ok()?];
+        rows.push((coef.parse::<i128>().ok()?, exponents)).ok()?;
+    }
+    Some(rows)
+}
+
+/// The same, with denominators of 1.
+fn whole(alloc: Global, text: &str) -> Option<Vec<(i128, i128, [u32; 2])>> {
+    let mut found = Vec::new(alloc);
+    for (coef, exponents) in rows(alloc, text)?.as_slice() {
+        found.push((*coef, 1, *exponents)).ok()?;
+    }
+    Some(found)
+}
+
+/// What a call on rows gives; `none` where there is no such polynomial or set.
+pub(crate) fn told(alloc: Global, call: &str, fields: &[&str]) -> Option<String> {
+    match (call, fields) {
+        ("polynomial", [text, listed]) => {
+            let (rows, listed) = (rows(alloc, text)?, whole(alloc, listed)?);
+            match poly(alloc, rows.as_slice()) {
+                Ok(f) => texts::text(alloc, lists(&f, listed.as_slice())),
+                Err(_) => texts::text(alloc, "none"),
+            }
+        }
+        ("member", [text, place, listed]) => {
+            let (rows, listed) = (rows(alloc, text)?, whole(alloc, listed)?);
+            let member = (place.parse::<usize>().ok()?, listed.as_slice());
+            match marked_set(alloc, 2, &[rows.as_slice()]) {
+                Ok(set) => texts::text(alloc, lists_members(&set, &[member])),
+                Err(_) => texts::text(alloc, "none"),
+            }
+        }
+        _ => None,
+    }
 }

@@ -1,240 +1,180 @@
-//! Lists of bases of small ideals, worked by hand.
-
-ghost use Rattle.std.specs.Prelude.{◌≡◌, IfOk, IfSome};
-ghost use Rattle.gf_buchberger.specs.Jobs.{HaveRingVariables};
+//! Lists of bases: walkers, several workers, parents.
+ghost use Rattle.std.specs.Prelude.{◌≡◌, IfSome};
 ghost use Rattle.gf_facets.specs.Regions.{all_positive};
 ghost use Rattle.gf_reverse.specs.Upward.{IsNode};
 
-use gf_buchberger::basis;
-use gf_cone::Region;
-use gf_order::Order;
-use gf_poly::{MarkedSet, Poly, PolyError};
-use gf_samples::{lists_members, polys};
+use crate::answers::add;
+use crate::sets::{polynomials, positive, start};
+use gf_poly::MarkedSet;
+use gf_rows::texts;
 use gf_subtree::Waves;
 use gf_tree::{Bases, Mark, Node, Parent, Split, TreeError, Walker, list_bases, parent};
 use gf_waves::FreeGate;
 use std::alloc::Global;
-use std::test::Fail;
+use std::thread::Threads;
 
-/// The basis by degree, then lex.
-fn start(alloc: Global, n: u32, list: &[Poly]) -> Result<MarkedSet, PolyError>
-    requires { HaveRingVariables n list.now }
-    ensures { IfOk result (IsNode (all_positive n)) }
+/// The basis by degree of a set: the root of its tree.
+fn root(alloc: Global, n: u32, set: &str) -> Option<MarkedSet>
+    ensures { IfSome result (IsNode (all_positive n)) }
 {
-    let order = Order::deglex();
-    match basis(alloc, n, list, &order, 1000) {
-        Ok(set) => Ok(set),
-        Err(_) => Err(PolyError::Memory),
+    let list = polynomials(alloc, n, set)?;
+    start(alloc, n, &list)
+}
+
+/// The kind of a refusal.
+fn kind(refusal: &TreeError) -> &'static str {
+    match refusal {
+        TreeError::PairBudget { .. } => "spent",
+        _ => "refused",
     }
 }
 
-/// The basis of {a - b, b - c} by degree, then lex: its root.
-fn linear(alloc: Global) -> Result<MarkedSet, PolyError>
-    ensures { IfOk result (IsNode (all_positive 3)) }
-{
-    let list = polys(
-        alloc,
-        &[
-            &[(1, [1, 0, 0]), (-1, [0, 1, 0])],
-            &[(1, [0, 1, 0]), (-1, [0, 0, 1])],
-        ],
-    )?;
-    start(alloc, 3, &list)
-}
-
-/// Whether a basis is the one of the linear forms that is listed at a place.
-fn is_listed(set: &MarkedSet, place: usize) -> bool {
-    match place {
-        0 => lists_members(
-            set,
-            &[
-                (0, &[(1, 1, [0, 1, 0]), (-1, 1, [0, 0, 1])]),
-                (0, &[(1, 1, [1, 0, 0]), (-1, 1, [0, 0, 1])]),
-            ],
-        ),
-        1 => lists_members(
-            set,
-            &[
-                (1, &[(-1, 1, [0, 1, 0]), (1, 1, [0, 0, 1])]),
-                (0, &[(1, 1, [1, 0, 0]), (-1, 1, [0, 1, 0])]),
-            ],
-        ),
-        2 => lists_members(
-            set,
-            &[
-                (1, &[(-1, 1, [1, 0, 0]), (1, 1, [0, 0, 1])]),
-                (1, &[(-1, 1, [1, 0, 0]), (1, 1, [0, 1, 0])]),
-            ],
-        ),
-        _ => false,
+/// The next basis, or that there is none, or why.
+fn next(alloc: Global, given: &Result<Option<MarkedSet>, TreeError>) -> Option<String> {
+    match given {
+        Ok(Some(basis)) => texts::set(alloc, basis),
+        Ok(None) => texts::text(alloc, "end"),
+        Err(refusal) => texts::text(alloc, kind(refusal)),
     }
 }
 
-/// Takes a walker's bases one by one; whether each is that of the linear forms at its place.
-fn stream(alloc: Global, root: MarkedSet, places: &mut Vec<bool>) -> Result<(), TreeError>
-    requires { IsNode (all_positive 3) root }
-{
-    let region = Region::positive(alloc, 3)?;
-    let mut walker = Walker::at(alloc, root, &region, 100)?;
-    while let Some(basis) = walker.advance()? {
-        let place = places.len();
-        places.push(is_listed(&basis, place))?;
-    }
-    Ok(())
+/// Where a walker stands.
+fn position(alloc: Global, walker: &Walker) -> Option<String> {
+    let position = walker.position();
+    let basis = texts::set(alloc, position.here)?;
+    let mark = match position.mark {
+        Mark::Before => "before",
+        Mark::After(_) => "below",
+        Mark::Listed => "listed",
+        Mark::Finished => "finished",
+    };
+    format!(in alloc; "{mark} {basis}").ok()
 }
 
-/// The place after those of the bases that a walker has left, from `first` on; none where one isn't that of the linear forms.
-fn end_of(walker: Walker, first: usize) -> Option<usize> {
+/// Adds the bases that a walker has left, fewer than 1000.
+fn add_left(alloc: Global, walker: Walker, text: &mut String) -> Option<()> {
     let mut bases = Bases::new(walker);
-    'places: for place in first..4 {
+    for _ in 0..1000 {
         match bases.next() {
-            Some(Ok(basis)) => {
-                if !is_listed(&basis, place) {
-                    return None;
-                }
-            }
+            Some(Ok(basis)) => add(text, &texts::set(alloc, &basis)?)?,
             Some(Err(_)) => return None,
-            None => return Some(place),
+            None => return Some(()),
         }
     }
     None
 }
 
-/// How many bases the ideal of these in two variables has.
-fn number(alloc: Global, rows: &[&[(i128, [u32; 2])]]) -> Result<usize, PolyError> {
-    let list = polys(alloc, rows)?;
-    let root = start(alloc, 2, &list)?;
-    let region = Region::positive(alloc, 2)?;
-    match list_bases(alloc, root, &region, 100) {
-        Ok(all) => Ok(all.len()),
-        Err(_) => Err(PolyError::Memory),
+/// Adds what a walker gives in turn: at `advance` the next basis, at `position` where it stands.
+fn add_steps(alloc: Global, walker: &mut Walker, asked: &str, text: &mut String) -> Option<()> {
+    for step in asked.split("; ") {
+        let answer = match step {
+            "advance" => next(alloc, &walker.advance())?,
+            "position" => position(alloc, walker)?,
+            _ => return None,
+        };
+        add(text, &answer)?;
     }
+    Some(())
 }
 
-/// The last basis of the linear forms.
-fn last(alloc: Global) -> Result<Option<MarkedSet>, PolyError>
-    ensures { IfOk result (λ o. IfSome o (IsNode (all_positive 3))) }
-{
-    let root = linear(alloc)?;
-    let region = Region::positive(alloc, 3)?;
-    let mut walker = Walker::at(alloc, root, &region, 100)?;
-    'steps: for _ in 0..2 {
-        if walker.advance().is_err() {
-            return Ok(None);
-        }
-    }
-    match walker.advance() {
-        Ok(basis) => Ok(basis),
-        Err(_) => Ok(None),
-    }
-}
-
-#[test]
-fn linear_forms_are_listed(rt: HostRuntime) -> Result<(), Fail> {
-    let alloc = rt.alloc();
-    let root = linear(alloc)?;
-    let mut places = Vec::new(alloc);
-    if stream(alloc, root, &mut places).is_err() {
-        return Err("refused".into());
-    }
-    assert!(rt; places.len() == 3);
-    for listed in &places {
-        assert!(rt; *listed);
-    }
-    Ok(())
-}
-
-#[test]
-fn parts_of_a_walker_list_what_it_had(rt: HostRuntime) -> Result<(), Fail> {
-    let alloc = rt.alloc();
-    let root = linear(alloc)?;
-    let region = Region::positive(alloc, 3)?;
-    let mut walker = Walker::at(alloc, root, &region, 100)?;
-    if walker.advance().is_err() {
-        return Err("refused".into());
-    }
+/// Adds what both parts of a walker have left; where that is refused the kind of the refusal, and what the walker gives then.
+fn add_parts(alloc: Global, walker: Walker, asked: &str, text: &mut String) -> Option<()> {
     match walker.split() {
+        Ok(Split::Ended) => None,
         Ok(Split::Parts { first, rest }) => {
-            assert!(rt; end_of(first, 1) == Some(2));
-            assert!(rt; end_of(rest, 2) == Some(3));
+            add_left(alloc, first, text)?;
+            add_left(alloc, rest, text)
         }
-        _ => return Err("no parts".into()),
+        Err((mut same, refusal)) => {
+            add(text, kind(&refusal))?;
+            add_steps(alloc, &mut same, asked, text)
+        }
     }
-    Ok(())
 }
 
-/// Whether a walker stands at the first basis of the linear forms, which it has given.
-fn is_after_the_first(walker: &Walker) -> bool {
-    let place = walker.position();
-    is_listed(place.here, 0) && matches!(place.mark, Mark::Listed)
+/// What a walker gives in turn, and then in two parts, if more is asked.
+fn walked(alloc: Global, mut walker: Walker, asked: &str, more: &[&str]) -> Option<String> {
+    let mut text = String::new(alloc);
+    add_steps(alloc, &mut walker, asked, &mut text)?;
+    if let [asked] = more {
+        add_parts(alloc, walker, asked, &mut text)?;
+    }
+    Some(text)
 }
 
-/// No flip may settle a pair: the first basis is given, and then every call refused.
-#[test]
-fn a_refused_walker_stands(rt: HostRuntime) -> Result<(), Fail> {
-    let alloc = rt.alloc();
-    let root = linear(alloc)?;
-    let region = Region::positive(alloc, 3)?;
-    let mut walker = Walker::at(alloc, root, &region, 0)?;
-    match walker.advance() {
-        Ok(Some(basis)) => assert!(rt; is_listed(&basis, 0)),
-        _ => return Err("no first basis".into()),
-    }
-    for _ in 0..2 {
-        assert!(rt; matches!(walker.advance(), Err(TreeError::PairBudget { .. })));
-        assert!(rt; is_after_the_first(&walker));
-    }
-    let Err((walker, refusal)) = walker.split() else {
-        return Err("parts".into());
+/// What so many workers give in turn: at `next` the next basis, at `ready` how many are ready.
+pub(crate) fn waves_told<R: Threads + Sync>(
+    rt: &R,
+    alloc: Global,
+    fields: &[&str],
+) -> Option<String> {
+    let [n, set, workers, pairs, asked] = fields else {
+        return None;
     };
-    assert!(rt; matches!(refusal, TreeError::PairBudget { .. }));
-    assert!(rt; is_after_the_first(&walker));
-    Ok(())
+    let (n, workers) = (n.parse::<u32>().ok()?, workers.parse::<u32>().ok()?);
+    if workers < 1 || workers > 64 {
+        return None;
+    }
+    let root = root(alloc, n, set)?;
+    let region = positive(alloc, n)?;
+    let pairs = pairs.parse::<u64>().ok()?;
+    let mut waves = Waves::new(alloc, root, &region, workers, pairs, &FreeGate).ok()?;
+    let mut text = String::new(alloc);
+    for step in asked.split("; ") {
+        let answer = match step {
+            "next" => next(alloc, &waves.next_written(rt))?,
+            "ready" => texts::text(alloc, waves.ready())?,
+            _ => return None,
+        };
+        add(&mut text, &answer)?;
+    }
+    Some(text)
 }
 
-/// So it is with several workers: what is left is the same, and nothing of it is ready.
-#[test]
-fn refused_waves_stand(rt: HostRuntime) -> Result<(), Fail> {
-    let alloc = rt.alloc();
-    for workers in [1, 4] {
-        if 1 <= workers && workers <= 64 {
-            let root = linear(alloc)?;
-            let region = Region::positive(alloc, 3)?;
-            let mut waves = Waves::new(alloc, root, &region, workers, 0, &FreeGate)?;
-            match waves.next_written(&rt) {
-                Ok(Some(basis)) => assert!(rt; is_listed(&basis, 0)),
-                _ => return Err("no first basis".into()),
-            }
-            for _ in 0..2 {
-                assert!(rt; matches!(waves.next_written(&rt), Err(TreeError::PairBudget { .. })));
-                assert!(rt; waves.ready() == 0);
-            }
+/// A walker before the root.
+fn walker_at(alloc: Global, n: u32, root: MarkedSet, pairs: u64) -> Option<Walker>
+    requires { IsNode (all_positive n) root }
+    ensures { IfSome result (λ w. w.region ≡ all_positive n) }
+{
+    let region = positive(alloc, n)?;
+    match Walker::at(alloc, root, &region, pairs) {
+        Ok(walker) => Some(walker),
+        Err(_) => None,
+    }
+}
+
+/// The basis at a place of the list below the root.
+fn basis_at(alloc: Global, n: u32, root: MarkedSet, place: u32) -> Option<MarkedSet>
+    requires { IsNode (all_positive n) root }
+    ensures { IfSome result (IsNode (all_positive n)) }
+{
+    let mut walker = walker_at(alloc, n, root, 1000)?;
+    'steps: for _ in 0..place {
+        if walker.advance().is_err() {
+            return None;
         }
     }
-    Ok(())
+    match walker.advance() {
+        Ok(basis) => basis,
+        Err(_) => None,
+    }
 }
 
-#[test]
-fn the_last_basis_is_below_the_root(rt: HostRuntime) -> Result<(), Fail> {
-    let alloc = rt.alloc();
-    let set = last(alloc)?.ok_or("no third basis")?;
-    let region = Region::positive(alloc, 3)?;
-    match parent(alloc, &set, &region, 100) {
+/// What is above the basis at a place of the list below the root, by a flip with a budget of pairs.
+fn above(alloc: Global, n: u32, root: MarkedSet, place: u32, pairs: u64) -> Option<String>
+    requires { IsNode (all_positive n) root }
+{
+    let region = positive(alloc, n)?;
+    let basis = basis_at(alloc, n, root, place)?;
+    match parent(alloc, &basis, &region, pairs) {
+        Ok(Parent::Root) => texts::text(alloc, "root"),
         Ok(Parent::Up { normal, basis }) => {
-            assert!(rt; normal.as_slice() == [-1, 0, 1].as_slice());
-            assert!(rt; is_listed(&basis, 0));
+            let normal = texts::vector(alloc, &normal)?;
+            let basis = texts::set(alloc, &basis)?;
+            format!(in alloc; "{normal} {basis}").ok()
         }
-        _ => return Err("no parent".into()),
+        Err(refusal) => texts::text(alloc, kind(&refusal)),
     }
-    let root = linear(alloc)?;
-    assert!(rt; matches!(parent(alloc, &root, &region, 100), Ok(Parent::Root)));
-    assert!(rt;
-        matches!(
-            parent(alloc, &set, &region, 0),
-            Err(TreeError::PairBudget { .. })
-        )
-    );
-    Ok(())
 }
 
 /// A value that may go to another thread.
@@ -244,22 +184,41 @@ fn sent<T: Send>(value: T) -> T
     value
 }
 
-#[test]
-fn nodes_may_be_sent(rt: HostRuntime) -> Result<(), Fail> {
-    let alloc = rt.alloc();
-    let region = Region::positive(alloc, 3)?;
-    let node = sent(Node::of(alloc, linear(alloc)?, &region));
-    assert!(rt; is_listed(&node.into_basis(), 0));
-    Ok(())
+/// What a call gives on the root of a tree and a budget of pairs.
+fn of_root(
+    alloc: Global,
+    call: &str,
+    n: u32,
+    root: MarkedSet,
+    pairs: u64,
+    fields: &[&str],
+) -> Option<String>
+    requires { IsNode (all_positive n) root }
+{
+    let region = positive(alloc, n)?;
+    match (call, fields) {
+        ("count", []) => {
+            let bases = list_bases(alloc, root, &region, pairs).ok()?;
+            texts::text(alloc, bases.len())
+        }
+        ("parent", [place]) => above(alloc, n, root, place.parse::<u32>().ok()?, pairs),
+        ("walker", [asked, more @ ..]) => {
+            walked(alloc, walker_at(alloc, n, root, pairs)?, asked, more)
+        }
+        ("node", []) => {
+            let node = sent(Node::of(alloc, root, &region));
+            texts::set(alloc, &node.into_basis())
+        }
+        _ => None,
+    }
 }
 
-#[test]
-fn small_ideals_are_counted(rt: HostRuntime) -> Result<(), Fail> {
-    let alloc = rt.alloc();
-    // a^2 - b; the unit ideal; the zero ideal; a monomial ideal
-    assert!(rt; number(alloc, &[&[(1, [2, 0]), (-1, [0, 1])]])? == 2);
-    assert!(rt; number(alloc, &[&[(3, [0, 0])]])? == 1);
-    assert!(rt; number(alloc, &[])? == 1);
-    assert!(rt; number(alloc, &[&[(1, [1, 1])], &[(1, [0, 2])]])? == 1);
-    Ok(())
+/// What a call gives on the tree of the bases of a set in so many variables, with a budget of pairs.
+pub(crate) fn told(alloc: Global, call: &str, fields: &[&str]) -> Option<String> {
+    let [n, set, pairs, fields @ ..] = fields else {
+        return None;
+    };
+    let n = n.parse::<u32>().ok()?;
+    let root = root(alloc, n, set)?;
+    of_root(alloc, call, n, root, pairs.parse::<u64>().ok()?, fields)
 }

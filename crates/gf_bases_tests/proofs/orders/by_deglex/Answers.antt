@@ -3,10 +3,10 @@ use Rattle.gf_exponents.specs.SixOrders.{MonomialOrder}
 use Rattle.gf_order.specs.Comparisons.{HasEntries}
 use Rattle.gf_buchberger.specs.Jobs.{IsSuited}
 use Rattle.gf_buchberger.proofs.JobLaws.{orders_that_suit}
-use Rattle.gf_bases_tests.proofs.buchberger.by_lex.Goals as goal
+use Rattle.gf_bases_tests.proofs.orders.by_deglex.Goals as goal
 
 pub returns-clause-entries : goal.returns-clause-entries
-returns-clause-entries c = subst (λ (o : MonomialOrder). HasEntries 3 o) (sym c.lex.ensures) tt
+returns-clause-entries c = subst (λ (o : MonomialOrder). HasEntries c.args._n o) (sym c.deglex.ensures) tt
 
 pub returns-clause-suited : goal.returns-clause-suited
-returns-clause-suited c = λ fs v. subst (λ (o : MonomialOrder). IsSuited o 3 fs) (sym c.lex.ensures) (orders_that_suit.lex 3 fs v)
+returns-clause-suited c = λ fs v. subst (λ (o : MonomialOrder). IsSuited o c.args._n fs) (sym c.deglex.ensures) (orders_that_suit.deglex c.args._n fs v)

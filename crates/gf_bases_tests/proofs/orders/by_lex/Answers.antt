@@ -3,10 +3,10 @@ use Rattle.gf_exponents.specs.SixOrders.{MonomialOrder}
 use Rattle.gf_order.specs.Comparisons.{HasEntries}
 use Rattle.gf_buchberger.specs.Jobs.{IsSuited}
 use Rattle.gf_buchberger.proofs.JobLaws.{orders_that_suit}
-use Rattle.gf_bases_tests.proofs.buchberger.by_deglex.Goals as goal
+use Rattle.gf_bases_tests.proofs.orders.by_lex.Goals as goal
 
 pub returns-clause-entries : goal.returns-clause-entries
-returns-clause-entries c = subst (λ (o : MonomialOrder). HasEntries 3 o) (sym c.deglex.ensures) tt
+returns-clause-entries c = subst (λ (o : MonomialOrder). HasEntries c.args._n o) (sym c.lex.ensures) tt
 
 pub returns-clause-suited : goal.returns-clause-suited
-returns-clause-suited c = λ fs v. subst (λ (o : MonomialOrder). IsSuited o 3 fs) (sym c.deglex.ensures) (orders_that_suit.deglex 3 fs v)
+returns-clause-suited c = λ fs v. subst (λ (o : MonomialOrder). IsSuited o c.args._n fs) (sym c.lex.ensures) (orders_that_suit.lex c.args._n fs v)

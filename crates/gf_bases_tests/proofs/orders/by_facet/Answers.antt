@@ -1,0 +1,8 @@
+use Rattle.std.proofs.Common.{sym, subst}
+use Rattle.gf_exponents.specs.SixOrders.{MonomialOrder}
+use Rattle.gf_buchberger.specs.Jobs.{IsSuited}
+use Rattle.gf_buchberger.proofs.JobLaws.{orders_that_suit}
+use Rattle.gf_bases_tests.proofs.orders.by_facet.Goals as goal
+
+pub returns-clause-suited : goal.returns-clause-suited
+returns-clause-suited c = λ fs v. subst (λ (o : MonomialOrder). IsSuited o c.args._n fs) (sym c.facet.ensures.order) (orders_that_suit.facet_downward c.args._n c.args.normal fs v c.requires.downward)
