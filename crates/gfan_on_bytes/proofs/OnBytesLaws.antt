@@ -111,7 +111,8 @@ module _ (words : List (List ℕ)) (input : List ℕ) (files : List FileInMemory
       where
         within : (status ≡ statuses.Refused refusals.WriteFault → ⊥) → IsDoneUnlessMemory status
         within w =
-            elim (c.complete job (texts_of input files job) asked (record { known = known (command_of job).reads; short = short }) h (heard (command_of job).writing p q n)
+            elim (c.complete job (texts_of input files job) asked (record { known = known (command_of job).reads; short = short }) h
+            (heard (command_of job).writing p q n)
             (calm o.faults s.faults b.unwritten (c.output_calm w ∙ b.unwritten))) [
               | inl d ↦ inl d
               | inr m ↦ inr (inl m)
