@@ -3,4 +3,4 @@ use Rattle.gf_buchberger.proofs.JobLaws.{ring_of_each}
 use Rattle.gf_bases_tests.proofs.sets.polynomials.Goals as goal
 
 pub returns : goal.returns
-returns c = ring_of_each c.args.n c.in_some-set.set.items c.in_some-set.set.items refl c.in_some-set.ensures
+returns c = ring_of_each c.args.n c.in_ok-set.set.items c.in_ok-set.set.items refl c.in_ok-set.ensures
