@@ -33,8 +33,8 @@ use Rattle.gf_buchberger.specs.Bases.{IsBasisRefusal}
 use Rattle.gf_reduced.specs.declared.error.CheckError.{CheckError}
 use Rattle.gf_reduced.specs.declared.error.CheckError.TheVariants as check_errors
 use Rattle.gf_reduced.specs.Refusals.{of_poly}
-use Rattle.gf_tree.specs.declared.error.TreeError.{TreeError}
-use Rattle.gf_tree.specs.declared.error.TreeError.TheVariants as tree_errors
+use Rattle.gf_flip.specs.declared.error.TreeError.{TreeError}
+use Rattle.gf_flip.specs.declared.error.TreeError.TheVariants as tree_errors
 use Rattle.gf_reverse.specs.Upward.{Fan}
 use Rattle.gf_tree.specs.Refusals.{IsTreeRefusal}
 use Rattle.gf_weights.specs.declared.error.WeightError.{WeightError}
