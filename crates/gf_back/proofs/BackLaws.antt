@@ -2,10 +2,10 @@
 -- To cite: flips_lead_back. The rest are steps.
 use Rattle.std.proofs.Common.{◌≡◌, ℕ, List, ℤ, Result, Ok, Err, IfOk, subst}
 use Rattle.gf_poly.specs.Marking.{MarkedPolynomial, MarkedPolynomials}
-use Rattle.gf_facets.specs.Rows.{negated}
-use Rattle.gf_facets.specs.Facets.{IsFlippable}
-use Rattle.gf_facets.specs.Neighbours.{AreAdjacent}
-use Rattle.gf_initial.proofs.LawsHold.{neighbours_are_unique}
+use Rattle.gf_facets_theory.specs.Rows.{negated}
+use Rattle.gf_facets_theory.specs.Facets.{IsFlippable}
+use Rattle.gf_facets_theory.specs.Neighbours.{AreAdjacent}
+use Rattle.gf_initial_theory.proofs.LawsHold.{neighbours_are_unique}
 use Rattle.gf_lifts.specs.Crossings.{IsCrossing, IsNeighbour}
 use Rattle.gf_back.specs.Back.{IsCrossed, FlipsLeadBack}
 

@@ -2,10 +2,10 @@
 use Rattle.std.specs.Prelude.{◌≡◌, ℕ, List, ℤ}
 use Rattle.gf_poly.specs.Polynomial.{Terms}
 use Rattle.gf_poly.specs.Marking.{MarkedPolynomial}
-use Rattle.gf_ideal.specs.Membership.{AreInVariables}
-use Rattle.gf_facets.specs.Rows.{negated}
-use Rattle.gf_facets.specs.Regions.{Region}
-use Rattle.gf_facets.specs.Neighbours.{AreAdjacent}
+use Rattle.gf_ideal_theory.specs.Membership.{AreInVariables}
+use Rattle.gf_facets_theory.specs.Rows.{negated}
+use Rattle.gf_facets_theory.specs.Regions.{Region}
+use Rattle.gf_facets_theory.specs.Neighbours.{AreAdjacent}
 use Rattle.gf_lifts.specs.Crossings.{IsCrossing, IsNeighbour}
 
 -- for some ideal in n variables and some region, bs and cs are the bases on both sides of the facet of bs with normal a

@@ -1,7 +1,7 @@
 //! The flip back.
 ghost use Rattle.std.specs.Prelude.{◌≡◌, List, IfOk, IfErr};
 ghost use Rattle.gf_poly.specs.Marking.{MarkedPolynomial};
-ghost use Rattle.gf_facets.specs.Rows.{negated};
+ghost use Rattle.gf_facets_theory.specs.Rows.{negated};
 ghost use Rattle.gf_buchberger.specs.Bases.{IsWantOfMemory};
 ghost use Rattle.gf_flip.specs.Operations.{IsFlipRefusal, IsFlipWithinLimits};
 ghost use Rattle.gf_back.specs.Back.{IsCrossed};

@@ -10,7 +10,7 @@ use crate::sets::polynomials;
 use gf_buchberger::{
     BasisError, NotHomogeneous, basis, basis_by_second_run, homogeneous, wide_basis,
 };
-use gf_conversion::basis_by_several_ways;
+use gf_groebner_walk::basis_by_several_ways;
 use gf_order::Order;
 use gf_poly::{MarkedSet, Poly, ROOM};
 use gf_rows::texts;

@@ -2,7 +2,7 @@
 ghost use Rattle.std.specs.Prelude.{◌≡◌, ◌<◌, length, IfOk, IfSome};
 ghost use Rattle.gf_cone.specs.Answers.{AnswersFacet, IsFacetAnswered};
 ghost use Rattle.gf_cone.specs.Cones.{HasInterior};
-ghost use Rattle.gf_facets.specs.Systems.{units};
+ghost use Rattle.gf_facets_theory.specs.Systems.{units};
 
 use crate::answers::add;
 use crate::sets::positive;

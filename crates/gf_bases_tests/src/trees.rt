@@ -1,7 +1,7 @@
 //! Lists of bases: walkers, several workers, parents.
 ghost use Rattle.std.specs.Prelude.{◌≡◌, IfSome};
-ghost use Rattle.gf_facets.specs.Regions.{all_positive};
-ghost use Rattle.gf_reverse.specs.Upward.{IsNode};
+ghost use Rattle.gf_facets_theory.specs.Regions.{all_positive};
+ghost use Rattle.gf_reverse_theory.specs.Upward.{IsNode};
 
 use crate::answers::add;
 use crate::sets::{polynomials, positive, start};

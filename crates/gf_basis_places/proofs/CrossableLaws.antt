@@ -4,14 +4,14 @@ use Rattle.std.proofs.Common.{◌≡◌, ℕ, ◌+◌, ◌<◌, ◌≤◌, List,
 use Rattle.std.proofs.lemmas.Bool.{cases_lt}
 use Rattle.std.proofs.lemmas.List.{get_or_default}
 use Rattle.std.proofs.lemmas.List.Elements.{Contains-append_left, Contains-append_right, Contains-append_cases}
-use Rattle.gf_int.proofs.ListLaws.{Contains-here}
+use Rattle.gf_int_theory.proofs.ListLaws.{Contains-here}
 use Rattle.gf_poly.specs.Marking.{MarkedPolynomial}
-use Rattle.gf_ideal.proofs.ListLaws.{Contains-cases}
-use Rattle.gf_facets.specs.LexPositive.{IsBefore}
-use Rattle.gf_facets.specs.Regions.{Region}
-use Rattle.gf_facets.specs.Normals.{Ascends}
-use Rattle.gf_facets.specs.Facets.{IsFlippable}
-use Rattle.gf_facets.proofs.AscendingLaws.{ascends_more, ascends_at, same_ascending}
+use Rattle.gf_ideal_theory.proofs.ListLaws.{Contains-cases}
+use Rattle.gf_facets_theory.specs.LexPositive.{IsBefore}
+use Rattle.gf_facets_theory.specs.Regions.{Region}
+use Rattle.gf_facets_theory.specs.Normals.{Ascends}
+use Rattle.gf_facets_theory.specs.Facets.{IsFlippable}
+use Rattle.gf_facets_theory.proofs.AscendingLaws.{ascends_more, ascends_at, same_ascending}
 use Rattle.gf_cone.specs.Cones.{ConeRows, normal_at, IsConeOf}
 use Rattle.gf_basis_places.specs.Crossable.{AreCrossable, IsWithPlace}
 

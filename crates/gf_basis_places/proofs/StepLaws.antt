@@ -4,16 +4,16 @@
 use Rattle.std.proofs.Common.{◌≡◌, ℕ, List, ℤ, Some, sym, ap₂, ◌∙◌, subst}
 use Rattle.gf_poly.specs.Marking.{MarkedPolynomial, MarkedPolynomials, polys}
 use Rattle.gf_buchberger.specs.declared.bases.BasisError.{BasisError}
-use Rattle.gf_facets.specs.Rows.{negated}
-use Rattle.gf_facets.specs.Regions.{Region, IsInRegion, all_positive}
-use Rattle.gf_facets.specs.Facets.{IsFlippable, IsInsideFacet}
-use Rattle.gf_facets.proofs.VectorLaws.{negated-twice}
+use Rattle.gf_facets_theory.specs.Rows.{negated}
+use Rattle.gf_facets_theory.specs.Regions.{Region, IsInRegion, all_positive}
+use Rattle.gf_facets_theory.specs.Facets.{IsFlippable, IsInsideFacet}
+use Rattle.gf_facets_theory.proofs.VectorLaws.{negated-twice}
 use Rattle.gf_lifts.specs.Crossings.{IsNeighbour}
 use Rattle.gf_flip.specs.Operations.{IsFlipRefusal}
 use Rattle.gf_back.specs.Back.{IsCrossed}
-use Rattle.gf_reverse.specs.Upward.{IsNode, IsNodeIn, fan_of}
-use Rattle.gf_reverse.specs.Answers.{IsAcross}
-use Rattle.gf_reverse.proofs.TreeLaws.{own_fan, node_moved}
+use Rattle.gf_reverse_theory.specs.Upward.{IsNode, IsNodeIn, fan_of}
+use Rattle.gf_reverse_theory.specs.Answers.{IsAcross}
+use Rattle.gf_reverse_theory.proofs.TreeLaws.{own_fan, node_moved}
 use Rattle.gf_flip.specs.declared.error.TreeError.{TreeError}
 use Rattle.gf_flip.specs.TreeErrors.{of_flip_error}
 use Rattle.gf_tree.specs.Refusals.{IsRefusedAtBasis, IsCallRefusal}

@@ -2,8 +2,8 @@
 -- To cite: walks_are_determined. The rest are steps.
 use Rattle.std.proofs.Common.{◌≡◌, ◌<◌, ℕ, List, [], ℤ, length, slice_index_or, arith, sym, ap, ap₂, ◌∙◌, subst}
 use Rattle.gf_poly.specs.Marking.{MarkedPolynomial, MarkedPolynomials, polys}
-use Rattle.gf_facets.specs.Regions.{all_positive}
-use Rattle.gf_initial.proofs.LawsHold.{neighbours_are_unique}
+use Rattle.gf_facets_theory.specs.Regions.{all_positive}
+use Rattle.gf_initial_theory.proofs.LawsHold.{neighbours_are_unique}
 use Rattle.gf_session.proofs.TranscriptLaws.{determined}
 use Rattle.gf_session.specs.Transcripts.{AreFunctions}
 use Rattle.gf_basis_places.specs.Prompts.{prompt_text}

@@ -1,9 +1,9 @@
 -- The bases of an ideal as the places of sessions.
 use Rattle.std.specs.Prelude.{◌≡◌, ℕ, ◌<◌, ◌≤◌, List, [], ℤ, length, slice_index_or, Some}
 use Rattle.gf_poly.specs.Marking.{MarkedPolynomials}
-use Rattle.gf_facets.specs.Regions.{all_positive}
-use Rattle.gf_reverse.specs.Upward.{IsNode}
-use Rattle.gf_reverse.specs.Answers.{IsAcross}
+use Rattle.gf_facets_theory.specs.Regions.{all_positive}
+use Rattle.gf_reverse_theory.specs.Upward.{IsNode}
+use Rattle.gf_reverse_theory.specs.Answers.{IsAcross}
 use Rattle.gf_tree.specs.Refusals.{IsCallRefusal}
 use Rattle.gf_flip.specs.declared.error.TreeError.{TreeError}
 use Rattle.gf_session.specs.Sessions.{Rules}

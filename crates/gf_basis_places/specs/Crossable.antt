@@ -1,9 +1,9 @@
 -- The normals that a flip may cross, as a list.
 use Rattle.std.specs.Prelude.{◌≡◌, ◌⊎◌, ℕ, List, [], ◌∷◌, ◌++◌, ℤ, Contains}
 use Rattle.gf_poly.specs.Marking.{MarkedPolynomial, MarkedPolynomials}
-use Rattle.gf_facets.specs.Regions.{Region}
-use Rattle.gf_facets.specs.Facets.{IsFlippable}
-use Rattle.gf_facets.specs.Normals.{Ascends}
+use Rattle.gf_facets_theory.specs.Regions.{Region}
+use Rattle.gf_facets_theory.specs.Facets.{IsFlippable}
+use Rattle.gf_facets_theory.specs.Normals.{Ascends}
 use Rattle.gf_cone.specs.Cones.{ConeRows, normal_at, IsConeOf}
 use Rattle.gf_flip.specs.declared.error.TreeError.{TreeError}
 use Rattle.gf_tree.specs.Refusals.{IsRefusedAtBasis}

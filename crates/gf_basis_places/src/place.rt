@@ -1,6 +1,6 @@
 //! A basis as a place.
 ghost use Rattle.std.specs.Prelude.{◌≡◌, ℕ, IfOk, IfErr};
-ghost use Rattle.gf_facets.specs.Regions.{all_positive};
+ghost use Rattle.gf_facets_theory.specs.Regions.{all_positive};
 ghost use Rattle.gf_tree.specs.Refusals.{IsRefusedAtBasis};
 ghost use Rattle.gf_basis_places.specs.Crossable.{AreCrossable};
 
@@ -21,7 +21,7 @@ pub struct BasisPlace {
 
 impl Model for BasisPlace {
     ghost use Rattle.gf_poly.specs.Marking.{MarkedPolynomials};
-    ghost use Rattle.gf_facets.specs.Regions.{all_positive};
+    ghost use Rattle.gf_facets_theory.specs.Regions.{all_positive};
     ghost use Rattle.gf_basis_places.specs.Crossable.{AreCrossable};
 
     ghost Value = { MarkedPolynomials };

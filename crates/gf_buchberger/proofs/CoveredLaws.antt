@@ -2,18 +2,18 @@
 use Rattle.std.specs.Prelude.{◌≡◌, ◌≢◌, ◌⊎◌, ℕ, zero, suc, ◌+◌, ◌*◌, ◌-◌, ◌<◌, ◌≤◌, max, min, List, [], ◌∷◌, ◌++◌, length, slice_index_or}
 use Rattle.std.proofs.Common.{arith, refl, sym, ap, ◌∙◌, subst, inl, inr}
 use Rattle.std.proofs.lemmas.Bool.{cases_lt}
-use Rattle.gf_exponents.specs.Exponents.{Exponents, join, minus, plus, degree}
-use Rattle.gf_exponents.proofs.ExponentsLaws.{same_of}
-use Rattle.gf_exponents.specs.SixOrders.{MonomialOrder, below_of}
-use Rattle.gf_exponents.proofs.SixOrdersLaws.{order-is}
+use Rattle.gf_exponents_theory.specs.Exponents.{Exponents, join, minus, plus, degree}
+use Rattle.gf_exponents_theory.proofs.ExponentsLaws.{same_of}
+use Rattle.gf_exponents_theory.specs.SixOrders.{MonomialOrder, below_of}
+use Rattle.gf_exponents_theory.proofs.SixOrdersLaws.{order-is}
 use Rattle.gf_order.specs.Comparisons.{HasEntries}
 use Rattle.gf_poly.specs.Marking.{MarkedPolynomial, polys}
 use Rattle.gf_poly.proofs.MonomialLaws.{length-join, plus-minus}
-use Rattle.gf_ideal.specs.Membership.{AreInVariables}
-use Rattle.gf_ideal.specs.Marks.{AreMarked}
-use Rattle.gf_ideal.specs.Settled.{IsAt, IsSettledPair, ArePairsSettled}
-use Rattle.gf_ideal.proofs.CriteriaLaws.{pair_by_product, pair_by_chain, pair_turned}
-use Rattle.gf_ideal.proofs.DividingLaws.{member_contained}
+use Rattle.gf_ideal_theory.specs.Membership.{AreInVariables}
+use Rattle.gf_ideal_theory.specs.Marks.{AreMarked}
+use Rattle.gf_ideal_theory.specs.Settled.{IsAt, IsSettledPair, ArePairsSettled}
+use Rattle.gf_ideal_theory.proofs.CriteriaLaws.{pair_by_product, pair_by_chain, pair_turned}
+use Rattle.gf_ideal_theory.proofs.DividingLaws.{member_contained}
 use Rattle.gf_division.proofs.ReducerLaws.{members_equal}
 use Rattle.gf_buchberger.specs.declared.covered.Rank.{Rank}
 use Rattle.gf_buchberger.specs.Covered.{rank_of, IsBelow, AreCoprimeOrBelow, IsCovering, IsCovered}

@@ -7,20 +7,20 @@ use Rattle.gf_frac.specs.Fits.{Fits}
 use Rattle.gf_frac.specs.declared.refusal.Op.{Op}
 use Rattle.gf_frac.specs.declared.refusal.Op.TheVariants.{Add, Sub, Mul, Div}
 use Rattle.gf_frac.proofs.FractionLaws.{+ℚ-zero, one-*ℚ, *ℚ-zero, *ℚ-one, neg_ℚ-*ℚ, +ℚ-neg_ℚ}
-use Rattle.gf_int.specs.Gcd.{gcd}
-use Rattle.gf_int.proofs.ListLaws.{Contains-here, Contains-last}
-use Rattle.gf_exponents.specs.Exponents.{Exponents, entry, same, plus, join}
-use Rattle.gf_exponents.specs.SixOrders.{below_of}
-use Rattle.gf_exponents.proofs.ExponentsLaws.{same_flip, same_trans, cancel, entries_same, same_by_entries, entry-join}
+use Rattle.gf_int_theory.specs.Gcd.{gcd}
+use Rattle.gf_int_theory.proofs.ListLaws.{Contains-here, Contains-last}
+use Rattle.gf_exponents_theory.specs.Exponents.{Exponents, entry, same, plus, join}
+use Rattle.gf_exponents_theory.specs.SixOrders.{below_of}
+use Rattle.gf_exponents_theory.proofs.ExponentsLaws.{same_flip, same_trans, cancel, entries_same, same_by_entries, entry-join}
 use Rattle.gf_poly.specs.Polynomial.{Terms, coefficient, times, SamePolynomial}
 use Rattle.gf_poly.specs.Marking.{MarkedPolynomial}
 use Rattle.gf_poly.proofs.PolynomialLaws.{coefficient-++}
-use Rattle.gf_ideal.specs.Membership.{HasMonomial}
-use Rattle.gf_ideal.specs.Operands.{AreThese, IsStepOperation, IsStepExponents, IsShiftOperation, IsSPolynomialOperation}
-use Rattle.gf_ideal.specs.Reduction.{IsDivisible, IsStep, Reached, IsSPolynomial, IsMonicForm}
-use Rattle.gf_ideal.specs.WorkLists.{IsOrigin, IsWorkList, IsTail, IsRunOperation, IsRunExponents}
-use Rattle.gf_ideal.proofs.ListLaws.{Contains-cases}
-use Rattle.gf_ideal.proofs.TermLaws.{coefficient-times-one}
+use Rattle.gf_ideal_theory.specs.Membership.{HasMonomial}
+use Rattle.gf_ideal_theory.specs.Operands.{AreThese, IsStepOperation, IsStepExponents, IsShiftOperation, IsSPolynomialOperation}
+use Rattle.gf_ideal_theory.specs.Reduction.{IsDivisible, IsStep, Reached, IsSPolynomial, IsMonicForm}
+use Rattle.gf_ideal_theory.specs.WorkLists.{IsOrigin, IsWorkList, IsTail, IsRunOperation, IsRunExponents}
+use Rattle.gf_ideal_theory.proofs.ListLaws.{Contains-cases}
+use Rattle.gf_ideal_theory.proofs.TermLaws.{coefficient-times-one}
 use Rattle.gf_buchberger.specs.Bases.{unit_monomial, MonomialsStayWithinLimits}
 use Rattle.gf_buchberger.specs.Pairs.{pairs_below}
 

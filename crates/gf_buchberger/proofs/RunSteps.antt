@@ -4,26 +4,26 @@ use Rattle.std.specs.Prelude.{◌≡◌, ◌≢◌, ◌⊎◌, ℕ, zero, suc, �
 use Rattle.std.proofs.Common.{arith, refl, sym, ap, ◌∙◌, subst, inl, inr}
 use Rattle.std.proofs.lemmas.Bool.{cases_lt}
 use Rattle.std.proofs.lemmas.List.Sorted.{Contains-permutation, IsPermutation-sym}
-use Rattle.gf_exponents.specs.Exponents.{join, minus, plus}
-use Rattle.gf_exponents.proofs.ExponentsLaws.{same_of}
-use Rattle.gf_exponents.specs.SixOrders.{MonomialOrder, below_of}
-use Rattle.gf_exponents.proofs.SixOrdersLaws.{order-is}
-use Rattle.gf_int.proofs.ListLaws.{Contains-here, Contains-last}
+use Rattle.gf_exponents_theory.specs.Exponents.{join, minus, plus}
+use Rattle.gf_exponents_theory.proofs.ExponentsLaws.{same_of}
+use Rattle.gf_exponents_theory.specs.SixOrders.{MonomialOrder, below_of}
+use Rattle.gf_exponents_theory.proofs.SixOrdersLaws.{order-is}
+use Rattle.gf_int_theory.proofs.ListLaws.{Contains-here, Contains-last}
 use Rattle.gf_poly.specs.Polynomial.{Terms, HasVariables, coefficient}
 use Rattle.gf_poly.specs.Marking.{MarkedPolynomial, polys}
 use Rattle.gf_poly.proofs.MonomialLaws.{length-join, plus-minus}
-use Rattle.gf_ideal.specs.Membership.{AreInVariables, IsInVariables}
-use Rattle.gf_ideal.specs.Marks.{AreMarked}
-use Rattle.gf_ideal.specs.Reduction.{Reached, IsIrreducible}
-use Rattle.gf_ideal.specs.Settled.{IsAt, IsSettledPair}
-use Rattle.gf_ideal.specs.WorkLists.{IsOrigin, IsWorkList}
-use Rattle.gf_ideal.proofs.CriteriaLaws.{pair_by_steps, pair_by_product, pair_by_monomials, pair_by_chain, pair_turned, pair_more}
-use Rattle.gf_ideal.proofs.ListLaws.{Contains-there, Contains-cases}
-use Rattle.gf_ideal.proofs.ListedTerms.{variables_by_terms}
-use Rattle.gf_ideal.proofs.PieceLaws.{Contains-marked}
-use Rattle.gf_ideal.proofs.StepLaws.{reached-more}
-use Rattle.gf_ideal.proofs.WorkLaws.{work-marked}
-use Rattle.gf_ideal.proofs.DividingLaws.{member_contained}
+use Rattle.gf_ideal_theory.specs.Membership.{AreInVariables, IsInVariables}
+use Rattle.gf_ideal_theory.specs.Marks.{AreMarked}
+use Rattle.gf_ideal_theory.specs.Reduction.{Reached, IsIrreducible}
+use Rattle.gf_ideal_theory.specs.Settled.{IsAt, IsSettledPair}
+use Rattle.gf_ideal_theory.specs.WorkLists.{IsOrigin, IsWorkList}
+use Rattle.gf_ideal_theory.proofs.CriteriaLaws.{pair_by_steps, pair_by_product, pair_by_monomials, pair_by_chain, pair_turned, pair_more}
+use Rattle.gf_ideal_theory.proofs.ListLaws.{Contains-there, Contains-cases}
+use Rattle.gf_ideal_theory.proofs.ListedTerms.{variables_by_terms}
+use Rattle.gf_ideal_theory.proofs.PieceLaws.{Contains-marked}
+use Rattle.gf_ideal_theory.proofs.StepLaws.{reached-more}
+use Rattle.gf_ideal_theory.proofs.WorkLaws.{work-marked}
+use Rattle.gf_ideal_theory.proofs.DividingLaws.{member_contained}
 use Rattle.gf_division.proofs.ReducerLaws.{members_equal}
 use Rattle.gf_buchberger.specs.declared.queue.Waiting.{Waiting}
 use Rattle.gf_buchberger.specs.Pairs.{PairMarks, is_settled, with_settled, with_member}

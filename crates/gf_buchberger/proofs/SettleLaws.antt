@@ -3,14 +3,14 @@ use Rattle.std.specs.Prelude.{◌≡◌, ◌≢◌, ◌⊎◌, ℕ, suc, ◌+◌
 use Rattle.std.proofs.Common.{arith, refl, sym, ap, ◌∙◌, subst, inl, inr}
 use Rattle.std.proofs.lemmas.Bool.{cases_lt}
 use Rattle.std.proofs.lemmas.List.Sorted.{length_permutation}
-use Rattle.gf_exponents.specs.SixOrders.{MonomialOrder, below_of}
-use Rattle.gf_int.proofs.ListLaws.{Contains-here}
+use Rattle.gf_exponents_theory.specs.SixOrders.{MonomialOrder, below_of}
+use Rattle.gf_int_theory.proofs.ListLaws.{Contains-here}
 use Rattle.gf_poly.specs.declared.error.PolyError.{PolyError}
 use Rattle.gf_poly.specs.declared.error.PolyError.TheVariants as errors
 use Rattle.gf_poly.specs.Polynomial.{Terms}
 use Rattle.gf_poly.specs.Marking.{MarkedPolynomial}
-use Rattle.gf_ideal.specs.Settled.{IsAt, IsSettledPair}
-use Rattle.gf_ideal.proofs.ListLaws.{Contains-there, Contains-cases}
+use Rattle.gf_ideal_theory.specs.Settled.{IsAt, IsSettledPair}
+use Rattle.gf_ideal_theory.proofs.ListLaws.{Contains-there, Contains-cases}
 use Rattle.gf_buchberger.specs.Covered.{IsCovered}
 use Rattle.gf_buchberger.specs.declared.queue.Waiting.{Waiting}
 use Rattle.gf_buchberger.specs.declared.runs.Stop.TheVariants as stops

@@ -1,13 +1,13 @@
 -- A member whose polynomial is one term has one monomial.
 use Rattle.std.specs.Prelude.{◌≡◌, ◌⊎◌, true, [], ◌∷◌, length, Contains}
 use Rattle.std.proofs.Common.{arith, ap, subst, inl, inr}
-use Rattle.gf_exponents.specs.Exponents.{Exponents, same}
+use Rattle.gf_exponents_theory.specs.Exponents.{Exponents, same}
 use Rattle.gf_poly.specs.declared.Term.{Term}
 use Rattle.gf_poly.specs.Polynomial.{Terms}
 use Rattle.gf_poly.specs.Marking.{MarkedPolynomial, Each, HasMarkedTerm}
-use Rattle.gf_ideal.specs.Reduction.{HasOneMonomial}
-use Rattle.gf_ideal.proofs.ListLaws.{Contains-cases}
-use Rattle.gf_ideal.proofs.ListedTerms.{listed}
+use Rattle.gf_ideal_theory.specs.Reduction.{HasOneMonomial}
+use Rattle.gf_ideal_theory.proofs.ListLaws.{Contains-cases}
+use Rattle.gf_ideal_theory.proofs.ListedTerms.{listed}
 
 -- the only term of a list is each one that is contained
 one_term : (f : Terms) (m : Term) → length f ≡ 1 → Contains f m → Each (λ (t : Term). t.mono ≡ m.mono) f

@@ -4,9 +4,9 @@
 -- Laws: proofs/CoveredLaws.antt. Source: Gebauer, Möller, On an installation of Buchberger's algorithm; Becker, Weispfenning, Gröbner
 -- Bases, 5.5.
 use Rattle.std.specs.Prelude.{◌≡◌, ◌≢◌, ◌⊎◌, ℕ, ◌-◌, ◌<◌, max, min, List}
-use Rattle.gf_exponents.specs.Exponents.{Exponents, AreCoprime, Divides, join, degree}
+use Rattle.gf_exponents_theory.specs.Exponents.{Exponents, AreCoprime, Divides, join, degree}
 use Rattle.gf_poly.specs.Marking.{MarkedPolynomial}
-use Rattle.gf_ideal.specs.Settled.{IsAt}
+use Rattle.gf_ideal_theory.specs.Settled.{IsAt}
 use Rattle.gf_buchberger.specs.declared.covered.Rank.{Rank}
 
 -- the rank of the pair of the places p and q, where the least common multiple of the marks is x

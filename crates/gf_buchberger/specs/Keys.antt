@@ -1,7 +1,7 @@
 -- What a pair waits by: how a key is made of the least common multiple of its marks, and which pair comes first.
 -- Laws: proofs/QueueLaws.antt, and gf_division's proofs/KeyLaws.antt.
 use Rattle.std.specs.Prelude.{◌≡◌, ℕ, false, Contains, ◌+◌, ◌-◌, ◌^◌, min, List, [], ◌∷◌, ◌++◌}
-use Rattle.gf_exponents.specs.Exponents.{Exponents, degree}
+use Rattle.gf_exponents_theory.specs.Exponents.{Exponents, degree}
 use Rattle.std.specs.declared.cmp.Ordering.{Ordering}
 use Rattle.std.specs.Cmp.Lexicographic.{slice_cmp}
 use Rattle.std.specs.Ordering.{nat_cmp, int_cmp, ordering_then, is_lt}

@@ -4,20 +4,20 @@ use Rattle.std.specs.Prelude.{◌≡◌, ◌≢◌, ◌⊎◌, ℕ, ◌+◌, ◌
 use Rattle.std.specs.declared.option.Option.{Option}
 use Rattle.gf_frac.specs.Fraction.{Fraction}
 use Rattle.gf_frac.specs.declared.refusal.Op.{Op}
-use Rattle.gf_exponents.specs.Exponents.{Exponents, AreCoprime, Divides, join}
-use Rattle.gf_exponents.specs.SixOrders.{MonomialOrder, below_of}
+use Rattle.gf_exponents_theory.specs.Exponents.{Exponents, AreCoprime, Divides, join}
+use Rattle.gf_exponents_theory.specs.SixOrders.{MonomialOrder, below_of}
 use Rattle.gf_order.specs.Comparisons.{HasEntries}
 use Rattle.gf_poly.specs.declared.error.PolyError.{PolyError}
 use Rattle.gf_poly.specs.Polynomial.{Terms, HasVariables}
 use Rattle.gf_poly.specs.Marking.{MarkedPolynomial}
 use Rattle.gf_poly.specs.Refusals.{IsRefusedBy, NoSum, UnlessMemory}
-use Rattle.gf_ideal.specs.Marks.{IsMarked}
-use Rattle.gf_ideal.specs.Reduction.{IsMonicForm, IsSPolynomial, HasOneMonomial}
+use Rattle.gf_ideal_theory.specs.Marks.{IsMarked}
+use Rattle.gf_ideal_theory.specs.Reduction.{IsMonicForm, IsSPolynomial, HasOneMonomial}
 use Rattle.gf_division.specs.Remainders.{IsRemainder}
-use Rattle.gf_ideal.specs.Bases.{IsGreatest}
-use Rattle.gf_ideal.specs.Operands.{IsMonicOperation}
-use Rattle.gf_ideal.specs.Settled.{IsAt, IsSettledPair}
-use Rattle.gf_ideal.specs.WorkLists.{IsWorkList}
+use Rattle.gf_ideal_theory.specs.Bases.{IsGreatest}
+use Rattle.gf_ideal_theory.specs.Operands.{IsMonicOperation}
+use Rattle.gf_ideal_theory.specs.Settled.{IsAt, IsSettledPair}
+use Rattle.gf_ideal_theory.specs.WorkLists.{IsWorkList}
 use Rattle.gf_division.specs.NormalForms.{HasSomeWeight}
 use Rattle.gf_division.specs.Steps.{IsReductionRefusal}
 use Rattle.gf_division.specs.SPolynomials.{IsMonicPairRefusal}

@@ -2,8 +2,8 @@
 
 ghost use Rattle.std.specs.Prelude.{◌≡◌, IfOk, IfErr};
 ghost use Rattle.gf_order.specs.Comparisons.{HasEntries};
-ghost use Rattle.gf_ideal.specs.Bases.{AreArranged};
-ghost use Rattle.gf_ideal.specs.Marks.{HasPositiveWeight, IsRealisable};
+ghost use Rattle.gf_ideal_theory.specs.Bases.{AreArranged};
+ghost use Rattle.gf_ideal_theory.specs.Marks.{HasPositiveWeight, IsRealisable};
 ghost use Rattle.gf_division.specs.Autoreduction.{IsAutoreduced, IsReducedOf, IsAutoreductionRefusal};
 ghost use Rattle.gf_buchberger.specs.Bases.{IsArrangedBasis, IsBasisRefusal, AreRunsWithinLimits, IsWantOfMemory, IsSpentAnswer, IsStopAnswer, HasStopVariables, of_poly_error};
 ghost use Rattle.gf_buchberger.specs.Jobs.{HaveRingVariables, IsSuited, IsBasisJob};

@@ -5,7 +5,7 @@
 //! Source: Gebauer, Möller, On an installation of Buchberger's algorithm.
 
 ghost use Rattle.std.specs.Prelude.{◌≡◌, ◌≢◌, ◌↔◌, ◌<◌, length, IsTrue};
-ghost use Rattle.gf_exponents.specs.Exponents.{Divides, join};
+ghost use Rattle.gf_exponents_theory.specs.Exponents.{Divides, join};
 ghost use Rattle.gf_buchberger.specs.Covered.{IsBelow, AreCoprimeOrBelow, IsCovering, IsCovered, rank_of as rank_by};
 ghost use Rattle.gf_buchberger.specs.Runs.{MembersHaveVariables, MembersHaveSomeVariables, IsMultipleOf};
 

@@ -1,9 +1,9 @@
 //! A run of Buchberger's algorithm: its members, and the pairs that it settles.
 
 ghost use Rattle.std.specs.Prelude.{◌≡◌, ◌≢◌, ◌<◌, ◌^◌, [], length, IfOk, IfErr, IfSome, OnOk, IsTrue};
-ghost use Rattle.gf_exponents.specs.Exponents.{AreCoprime};
+ghost use Rattle.gf_exponents_theory.specs.Exponents.{AreCoprime};
 ghost use Rattle.gf_poly.specs.declared.error.PolyError.TheVariants.{Memory};
-ghost use Rattle.gf_ideal.specs.Reduction.{HasOneMonomial};
+ghost use Rattle.gf_ideal_theory.specs.Reduction.{HasOneMonomial};
 ghost use Rattle.gf_buchberger.specs.Covered.{IsCovered};
 ghost use Rattle.gf_buchberger.specs.Runs.{AreReducers, IsMultipleAt, IsReducedPair, IsPairWorkedOff, IsSettlingRefusal, AreComparable, MembersHaveSomeVariables, state_of, IsState, PairsPushed, IsJoinable, IsJoined, IsTakenUp, IsLeftOfPair, CountsAsSettled, IsChain, IsExcused, IsSettledBy, IsSomeRun, IsWorkedThrough, IsStop};
 

@@ -6,22 +6,22 @@ use Rattle.std.proofs.lemmas.List.{get_or_default, take-append-drop}
 use Rattle.std.proofs.Math.Seq.{take-append_seam, drop-append_seam}
 use Rattle.std.proofs.Math.ListN.{get_or-append}
 use Rattle.std.proofs.lemmas.List.Elements.{All-nil, All-cons, All-drop, All-contains, Contains-append_left, Contains-append_right, Contains-append_cases}
-use Rattle.gf_int.proofs.ListLaws.{all_by}
+use Rattle.gf_int_theory.proofs.ListLaws.{all_by}
 use Rattle.gf_vec.specs.Vector.{dot}
 use Rattle.gf_gordan.specs.Alternative.{AreRows, IsSolution}
 use Rattle.gf_poly.specs.Marking.{MarkedPolynomial}
-use Rattle.gf_facets.specs.Rows.{IsNormal}
-use Rattle.gf_facets.specs.Systems.{unit, units}
-use Rattle.gf_facets.specs.Normals.{AreNormals, others_of, flip_rows}
-use Rattle.gf_facets.specs.Combinations.{IsCombination}
-use Rattle.gf_facets.specs.Regions.{Region, IsInRegion}
-use Rattle.gf_facets.specs.Facets.{IsInOpenCone, IsInsideFacet, IsFlippable}
-use Rattle.gf_facets.proofs.ConeLaws.{normals_open}
+use Rattle.gf_facets_theory.specs.Rows.{IsNormal}
+use Rattle.gf_facets_theory.specs.Systems.{unit, units}
+use Rattle.gf_facets_theory.specs.Normals.{AreNormals, others_of, flip_rows}
+use Rattle.gf_facets_theory.specs.Combinations.{IsCombination}
+use Rattle.gf_facets_theory.specs.Regions.{Region, IsInRegion}
+use Rattle.gf_facets_theory.specs.Facets.{IsInOpenCone, IsInsideFacet, IsFlippable}
+use Rattle.gf_facets_theory.proofs.ConeLaws.{normals_open}
 use Rattle.gf_gordan.specs.Sizes.{HaveEntriesUpTo}
-use Rattle.gf_facets.specs.MarkedBases.{AreCanonical}
-use Rattle.gf_facets.proofs.NormalLaws.{normal-length}
-use Rattle.gf_facets.proofs.UnitLaws.{units_wide, units_on_positive, positive_by_units}
-use Rattle.gf_facets.proofs.FacetSystems.{IsFacetSystem, facet_system, flip_system, point_of_solution, solution_of_point, not_redundant}
+use Rattle.gf_facets_theory.specs.MarkedBases.{AreCanonical}
+use Rattle.gf_facets_theory.proofs.NormalLaws.{normal-length}
+use Rattle.gf_facets_theory.proofs.UnitLaws.{units_wide, units_on_positive, positive_by_units}
+use Rattle.gf_facets_theory.proofs.FacetSystems.{IsFacetSystem, facet_system, flip_system, point_of_solution, solution_of_point, not_redundant}
 use Rattle.gf_cone.specs.Small.{IsSmall}
 use Rattle.gf_cone.specs.Keeping.{AreVectorsKept}
 use Rattle.gf_cone.specs.Cones.{ConeRows, all_rows, normal_at, other_rows, IsConeOf, HasInterior}

@@ -7,20 +7,20 @@ use Rattle.std.specs.Prelude.{◌↔◌, Bool, IsTrue, Option, Some, None, Resul
 use Rattle.std.specs.declared.cmp.Ordering.{Ordering}
 use Rattle.std.specs.declared.cmp.Ordering.TheVariants.{Less}
 use Rattle.std.proofs.lemmas.Bool.{cases_lt, eq-eqb, ne_eqb, false≢true}
-use Rattle.gf_facets.specs.LexPositive.{IsNegative}
+use Rattle.gf_facets_theory.specs.LexPositive.{IsNegative}
 use Rattle.std.proofs.lemmas.List.{get_or_default, get_or-append-add}
 use Rattle.std.proofs.Math.Seq.{get_or-append_seam}
 use Rattle.std.proofs.Math.ListN.{get_or-append}
 use Rattle.std.proofs.lemmas.List.Elements.{All-cons, All-nil, All-append, All-contains, Contains-append_right}
-use Rattle.gf_int.proofs.SignLaws.{0≤-*ℤ, 0<-*ℤ}
-use Rattle.gf_int.proofs.ListLaws.{Contains-here, all_by}
+use Rattle.gf_int_theory.proofs.SignLaws.{0≤-*ℤ, 0<-*ℤ}
+use Rattle.gf_int_theory.proofs.ListLaws.{Contains-here, all_by}
 use Rattle.gf_vec.specs.Vector.{dot, vector_sum, zeros}
 use Rattle.gf_vec.proofs.VectorLaws.{dot-plus}
 use Rattle.gf_gordan.specs.Alternative.{AreRows, IsSolution}
-use Rattle.gf_ideal.proofs.ListLaws.{Contains-there}
-use Rattle.gf_facets.specs.Normals.{others_of}
-use Rattle.gf_facets.specs.Systems.{unit, units}
-use Rattle.gf_facets.proofs.UnitLaws.{length-unit, positive_by_units, units_on_positive}
+use Rattle.gf_ideal_theory.proofs.ListLaws.{Contains-there}
+use Rattle.gf_facets_theory.specs.Normals.{others_of}
+use Rattle.gf_facets_theory.specs.Systems.{unit, units}
+use Rattle.gf_facets_theory.proofs.UnitLaws.{length-unit, positive_by_units, units_on_positive}
 use Rattle.gf_cone.specs.Small.{IsSmall}
 use Rattle.gf_cone.specs.Cones.{ConeRows, all_rows, normal_at, other_rows, HasUnits}
 use Rattle.gf_cone.specs.Crossing.{IsShownBy, IsCrossable, IsFlipDecided, IsCrossingDecided}

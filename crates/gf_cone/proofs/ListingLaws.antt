@@ -9,15 +9,15 @@ use Rattle.std.proofs.Common.{◌≡◌, ◌⊎◌, ◌↔◌, ℕ, zero, suc, �
 use Rattle.std.proofs.lemmas.Bool.{cases_lt}
 use Rattle.std.proofs.lemmas.List.{take_more, take_all, get_or_default}
 use Rattle.std.proofs.lemmas.List.Elements.{All-contains, Contains-append_left, Contains-append_right, Contains-append_cases}
-use Rattle.gf_int.proofs.ListLaws.{Contains-here, all_by}
+use Rattle.gf_int_theory.proofs.ListLaws.{Contains-here, all_by}
 use Rattle.gf_vec.specs.Primitive.{IsPrimitivePart}
 use Rattle.gf_poly.specs.Marking.{MarkedPolynomial}
-use Rattle.gf_ideal.proofs.ListLaws.{Contains-there, Contains-cases}
-use Rattle.gf_walk.specs.Path.{Precedes}
-use Rattle.gf_facets.specs.Rows.{rows_of_polynomials}
-use Rattle.gf_facets.proofs.PrimitiveLaws.{primitive_unique}
-use Rattle.gf_facets.proofs.VectorOrder.{vectors_compare, before_strict}
-use Rattle.gf_facets.specs.Normals.{Ascends, AreNormals}
+use Rattle.gf_ideal_theory.proofs.ListLaws.{Contains-there, Contains-cases}
+use Rattle.gf_reverse_search.specs.Path.{Precedes}
+use Rattle.gf_facets_theory.specs.Rows.{rows_of_polynomials}
+use Rattle.gf_facets_theory.proofs.PrimitiveLaws.{primitive_unique}
+use Rattle.gf_facets_theory.proofs.VectorOrder.{vectors_compare, before_strict}
+use Rattle.gf_facets_theory.specs.Normals.{Ascends, AreNormals}
 use Rattle.gf_cone.specs.Small.{IsSmall}
 use Rattle.gf_cone.specs.Placing.{GoesInAt, Gathers}
 

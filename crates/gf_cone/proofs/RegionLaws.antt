@@ -11,19 +11,19 @@ use Rattle.std.proofs.lemmas.Int.{ints, unsigned_abs-mul}
 use Rattle.std.proofs.lemmas.List.{get_or_default, length-replicate, drop_more}
 use Rattle.std.proofs.Math.ListN.{get_or-append}
 use Rattle.std.proofs.lemmas.List.Elements.{All-contains, Contains-append_left, Contains-append_cases}
-use Rattle.gf_int.proofs.ListLaws.{all_by}
+use Rattle.gf_int_theory.proofs.ListLaws.{all_by}
 use Rattle.gf_gordan.specs.Sizes.{HaveEntriesUpTo}
-use Rattle.gf_facets.specs.Normals.{others_of}
-use Rattle.gf_facets.proofs.UnitLaws.{units_wide}
-use Rattle.gf_facets.proofs.VectorOrder.{vectors_compare}
+use Rattle.gf_facets_theory.specs.Normals.{others_of}
+use Rattle.gf_facets_theory.proofs.UnitLaws.{units_wide}
+use Rattle.gf_facets_theory.proofs.VectorOrder.{vectors_compare}
 use Rattle.gf_vec.specs.Vector.{dot}
 use Rattle.gf_vec.specs.RootSign.{sign_or, first_sign, root_sign}
 use Rattle.gf_gordan.specs.Alternative.{AreRows}
 use Rattle.gf_poly.specs.Marking.{MarkedPolynomial}
-use Rattle.gf_facets.specs.Systems.{units}
-use Rattle.gf_facets.specs.LexPositive.{rooted, IsNegative, IsBefore}
-use Rattle.gf_facets.specs.Regions.{Region, all_positive}
-use Rattle.gf_facets.proofs.RootSignLaws.{dot-ones, first-less, less-first}
+use Rattle.gf_facets_theory.specs.Systems.{units}
+use Rattle.gf_facets_theory.specs.LexPositive.{rooted, IsNegative, IsBefore}
+use Rattle.gf_facets_theory.specs.Regions.{Region, all_positive}
+use Rattle.gf_facets_theory.proofs.RootSignLaws.{dot-ones, first-less, less-first}
 use Rattle.gf_cone.specs.Cones.{ConeRows, normal_at, other_rows, all_rows, IsConeOf, in_region, HasRowsOf, HasInterior}
 use Rattle.gf_cone.specs.Answers.{AnswersFlip, IsFlipToldIn}
 use Rattle.gf_cone.specs.declared.answer.FlipAnswer.{FlipAnswer}

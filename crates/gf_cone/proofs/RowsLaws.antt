@@ -5,20 +5,20 @@ use Rattle.std.proofs.lemmas.Bool.{cases_lt}
 use Rattle.std.proofs.lemmas.Int.{ints}
 use Rattle.std.proofs.lemmas.List.{take_more, take_all, get_or_default, append-nil, length-take}
 use Rattle.std.proofs.lemmas.List.Elements.{All-push}
-use Rattle.gf_int.specs.Range.{InRange}
+use Rattle.gf_int_theory.specs.Range.{InRange}
 use Rattle.gf_vec.specs.Vector.{zeros}
-use Rattle.gf_exponents.specs.Exponents.{Exponents, same}
-use Rattle.gf_exponents.proofs.ExponentsLaws.{same-refl}
+use Rattle.gf_exponents_theory.specs.Exponents.{Exponents, same}
+use Rattle.gf_exponents_theory.proofs.ExponentsLaws.{same-refl}
 use Rattle.gf_poly.specs.declared.Term.{Term}
 use Rattle.gf_poly.specs.Monomial.{IsMonomial}
 use Rattle.gf_poly.specs.Polynomial.{Terms, HasVariables}
 use Rattle.gf_poly.specs.Marking.{MarkedPolynomial, Each, HaveVariables, HasMarkedTerm}
 use Rattle.gf_poly.proofs.CoefficientLaws.{apart, term_length}
-use Rattle.gf_ideal.proofs.ListLaws.{each_contained, contained_each}
-use Rattle.gf_facets.specs.Rows.{differences, row_between, rows_of_terms, rows_of_polynomials}
-use Rattle.gf_facets.specs.Systems.{unit}
+use Rattle.gf_ideal_theory.proofs.ListLaws.{each_contained, contained_each}
+use Rattle.gf_facets_theory.specs.Rows.{differences, row_between, rows_of_terms, rows_of_polynomials}
+use Rattle.gf_facets_theory.specs.Systems.{unit}
 use Rattle.gf_cone.specs.Small.{IsSmall}
-use Rattle.gf_facets.proofs.RowLaws.{row-is}
+use Rattle.gf_facets_theory.proofs.RowLaws.{row-is}
 
 -- ---- one row
 

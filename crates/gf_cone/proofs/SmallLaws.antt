@@ -7,8 +7,8 @@ use Rattle.std.proofs.lemmas.List.Elements.{All-contains}
 use Rattle.gf_vec.specs.Primitive.{IsPrimitivePart}
 use Rattle.gf_vec.proofs.VectorLaws.{length-times}
 use Rattle.gf_poly.specs.Marking.{MarkedPolynomial}
-use Rattle.gf_facets.specs.Rows.{rows_of_polynomials, IsNormal}
-use Rattle.gf_facets.proofs.PrimitiveLaws.{divided-entry}
+use Rattle.gf_facets_theory.specs.Rows.{rows_of_polynomials, IsNormal}
+use Rattle.gf_facets_theory.proofs.PrimitiveLaws.{divided-entry}
 use Rattle.gf_cone.specs.Small.{IsSmall}
 use Rattle.gf_cone.specs.Weights.{IsForSign}
 

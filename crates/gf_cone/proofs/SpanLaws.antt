@@ -6,14 +6,14 @@ use Rattle.std.proofs.lemmas.List.{get_or_default, ext_get_or}
 use Rattle.std.proofs.lemmas.List.Elements.{All-append}
 use Rattle.std.proofs.Math.IntN.{*ℤ-zero}
 use Rattle.std.proofs.Math.ListN.{get_or-append}
-use Rattle.gf_int.specs.Content.{scaled}
-use Rattle.gf_int.proofs.SignLaws.{0≤-*ℤ, 0<-*ℤ}
+use Rattle.gf_int_theory.specs.Content.{scaled}
+use Rattle.gf_int_theory.proofs.SignLaws.{0≤-*ℤ, 0<-*ℤ}
 use Rattle.gf_vec.specs.Vector.{dot, vector_sum}
 use Rattle.gf_vec.proofs.VectorLaws.{dot-plus, dot-times, length-plus, length-times}
 use Rattle.gf_vec.proofs.EntryLaws.{entry_plus, entry_times}
 use Rattle.gf_gordan.specs.Alternative.{AreRows}
-use Rattle.gf_facets.specs.Systems.{unit, units}
-use Rattle.gf_facets.proofs.UnitLaws.{units_wide}
+use Rattle.gf_facets_theory.specs.Systems.{unit, units}
+use Rattle.gf_facets_theory.proofs.UnitLaws.{units_wide}
 use Rattle.gf_cone.specs.Cones.{ConeRows, all_rows, normal_at}
 use Rattle.gf_cone.specs.Crossing.{IsCrossable}
 use Rattle.gf_cone.specs.Spans.{IsShare, IsSomePositive, IsBalancedAt}

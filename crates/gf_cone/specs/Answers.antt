@@ -6,10 +6,10 @@ use Rattle.gf_poly.specs.Marking.{MarkedPolynomial}
 use Rattle.gf_gordan.specs.declared.error.ConeOverflow.{ConeOverflow}
 use Rattle.gf_gordan.specs.Alternative.{IsSolution}
 use Rattle.gf_gordan.specs.Equations.{IsStepOn}
-use Rattle.gf_facets.specs.Combinations.{IsCombination}
-use Rattle.gf_facets.specs.Regions.{Region, IsInRegion}
-use Rattle.gf_facets.specs.Normals.{others_of}
-use Rattle.gf_facets.specs.Facets.{IsInsideFacet, IsFacet, IsFlippable}
+use Rattle.gf_facets_theory.specs.Combinations.{IsCombination}
+use Rattle.gf_facets_theory.specs.Regions.{Region, IsInRegion}
+use Rattle.gf_facets_theory.specs.Normals.{others_of}
+use Rattle.gf_facets_theory.specs.Facets.{IsInsideFacet, IsFacet, IsFlippable}
 use Rattle.gf_cone.specs.Cones.{ConeRows, normal_at, other_rows, IsConeOf}
 use Rattle.gf_cone.specs.declared.answer.FacetAnswer.{FacetAnswer}
 use Rattle.gf_cone.specs.declared.answer.FacetAnswer.TheVariants.{Facet, Redundant}

@@ -3,8 +3,8 @@
 use Rattle.std.specs.Prelude.{◌≡◌, ℕ, ◌<◌, List, [], ◌∷◌, length, slice_index_or, ℤ, pos, ◌<ℤ◌, Option, Some, None, Bool, IsTrue, ◌↔◌}
 use Rattle.gf_vec.specs.Vector.{dot}
 use Rattle.gf_gordan.specs.Alternative.{IsSolution, IsSolvable}
-use Rattle.gf_facets.specs.Regions.{Region}
-use Rattle.gf_facets.specs.Facets.{IsFlippable}
+use Rattle.gf_facets_theory.specs.Regions.{Region}
+use Rattle.gf_facets_theory.specs.Facets.{IsFlippable}
 use Rattle.gf_poly.specs.Marking.{MarkedPolynomial}
 use Rattle.gf_cone.specs.Cones.{ConeRows, normal_at, other_rows, IsConeOf}
 

@@ -1,8 +1,8 @@
 -- Where a vector goes into an ascending list, and what it has once normals were put in. Laws: proofs/ListingLaws.antt.
 use Rattle.std.specs.Prelude.{◌⊎◌, ◌↔◌, ℕ, zero, suc, List, [], ◌∷◌, ℤ, Contains}
 use Rattle.gf_vec.specs.Primitive.{IsPrimitivePart}
-use Rattle.gf_facets.specs.LexPositive.{IsBefore}
-use Rattle.gf_facets.specs.Normals.{Ascends}
+use Rattle.gf_facets_theory.specs.LexPositive.{IsBefore}
+use Rattle.gf_facets_theory.specs.Normals.{Ascends}
 use Rattle.gf_cone.specs.declared.listing.Placing.{Placing}
 use Rattle.gf_cone.specs.declared.listing.Placing.TheVariants.{New, Known}
 

@@ -4,7 +4,7 @@ ghost use Rattle.gf_vec.specs.Vector.{dot, vector_sum};
 ghost use Rattle.gf_gordan.specs.Alternative.{AreRows, IsSolution};
 ghost use Rattle.gf_cone.specs.Small.{IsSmall, IsShort};
 ghost use Rattle.gf_cone.specs.Cones.{all_rows, normal_at, other_rows, HasInterior};
-ghost use Rattle.gf_facets.specs.Systems.{unit};
+ghost use Rattle.gf_facets_theory.specs.Systems.{unit};
 ghost use Rattle.gf_cone.specs.Crossing.{IsShownBy, IsCrossable};
 
 use crate::cone::Cone;

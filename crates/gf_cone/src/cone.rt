@@ -5,9 +5,9 @@ ghost use Rattle.gf_cone.specs.Crossing.{IsCrossable};
 ghost use Rattle.gf_gordan.specs.Steps.{Failed};
 ghost use Rattle.gf_gordan.specs.Sizes.{HaveEntriesUpTo};
 ghost use Rattle.gf_gordan.specs.declared.error.GordanError.TheVariants.{Memory};
-ghost use Rattle.gf_facets.specs.Regions.{all_positive};
-ghost use Rattle.gf_facets.specs.Systems.{units};
-ghost use Rattle.gf_facets.specs.Normals.{others_of};
+ghost use Rattle.gf_facets_theory.specs.Regions.{all_positive};
+ghost use Rattle.gf_facets_theory.specs.Systems.{units};
+ghost use Rattle.gf_facets_theory.specs.Normals.{others_of};
 ghost use Rattle.gf_cone.specs.Small.{IsSmall};
 ghost use Rattle.gf_cone.specs.Cones.{all_rows, normal_at, other_rows, IsConeOf, in_region, HasRowsOf, HasInterior, HasUnits};
 ghost use Rattle.gf_cone.specs.Answers.{AnswersFacet, AnswersFlip, IsFacetAnswered, IsFlipToldIn, IsNormalStep};
@@ -35,7 +35,7 @@ pub struct Cone {
 
 impl Model for Cone {
     ghost use Rattle.std.specs.Prelude.{◌++◌, take, drop};
-    ghost use Rattle.gf_facets.specs.Systems.{units};
+    ghost use Rattle.gf_facets_theory.specs.Systems.{units};
     ghost use Rattle.gf_cone.specs.Cones.{ConeRows};
     ghost use Rattle.gf_cone.specs.Keeping.{AreVectorsKept};
 

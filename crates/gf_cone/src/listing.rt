@@ -2,9 +2,9 @@
 ghost use Rattle.std.specs.Prelude.{◌≡◌, ◌↔◌, ◌⊎◌, ℕ, List, ℤ, length, Contains, All, IfOk};
 ghost use Rattle.gf_poly.specs.Polynomial.{HasVariables};
 ghost use Rattle.gf_poly.specs.Marking.{HasMarkedTerm};
-ghost use Rattle.gf_facets.specs.Rows.{row_between, rows_of_terms};
-ghost use Rattle.gf_facets.specs.Normals.{Ascends, AreNormals};
-ghost use Rattle.gf_facets.specs.MarkedBases.{AreCanonical};
+ghost use Rattle.gf_facets_theory.specs.Rows.{row_between, rows_of_terms};
+ghost use Rattle.gf_facets_theory.specs.Normals.{Ascends, AreNormals};
+ghost use Rattle.gf_facets_theory.specs.MarkedBases.{AreCanonical};
 ghost use Rattle.gf_cone.specs.Small.{IsSmall};
 ghost use Rattle.gf_cone.specs.Placing.{IsPlacing, Gathers};
 

@@ -1,11 +1,11 @@
 //! The rows of a marked set, and the unit vectors.
 ghost use Rattle.std.specs.Prelude.{◌≡◌, ◌++◌, ◌<◌, ◌-ℤ◌, ℕ, [], pos, length, slice_set, All, IfOk};
-ghost use Rattle.gf_int.specs.Range.{InRange};
+ghost use Rattle.gf_int_theory.specs.Range.{InRange};
 ghost use Rattle.gf_vec.specs.Vector.{zeros};
 ghost use Rattle.gf_poly.specs.Marking.{Each, HaveVariables, HasMarkedTerm};
 ghost use Rattle.gf_poly.specs.Polynomial.{HasVariables};
-ghost use Rattle.gf_facets.specs.Rows.{differences, row_between, rows_of_terms, rows_of_polynomials};
-ghost use Rattle.gf_facets.specs.Systems.{unit, units};
+ghost use Rattle.gf_facets_theory.specs.Rows.{differences, row_between, rows_of_terms, rows_of_polynomials};
+ghost use Rattle.gf_facets_theory.specs.Systems.{unit, units};
 ghost use Rattle.gf_cone.specs.Small.{IsSmall};
 
 use gf_poly::{Marked, MarkedSet, Mono};

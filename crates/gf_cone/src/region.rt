@@ -3,8 +3,8 @@ ghost use Rattle.std.specs.Prelude.{◌≡◌, ◌↔◌, ◌<◌, ◌≤◌, �
 ghost use Rattle.gf_vec.specs.Vector.{dot};
 ghost use Rattle.gf_vec.specs.RootSign.{first_sign};
 ghost use Rattle.gf_gordan.specs.Alternative.{AreRows};
-ghost use Rattle.gf_facets.specs.LexPositive.{rooted, IsNegative};
-ghost use Rattle.gf_facets.specs.Regions.{IsRegion, all_positive};
+ghost use Rattle.gf_facets_theory.specs.LexPositive.{rooted, IsNegative};
+ghost use Rattle.gf_facets_theory.specs.Regions.{IsRegion, all_positive};
 ghost use Rattle.gf_cone.specs.Weights.{IsForSign};
 ghost use Rattle.std.specs.declared.cmp.Ordering.TheVariants.{Less};
 
@@ -24,7 +24,7 @@ pub struct Region {
 }
 
 impl Model for Region {
-    ghost use Rattle.gf_facets.specs.Regions as regions;
+    ghost use Rattle.gf_facets_theory.specs.Regions as regions;
     ghost use Rattle.gf_cone.specs.Weights.{IsRegionKept};
 
     ghost Value = { regions.Region };

@@ -1,12 +1,12 @@
 //! The system of a normal, solved.
 ghost use Rattle.std.specs.Prelude.{◌≡◌, ◌<◌, ◌≤◌, ◌++◌, ◌<ℤ◌, ℤ, ◌∷◌, [], List, pos, neg_ℤ, length, All, IfOk, IfErr, IfSome, IsNone};
-ghost use Rattle.gf_int.specs.Range.{InRange};
+ghost use Rattle.gf_int_theory.specs.Range.{InRange};
 ghost use Rattle.gf_vec.specs.Vector.{dot};
 ghost use Rattle.gf_gordan.specs.Alternative.{AreRows, IsSolution, IsSolvable};
 ghost use Rattle.gf_gordan.specs.Steps.{Failed};
 ghost use Rattle.gf_gordan.specs.Sizes.{HaveEntriesUpTo};
 ghost use Rattle.gf_gordan.specs.declared.error.GordanError.TheVariants.{Memory};
-ghost use Rattle.gf_facets.specs.Normals.{others_of};
+ghost use Rattle.gf_facets_theory.specs.Normals.{others_of};
 ghost use Rattle.gf_cone.specs.Answers.{AnswersSystem, IsNormalStep};
 
 use crate::answer::FlipAnswer;

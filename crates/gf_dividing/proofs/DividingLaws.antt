@@ -2,9 +2,9 @@
 use Rattle.std.proofs.Common.{◌≡◌, ℕ, zero, suc, ◌+◌, ◌<◌, ◌≤◌, [], ◌∷◌, map, take, length, get_or, arith, refl, sym, ap, subst, ◌∙◌}
 use Rattle.gf_frac.specs.Fraction.{one_ℚ}
 use Rattle.gf_frac.proofs.FractionLaws.{one-*ℚ}
-use Rattle.gf_exponents.specs.Exponents.{Exponents, entry, plus, minus, join, Divides}
-use Rattle.gf_exponents.specs.Orders.{deglex}
-use Rattle.gf_exponents.proofs.ExponentsLaws.{entry-plus, entry-minus, entry-join, same_lists}
+use Rattle.gf_exponents_theory.specs.Exponents.{Exponents, entry, plus, minus, join, Divides}
+use Rattle.gf_exponents_theory.specs.Orders.{deglex}
+use Rattle.gf_exponents_theory.proofs.ExponentsLaws.{entry-plus, entry-minus, entry-join, same_lists}
 use Rattle.gf_poly.specs.declared.Term.{Term}
 use Rattle.gf_poly.specs.Polynomial.{Terms, HasVariables, IsAbove, IsDescending, times}
 use Rattle.gf_poly.specs.Marking.{Each}

@@ -1,7 +1,7 @@
 -- Polynomials divided by a monomial that divides all of their terms. Laws: proofs/DividingLaws.antt.
 use Rattle.std.specs.Prelude.{◌≡◌, ℕ, ◌≤◌, length}
 use Rattle.gf_frac.specs.Fraction.{one_ℚ}
-use Rattle.gf_exponents.specs.Exponents.{Exponents, entry, minus}
+use Rattle.gf_exponents_theory.specs.Exponents.{Exponents, entry, minus}
 use Rattle.gf_poly.specs.declared.Term.{Term}
 use Rattle.gf_poly.specs.Polynomial.{Terms, HasVariables, times}
 use Rattle.gf_poly.specs.Marking.{Each}

@@ -4,7 +4,7 @@
 #![tactic(auto)]
 
 ghost use Rattle.std.specs.Prelude.{◌≡◌, ◌<◌, ◌≤◌, ℕ, IfOk, length, map};
-ghost use Rattle.gf_exponents.specs.Exponents.{entry};
+ghost use Rattle.gf_exponents_theory.specs.Exponents.{entry};
 ghost use Rattle.gf_poly.specs.Polynomial.{HasVariables};
 ghost use Rattle.gf_dividing.specs.Dividing.{DividesAll, IsGreatest, divided_term, IsStripped};
 

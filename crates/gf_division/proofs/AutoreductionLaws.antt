@@ -8,27 +8,27 @@ use Rattle.std.proofs.lemmas.List.Elements.{Contains-push_cases}
 use Rattle.std.proofs.lemmas.List.Sorted.{Contains-permutation, IsPermutation-sym}
 use Rattle.gf_frac.specs.Fraction.{◌*ℚ◌}
 use Rattle.gf_frac.proofs.FractionLaws.{*ℚ_cancel}
-use Rattle.gf_exponents.specs.Exponents.{same}
-use Rattle.gf_exponents.specs.Orders.{lighter}
-use Rattle.gf_exponents.proofs.ExponentsLaws.{same_flip, same_of, same_trans}
-use Rattle.gf_exponents.proofs.OrderLaws.{lighter-strict}
-use Rattle.gf_int.proofs.ListLaws.{Contains-here}
+use Rattle.gf_exponents_theory.specs.Exponents.{same}
+use Rattle.gf_exponents_theory.specs.Orders.{lighter}
+use Rattle.gf_exponents_theory.proofs.ExponentsLaws.{same_flip, same_of, same_trans}
+use Rattle.gf_exponents_theory.proofs.OrderLaws.{lighter-strict}
+use Rattle.gf_int_theory.proofs.ListLaws.{Contains-here}
 use Rattle.gf_poly.specs.Polynomial.{Terms, coefficient, SamePolynomial, HasVariables}
 use Rattle.gf_poly.specs.Marking.{MarkedPolynomial, MarkedPolynomials, HaveVariables, IsArranged}
 use Rattle.gf_poly.proofs.PolynomialLaws.{coefficient-same}
-use Rattle.gf_ideal.specs.Membership.{AreInVariables, IsMember}
-use Rattle.gf_ideal.specs.Marks.{IsMarked, AreMarked, IsPositive, HasPositiveWeight, IsRealisedBy, IsRealisable}
-use Rattle.gf_ideal.specs.Reduction.{IsMonicForm, AreMonicForms, IsDivisible}
-use Rattle.gf_ideal.specs.Bases.{IsBasis, AreApart, IsReducedBasis, IsHeaviest, IsCanonical, AreArranged}
-use Rattle.gf_ideal.specs.WorkLists.{IsReducedTail, AreReducedTails}
-use Rattle.gf_ideal.proofs.ListLaws.{each_contained, Contains-there, Contains-cases}
-use Rattle.gf_ideal.proofs.MembershipLaws.{member-equal}
-use Rattle.gf_ideal.proofs.GeneratorLaws.{monic-from}
-use Rattle.gf_ideal.proofs.MarkWeights.{monic_realised}
-use Rattle.gf_ideal.proofs.InterreductionLaws.{divisible_through, interreduced, reduced-tails, apart-tails, tail-marked, reduced_by_weight}
-use Rattle.gf_ideal.proofs.ArrangementLaws.{reduced-arranged}
-use Rattle.gf_ideal.proofs.KeptForms.{arranged_list}
-use Rattle.gf_ideal.proofs.DividingLaws.{divisible_itself}
+use Rattle.gf_ideal_theory.specs.Membership.{AreInVariables, IsMember}
+use Rattle.gf_ideal_theory.specs.Marks.{IsMarked, AreMarked, IsPositive, HasPositiveWeight, IsRealisedBy, IsRealisable}
+use Rattle.gf_ideal_theory.specs.Reduction.{IsMonicForm, AreMonicForms, IsDivisible}
+use Rattle.gf_ideal_theory.specs.Bases.{IsBasis, AreApart, IsReducedBasis, IsHeaviest, IsCanonical, AreArranged}
+use Rattle.gf_ideal_theory.specs.WorkLists.{IsReducedTail, AreReducedTails}
+use Rattle.gf_ideal_theory.proofs.ListLaws.{each_contained, Contains-there, Contains-cases}
+use Rattle.gf_ideal_theory.proofs.MembershipLaws.{member-equal}
+use Rattle.gf_ideal_theory.proofs.GeneratorLaws.{monic-from}
+use Rattle.gf_ideal_theory.proofs.MarkWeights.{monic_realised}
+use Rattle.gf_ideal_theory.proofs.InterreductionLaws.{divisible_through, interreduced, reduced-tails, apart-tails, tail-marked, reduced_by_weight}
+use Rattle.gf_ideal_theory.proofs.ArrangementLaws.{reduced-arranged}
+use Rattle.gf_ideal_theory.proofs.KeptForms.{arranged_list}
+use Rattle.gf_ideal_theory.proofs.DividingLaws.{divisible_itself}
 use Rattle.gf_division.specs.MonicForms.{IsMadeMonic}
 use Rattle.gf_division.specs.NormalForms.{HasSomeWeight}
 use Rattle.gf_division.specs.Autoreduction.{IsNeededForm, AreNeededForms, IsAutoreduced, IsBasisOnceMonic, IsReducedOf, ShareSomeVariables, KeepVariables, IsKeptForm, AreKeptForms}

@@ -3,8 +3,8 @@
 -- variables-back, variables-join, coefficient-at_term, term_there.
 use Rattle.std.specs.Prelude.{◌≡◌, ℕ, suc, List, [], ◌∷◌, ◌++◌, Contains}
 use Rattle.std.proofs.Common.{arith, refl, ap, ◌∙◌, inr}
-use Rattle.gf_exponents.specs.Exponents.{Exponents}
-use Rattle.gf_exponents.specs.Orders.{deglex}
+use Rattle.gf_exponents_theory.specs.Exponents.{Exponents}
+use Rattle.gf_exponents_theory.specs.Orders.{deglex}
 use Rattle.gf_poly.specs.declared.Term.{Term}
 use Rattle.gf_poly.specs.Polynomial.{Terms, coefficient, IsAbove, IsDescending, HasVariables}
 use Rattle.gf_poly.proofs.DescendingLaws.{AllAbove}

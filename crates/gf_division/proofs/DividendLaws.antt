@@ -4,8 +4,8 @@ use Rattle.std.specs.Prelude.{◌≡◌, ◌≢◌, ℕ, zero, suc, ◌-◌, ◌
 use Rattle.std.specs.declared.cmp.Ordering.TheVariants.{Greater}
 use Rattle.std.proofs.Common.{arith, refl, sym, ap, ◌∙◌, subst, get_or, append_assoc}
 use Rattle.std.proofs.lemmas.List.{reverse-append, length-reverse}
-use Rattle.gf_exponents.specs.Exponents.{Exponents}
-use Rattle.gf_exponents.specs.Orders.{deglex}
+use Rattle.gf_exponents_theory.specs.Exponents.{Exponents}
+use Rattle.gf_exponents_theory.specs.Orders.{deglex}
 use Rattle.gf_poly.specs.declared.Term.{Term}
 use Rattle.gf_frac.specs.Fraction.{zero_ℚ}
 use Rattle.gf_poly.specs.Polynomial.{Terms, coefficient, IsDescending, HasVariables}

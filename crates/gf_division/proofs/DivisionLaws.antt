@@ -6,7 +6,7 @@ use Rattle.gf_frac.specs.Fraction.{◌+ℚ◌, zero_ℚ}
 use Rattle.gf_frac.specs.Fits.{Fits}
 use Rattle.gf_frac.specs.declared.refusal.Op.{Op}
 use Rattle.gf_frac.proofs.FractionLaws.{+ℚ_assoc, +ℚ_comm, +ℚ-zero, zero-+ℚ}
-use Rattle.gf_exponents.specs.Exponents.{Exponents}
+use Rattle.gf_exponents_theory.specs.Exponents.{Exponents}
 use Rattle.gf_poly.specs.declared.Term.{Term}
 use Rattle.gf_poly.specs.declared.error.PolyError.{PolyError}
 use Rattle.gf_poly.specs.declared.error.PolyError.TheVariants as errors
@@ -14,9 +14,9 @@ use Rattle.gf_poly.specs.Polynomial.{Terms, coefficient, times, SamePolynomial, 
 use Rattle.gf_poly.specs.Marking.{MarkedPolynomial, Each}
 use Rattle.gf_poly.proofs.PolynomialLaws.{coefficient-++}
 use Rattle.gf_poly.proofs.DescendingLaws.{HasVariables-push}
-use Rattle.gf_ideal.specs.Settled.{IsAt}
-use Rattle.gf_ideal.proofs.StepLaws.{step-back}
-use Rattle.gf_ideal.proofs.ProductLaws.{poly_product, poly_product-turned, poly_product-equal}
+use Rattle.gf_ideal_theory.specs.Settled.{IsAt}
+use Rattle.gf_ideal_theory.proofs.StepLaws.{step-back}
+use Rattle.gf_ideal_theory.proofs.ProductLaws.{poly_product, poly_product-turned, poly_product-equal}
 use Rattle.gf_division.specs.NormalForms.{HaveSameVariables}
 use Rattle.gf_division.specs.Divisions.{product_of, cofactor_sum, no_quotients, with_quotient, IsDivisionByRule, AreForms, AreSums, KeepForms, HaveVariablesOf, IsSumRefusal, IsDivisionRefusal}
 use Rattle.gf_division.specs.Dividends.{Split, joined_terms, TakesStep}

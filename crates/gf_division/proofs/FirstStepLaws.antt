@@ -7,24 +7,24 @@ use Rattle.std.proofs.Common.{arith, refl, sym, ap, ◌∙◌, subst, inl, inr}
 use Rattle.std.proofs.lemmas.Bool.{cases_lt}
 use Rattle.gf_frac.specs.Fraction.{◌+ℚ◌, ◌*ℚ◌, neg_ℚ, one_ℚ}
 use Rattle.gf_frac.proofs.FractionLaws.{+ℚ_assoc, +ℚ-zero, zero-+ℚ, zero-*ℚ, zero_or_not}
-use Rattle.gf_exponents.specs.Exponents.{Exponents, same, plus, weight}
-use Rattle.gf_exponents.specs.Orders.{lighter}
-use Rattle.gf_exponents.proofs.ExponentsLaws.{same-refl, same_flip, same_along, cancel}
+use Rattle.gf_exponents_theory.specs.Exponents.{Exponents, same, plus, weight}
+use Rattle.gf_exponents_theory.specs.Orders.{lighter}
+use Rattle.gf_exponents_theory.proofs.ExponentsLaws.{same-refl, same_flip, same_along, cancel}
 use Rattle.gf_poly.specs.Polynomial.{Terms, coefficient, SamePolynomial, times}
 use Rattle.gf_poly.specs.Marking.{MarkedPolynomial, Each}
 use Rattle.gf_poly.proofs.PolynomialLaws.{coefficient-++, coefficient-factor, times-plain}
 use Rattle.gf_poly.proofs.MergeLaws.{swap_first}
-use Rattle.gf_ideal.specs.Marks.{AreMarked, Piece, level, value}
-use Rattle.gf_ideal.specs.Reduction.{IsIrreducible, IsStep}
-use Rattle.gf_ideal.specs.NormalForms.{IsRuleReached}
-use Rattle.gf_ideal.specs.Settled.{IsAt}
-use Rattle.gf_ideal.proofs.Identities.{joined, crossed_over, neg_one}
-use Rattle.gf_ideal.proofs.ListLaws.{Each-++, Each-weaker}
-use Rattle.gf_ideal.proofs.SettledLaws.{times_along}
-use Rattle.gf_ideal.proofs.StepLaws.{coefficient-mark, step-back}
-use Rattle.gf_ideal.proofs.PieceLaws.{coefficient-value-++, scale, value-scale, Each-scale, Found, NoneAt, find}
-use Rattle.gf_ideal.proofs.CriterionLaws.{IsPieceWithin, nothing_at}
-use Rattle.gf_ideal.proofs.NormalFormLaws.{no_divisor}
+use Rattle.gf_ideal_theory.specs.Marks.{AreMarked, Piece, level, value}
+use Rattle.gf_ideal_theory.specs.Reduction.{IsIrreducible, IsStep}
+use Rattle.gf_ideal_theory.specs.NormalForms.{IsRuleReached}
+use Rattle.gf_ideal_theory.specs.Settled.{IsAt}
+use Rattle.gf_ideal_theory.proofs.Identities.{joined, crossed_over, neg_one}
+use Rattle.gf_ideal_theory.proofs.ListLaws.{Each-++, Each-weaker}
+use Rattle.gf_ideal_theory.proofs.SettledLaws.{times_along}
+use Rattle.gf_ideal_theory.proofs.StepLaws.{coefficient-mark, step-back}
+use Rattle.gf_ideal_theory.proofs.PieceLaws.{coefficient-value-++, scale, value-scale, Each-scale, Found, NoneAt, find}
+use Rattle.gf_ideal_theory.proofs.CriterionLaws.{IsPieceWithin, nothing_at}
+use Rattle.gf_ideal_theory.proofs.NormalFormLaws.{no_divisor}
 use Rattle.gf_division.specs.Reducers.{IsFirstFor}
 use Rattle.gf_division.proofs.ReducerLaws.{members_equal}
 

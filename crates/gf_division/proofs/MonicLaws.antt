@@ -14,8 +14,8 @@ use Rattle.gf_poly.specs.Polynomial.{coefficient}
 use Rattle.gf_poly.specs.Products.{IsScaleOverflow}
 use Rattle.gf_poly.specs.Marking.{MarkedPolynomial, HasMark, HasMarkedTerm, IsMonicOf, IsMonicCause}
 use Rattle.gf_poly.proofs.CoefficientLaws.{term_coefficient}
-use Rattle.gf_ideal.specs.Membership.{HasMonomial}
-use Rattle.gf_ideal.proofs.KeptForms.{monic_form, term_there}
+use Rattle.gf_ideal_theory.specs.Membership.{HasMonomial}
+use Rattle.gf_ideal_theory.proofs.KeptForms.{monic_form, term_there}
 use Rattle.gf_division.specs.MonicForms.{IsMadeMonic, IsDivisionByMark, IsMonicRefusal, HasSomeVariables}
 
 pub mark_one : (b : MarkedPolynomial) (k l : Fraction) (r : Bool) → HasMark b k → l ≡ one_ℚ → r ≡ fraction_eq k l → r ≡ true → HasMark b one_ℚ

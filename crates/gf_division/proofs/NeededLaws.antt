@@ -7,19 +7,19 @@ use Rattle.std.proofs.lemmas.Bool.{cases_lt}
 use Rattle.std.proofs.lemmas.Bool.Decides.{nat_tests}
 use Rattle.std.proofs.lemmas.List.{get_or_default}
 use Rattle.std.proofs.lemmas.List.Elements.{Contains-push, Contains-push_cases, Contains-append_left}
-use Rattle.gf_exponents.specs.Exponents.{Exponents, same, plus, degree, Divides, NoMultiple}
-use Rattle.gf_exponents.proofs.ExponentsLaws.{plus_comm, same-refl, same_of, same_flip, same_trans, same_by_entries, entries_same, entry-plus, multiple_or_not}
-use Rattle.gf_exponents.proofs.WeightLaws.{degree-plus, degree-same}
-use Rattle.gf_int.proofs.ListLaws.{Contains-here}
+use Rattle.gf_exponents_theory.specs.Exponents.{Exponents, same, plus, degree, Divides, NoMultiple}
+use Rattle.gf_exponents_theory.proofs.ExponentsLaws.{plus_comm, same-refl, same_of, same_flip, same_trans, same_by_entries, entries_same, entry-plus, multiple_or_not}
+use Rattle.gf_exponents_theory.proofs.WeightLaws.{degree-plus, degree-same}
+use Rattle.gf_int_theory.proofs.ListLaws.{Contains-here}
 use Rattle.gf_poly.specs.declared.error.PolyError.{PolyError}
 use Rattle.gf_poly.specs.declared.error.PolyError.TheVariants as errors
 use Rattle.gf_poly.specs.Polynomial.{HasVariables, KeepsVariables}
 use Rattle.gf_poly.specs.Marking.{MarkedPolynomial, HaveVariables}
-use Rattle.gf_ideal.specs.Reduction.{IsDivisible}
-use Rattle.gf_ideal.specs.Settled.{IsAt}
-use Rattle.gf_ideal.specs.Bases.{AreApart}
-use Rattle.gf_ideal.proofs.ListLaws.{each_contained, contained_each, Contains-there}
-use Rattle.gf_ideal.proofs.RingLaws.{degree-none}
+use Rattle.gf_ideal_theory.specs.Reduction.{IsDivisible}
+use Rattle.gf_ideal_theory.specs.Settled.{IsAt}
+use Rattle.gf_ideal_theory.specs.Bases.{AreApart}
+use Rattle.gf_ideal_theory.proofs.ListLaws.{each_contained, contained_each, Contains-there}
+use Rattle.gf_ideal_theory.proofs.RingLaws.{degree-none}
 use Rattle.gf_division.specs.MonicForms.{IsMadeMonic, IsMonicRefusal}
 use Rattle.gf_division.specs.Autoreduction.{IsNeeded, IsNeededForm, AreNeededForms, MakesNeedless, IsNeededAt, KeepVariables, IsNeededRefusal}
 use Rattle.gf_division.proofs.ReducerLaws.{members_equal, member_contained, member_variables}

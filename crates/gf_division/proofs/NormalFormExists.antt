@@ -7,29 +7,29 @@ use Rattle.std.proofs.Common.{arith, refl, sym, ap, ◌∙◌, subst, inl, inr}
 use Rattle.std.proofs.Math.Nat.{mul-le-mul_right, suc-mul}
 use Rattle.gf_frac.specs.Fraction.{◌+ℚ◌, neg_ℚ, zero_ℚ}
 use Rattle.gf_frac.proofs.FractionLaws.{zero-+ℚ}
-use Rattle.gf_exponents.specs.Exponents.{Exponents, entry, same, plus, weight, degree, IsInRing, NoMultiple}
-use Rattle.gf_exponents.specs.Orders.{lighter, IsDeglexBelow}
-use Rattle.gf_exponents.proofs.ExponentsLaws.{plus_comm, same_flip, same_shift, entries_same, entry-plus, entry-past, multiple_or_not}
-use Rattle.gf_exponents.proofs.OrderLaws.{deglex-order}
-use Rattle.gf_exponents.proofs.WeightLaws.{weight-plus, weight-same}
+use Rattle.gf_exponents_theory.specs.Exponents.{Exponents, entry, same, plus, weight, degree, IsInRing, NoMultiple}
+use Rattle.gf_exponents_theory.specs.Orders.{lighter, IsDeglexBelow}
+use Rattle.gf_exponents_theory.proofs.ExponentsLaws.{plus_comm, same_flip, same_shift, entries_same, entry-plus, entry-past, multiple_or_not}
+use Rattle.gf_exponents_theory.proofs.OrderLaws.{deglex-order}
+use Rattle.gf_exponents_theory.proofs.WeightLaws.{weight-plus, weight-same}
 use Rattle.gf_poly.specs.declared.Term.{Term}
 use Rattle.gf_poly.specs.Polynomial.{Terms, coefficient, SamePolynomial, times}
 use Rattle.gf_poly.specs.Marking.{MarkedPolynomial, Each}
-use Rattle.gf_ideal.specs.Membership.{HasMonomial}
-use Rattle.gf_ideal.specs.Marks.{AreMarked}
-use Rattle.gf_ideal.specs.Measure.{IsInBox, work_left}
-use Rattle.gf_ideal.specs.Reduction.{IsDivisible, IsIrreducible, IsStep}
-use Rattle.gf_ideal.specs.Bases.{IsGreatest}
-use Rattle.gf_ideal.specs.NormalForms.{IsRuleStep, IsRuleReached, IsNormalForm}
-use Rattle.gf_ideal.specs.Settled.{IsAt}
-use Rattle.gf_ideal.proofs.ListLaws.{Contains-cases, Each-weaker, collect, contained_each}
-use Rattle.gf_ideal.proofs.ListedTerms.{listed, by_terms}
-use Rattle.gf_ideal.proofs.RingLaws.{ring-along, ring-left, ring-plus, entry-degree}
-use Rattle.gf_ideal.proofs.LeadingLaws.{top_greatest}
-use Rattle.gf_ideal.proofs.DivisionLaws.{NoMark, divisible_or_not, undivided}
-use Rattle.gf_ideal.proofs.MeasureLaws.{work_left-at}
-use Rattle.gf_ideal.proofs.StepLaws.{IsClosed, IsWithin, taken, reached-one}
-use Rattle.gf_ideal.proofs.NormalFormLaws.{step-of_rule, no_divisor}
+use Rattle.gf_ideal_theory.specs.Membership.{HasMonomial}
+use Rattle.gf_ideal_theory.specs.Marks.{AreMarked}
+use Rattle.gf_ideal_theory.specs.Measure.{IsInBox, work_left}
+use Rattle.gf_ideal_theory.specs.Reduction.{IsDivisible, IsIrreducible, IsStep}
+use Rattle.gf_ideal_theory.specs.Bases.{IsGreatest}
+use Rattle.gf_ideal_theory.specs.NormalForms.{IsRuleStep, IsRuleReached, IsNormalForm}
+use Rattle.gf_ideal_theory.specs.Settled.{IsAt}
+use Rattle.gf_ideal_theory.proofs.ListLaws.{Contains-cases, Each-weaker, collect, contained_each}
+use Rattle.gf_ideal_theory.proofs.ListedTerms.{listed, by_terms}
+use Rattle.gf_ideal_theory.proofs.RingLaws.{ring-along, ring-left, ring-plus, entry-degree}
+use Rattle.gf_ideal_theory.proofs.LeadingLaws.{top_greatest}
+use Rattle.gf_ideal_theory.proofs.DivisionLaws.{NoMark, divisible_or_not, undivided}
+use Rattle.gf_ideal_theory.proofs.MeasureLaws.{work_left-at}
+use Rattle.gf_ideal_theory.proofs.StepLaws.{IsClosed, IsWithin, taken, reached-one}
+use Rattle.gf_ideal_theory.proofs.NormalFormLaws.{step-of_rule, no_divisor}
 use Rattle.gf_division.specs.Reducers.{IsFirstFor}
 use Rattle.gf_division.proofs.RuleLaws.{divisible_along}
 use Rattle.gf_division.proofs.FirstStepLaws.{IsFirstReached, first_of_rule, first_unique}

@@ -3,17 +3,17 @@
 use Rattle.std.specs.Prelude.{◌≡◌, ℕ, List, [], ◌<◌, ◌^◌, Some, None}
 use Rattle.std.specs.declared.option.Option.{Option}
 use Rattle.std.proofs.Common.{refl, sym, subst, get_or, ◌∙◌}
-use Rattle.gf_exponents.specs.Exponents.{Exponents}
-use Rattle.gf_exponents.specs.Orders.{lighter}
+use Rattle.gf_exponents_theory.specs.Exponents.{Exponents}
+use Rattle.gf_exponents_theory.specs.Orders.{lighter}
 use Rattle.gf_poly.specs.declared.Term.{Term}
 use Rattle.gf_poly.specs.declared.TheConstants.{ROOM}
 use Rattle.gf_poly.specs.declared.error.PolyError.{PolyError}
 use Rattle.gf_poly.specs.Polynomial.{Terms, IsDescending, HasVariables, KeepsVariables}
 use Rattle.gf_poly.specs.Marking.{MarkedPolynomial, head_of, HaveVariables}
-use Rattle.gf_ideal.specs.Marks.{AreMarked, HasPositiveWeight}
-use Rattle.gf_ideal.specs.Measure.{work_left}
-use Rattle.gf_ideal.specs.NormalForms.{IsRuleReached, IsNormalForm}
-use Rattle.gf_ideal.proofs.NormalFormLaws.{normal_form-reached}
+use Rattle.gf_ideal_theory.specs.Marks.{AreMarked, HasPositiveWeight}
+use Rattle.gf_ideal_theory.specs.Measure.{work_left}
+use Rattle.gf_ideal_theory.specs.NormalForms.{IsRuleReached, IsNormalForm}
+use Rattle.gf_ideal_theory.proofs.NormalFormLaws.{normal_form-reached}
 use Rattle.gf_division.specs.Steps.{IsStepRefusal, IsReductionRefusal}
 use Rattle.gf_division.specs.NormalForms.{HasSomeWeight, HaveSameVariables}
 use Rattle.gf_division.specs.Dividends.{Split, joined_terms, TakesStep}

@@ -6,9 +6,9 @@ use Rattle.std.specs.declared.cmp.Ordering.TheVariants.{Less, Equal, Greater}
 use Rattle.std.proofs.Common.{refl, sym, ap, ◌∙◌, subst}
 use Rattle.gf_frac.specs.Fraction.{◌+ℚ◌, neg_ℚ, zero_ℚ, one_ℚ}
 use Rattle.gf_frac.proofs.FractionLaws.{zero-+ℚ}
-use Rattle.gf_exponents.specs.Exponents.{Exponents, plus, Divides}
-use Rattle.gf_exponents.specs.Orders.{deglex}
-use Rattle.gf_exponents.proofs.ExponentsLaws.{same_of}
+use Rattle.gf_exponents_theory.specs.Exponents.{Exponents, plus, Divides}
+use Rattle.gf_exponents_theory.specs.Orders.{deglex}
+use Rattle.gf_exponents_theory.proofs.ExponentsLaws.{same_of}
 use Rattle.gf_poly.specs.declared.Term.{Term}
 use Rattle.gf_poly.specs.declared.error.PolyError.{PolyError}
 use Rattle.gf_poly.specs.Polynomial.{Terms, coefficient, times, IsAbove, IsDescending, HasVariables}
@@ -16,8 +16,8 @@ use Rattle.gf_poly.specs.Marking.{MarkedPolynomial, head_of}
 use Rattle.gf_poly.proofs.PolynomialLaws.{coefficient-++}
 use Rattle.gf_poly.proofs.DescendingLaws.{less_greater, equal_same, IsAbove-from}
 use Rattle.gf_poly.proofs.CoefficientLaws.{coefficient-above}
-use Rattle.gf_ideal.specs.Membership.{HasMonomial}
-use Rattle.gf_ideal.proofs.StepLaws.{step-gone}
+use Rattle.gf_ideal_theory.specs.Membership.{HasMonomial}
+use Rattle.gf_ideal_theory.proofs.StepLaws.{step-gone}
 use Rattle.gf_division.specs.Steps.{StepsTo, IsStepRefusal}
 use Rattle.gf_division.specs.Dividends.{Split, joined_terms, IsSound, IsTermInFront, DividesFirst, AreOver, FirstIs, Descends, SharesVariables, TakesStep}
 use Rattle.gf_division.proofs.DescendingParts.{descending-back, variables-front, variables-back}

@@ -10,7 +10,7 @@ use Rattle.gf_poly.specs.declared.error.PolyError.TheVariants as errors
 use Rattle.gf_poly.specs.Polynomial.{Terms, SamePolynomial, IsDescending, HasVariables, KeepsVariables}
 use Rattle.gf_poly.specs.Collecting.{IsLikeSumCause}
 use Rattle.gf_poly.specs.Marking.{Each}
-use Rattle.gf_ideal.proofs.ListLaws.{Each-++}
+use Rattle.gf_ideal_theory.proofs.ListLaws.{Each-++}
 use Rattle.gf_division.proofs.DescendingParts.{contains-midst}
 use Rattle.gf_division.specs.Divisions.{with_quotient, lists_of, AreForms, AreSums, KeepForms, IsSumRefusal}
 

@@ -9,22 +9,22 @@ use Rattle.std.proofs.lemmas.Bool.Decides.{Decides-eqb}
 use Rattle.std.specs.Bool.{Decides}
 use lib.Pointwise.{pointwise}
 use lib.Dec.{eqb}
-use Rattle.gf_exponents.specs.Exponents.{Exponents, same, plus, Divides, degree}
-use Rattle.gf_exponents.proofs.WeightLaws.{degree-plus, degree-same}
-use Rattle.gf_exponents.proofs.ExponentsLaws.{same-refl}
+use Rattle.gf_exponents_theory.specs.Exponents.{Exponents, same, plus, Divides, degree}
+use Rattle.gf_exponents_theory.proofs.WeightLaws.{degree-plus, degree-same}
+use Rattle.gf_exponents_theory.proofs.ExponentsLaws.{same-refl}
 use Rattle.gf_poly.specs.declared.Term.{Term}
 use Rattle.gf_poly.specs.Polynomial.{Terms, IsDescending, HasVariables}
 use Rattle.gf_poly.specs.Marking.{MarkedPolynomial, HaveVariables, HasMarkedTerm}
 use Rattle.gf_poly.proofs.CoefficientLaws.{apart}
-use Rattle.gf_ideal.specs.Reduction.{IsDivisible}
-use Rattle.gf_ideal.specs.Settled.{IsAt}
-use Rattle.gf_ideal.proofs.ListLaws.{Each-++, contained_each}
+use Rattle.gf_ideal_theory.specs.Reduction.{IsDivisible}
+use Rattle.gf_ideal_theory.specs.Settled.{IsAt}
+use Rattle.gf_ideal_theory.proofs.ListLaws.{Each-++, contained_each}
 use Rattle.gf_division.specs.Dividends.{Split, joined_terms, IsTermInFront, PassesOne}
 use Rattle.gf_division.specs.Reducers.{IsDivisorAt, IsBeside, IsSpareIn, AreIrreducible, ShareVariables}
 use Rattle.gf_division.specs.MonicForms.{HasSomeVariables}
 use Rattle.gf_division.proofs.DividendLaws.{terms_down, first_length}
 use Rattle.gf_division.proofs.StepLaws.{head_length}
-pub use Rattle.gf_ideal.proofs.DividingLaws.{member_contained}
+pub use Rattle.gf_ideal_theory.proofs.DividingLaws.{member_contained}
 
 -- ---- members
 

@@ -4,8 +4,8 @@
 use Rattle.std.specs.Prelude.{◌≡◌, ℕ, ◌<◌, ◌^◌, List, [], Contains, None, Some, IfSome, Result, Ok, Err, OnOk, IfErr}
 use Rattle.std.specs.declared.option.Option.{Option}
 use Rattle.std.proofs.Common.{refl, sym, ap, subst}
-use Rattle.gf_exponents.specs.Exponents.{Exponents}
-use Rattle.gf_exponents.specs.Orders.{lighter}
+use Rattle.gf_exponents_theory.specs.Exponents.{Exponents}
+use Rattle.gf_exponents_theory.specs.Orders.{lighter}
 use Rattle.gf_poly.specs.declared.Term.{Term}
 use Rattle.gf_poly.specs.declared.TheConstants.{ROOM}
 use Rattle.gf_poly.specs.declared.error.PolyError.{PolyError}
@@ -13,10 +13,10 @@ use Rattle.gf_poly.specs.declared.error.PolyError.TheVariants as errors
 use Rattle.gf_poly.specs.Monomial.{IsMonomial}
 use Rattle.gf_poly.specs.Polynomial.{Terms, IsDescending, HasVariables, KeepsVariables}
 use Rattle.gf_poly.specs.Marking.{MarkedPolynomial, head_of}
-use Rattle.gf_ideal.specs.Marks.{AreMarked}
-use Rattle.gf_ideal.specs.Measure.{work_left}
-use Rattle.gf_ideal.specs.Reduction.{Reached}
-use Rattle.gf_ideal.specs.NormalForms.{IsNormalForm}
+use Rattle.gf_ideal_theory.specs.Marks.{AreMarked}
+use Rattle.gf_ideal_theory.specs.Measure.{work_left}
+use Rattle.gf_ideal_theory.specs.Reduction.{Reached}
+use Rattle.gf_ideal_theory.specs.NormalForms.{IsNormalForm}
 use Rattle.gf_division.specs.Steps.{IsStepRefusal, IsReductionRefusal}
 use Rattle.gf_division.specs.NormalForms.{HaveSameVariables}
 use Rattle.gf_division.specs.Dividends.{Split, joined_terms, IsTermInFront, TakesStep}

@@ -11,10 +11,10 @@ use Rattle.std.proofs.Common.{refl, sym, ap, ◌∙◌, subst, inl, inr, get_or,
 use Rattle.gf_frac.specs.Fraction.{Fraction, neg_ℚ}
 use Rattle.gf_frac.specs.declared.refusal.Op.{Op}
 use Rattle.gf_frac.specs.declared.refusal.Op.TheVariants.{Add, Sub, Mul, Div}
-use Rattle.gf_exponents.specs.Exponents.{Exponents, same, plus, Divides, NoMultiple}
-use Rattle.gf_exponents.specs.Orders.{deglex, lighter, IsDeglexBelow}
-use Rattle.gf_exponents.proofs.ExponentsLaws.{plus_comm, same_of, same_flip, same_along}
-use Rattle.gf_exponents.proofs.OrderLaws.{deglex-compares, deglex-order}
+use Rattle.gf_exponents_theory.specs.Exponents.{Exponents, same, plus, Divides, NoMultiple}
+use Rattle.gf_exponents_theory.specs.Orders.{deglex, lighter, IsDeglexBelow}
+use Rattle.gf_exponents_theory.proofs.ExponentsLaws.{plus_comm, same_of, same_flip, same_along}
+use Rattle.gf_exponents_theory.proofs.OrderLaws.{deglex-compares, deglex-order}
 use Rattle.gf_poly.specs.declared.Term.{Term}
 use Rattle.gf_poly.specs.declared.TheConstants.{ROOM}
 use Rattle.gf_poly.specs.declared.error.PolyError.{PolyError}
@@ -22,23 +22,23 @@ use Rattle.gf_poly.specs.declared.error.PolyError.TheVariants as errors
 use Rattle.gf_poly.specs.Monomial.{IsMonomial}
 use Rattle.gf_poly.specs.Polynomial.{Terms, coefficient, times, IsAbove, IsDescending, HasVariables, KeepsVariables}
 use Rattle.gf_poly.specs.Marking.{MarkedPolynomial, Each}
-use Rattle.gf_ideal.specs.Membership.{HasMonomial}
-use Rattle.gf_ideal.specs.Marks.{AreMarked}
-use Rattle.gf_ideal.specs.Measure.{work_left}
-use Rattle.gf_ideal.specs.Reduction.{IsDivisible, IsIrreducible, IsStep, Reached}
-use Rattle.gf_ideal.specs.Operands.{IsStepOperation, IsStepExponents}
-use Rattle.gf_ideal.specs.Settled.{IsAt}
-use Rattle.gf_ideal.specs.NormalForms.{IsRuleStep}
-use Rattle.gf_ideal.proofs.ListLaws.{Each-++}
-use Rattle.gf_ideal.proofs.ListedTerms.{listed, box_of_monomial}
-use Rattle.gf_ideal.proofs.MeasureLaws.{work_left-at}
+use Rattle.gf_ideal_theory.specs.Membership.{HasMonomial}
+use Rattle.gf_ideal_theory.specs.Marks.{AreMarked}
+use Rattle.gf_ideal_theory.specs.Measure.{work_left}
+use Rattle.gf_ideal_theory.specs.Reduction.{IsDivisible, IsIrreducible, IsStep, Reached}
+use Rattle.gf_ideal_theory.specs.Operands.{IsStepOperation, IsStepExponents}
+use Rattle.gf_ideal_theory.specs.Settled.{IsAt}
+use Rattle.gf_ideal_theory.specs.NormalForms.{IsRuleStep}
+use Rattle.gf_ideal_theory.proofs.ListLaws.{Each-++}
+use Rattle.gf_ideal_theory.proofs.ListedTerms.{listed, box_of_monomial}
+use Rattle.gf_ideal_theory.proofs.MeasureLaws.{work_left-at}
 use Rattle.gf_division.specs.Steps.{IsStepRefusal, IsReductionRefusal}
 use Rattle.gf_division.specs.Dividends.{Split, joined_terms, IsSound, IsTermInFront, DividesFirst, SharesVariables, TakesStep}
 use Rattle.gf_division.specs.Reducers.{IsBeside, AreIrreducible, ShareVariables, IsReducibleFirst}
 use Rattle.gf_division.proofs.DescendingParts.{descending-back, variables-back}
 use Rattle.gf_division.proofs.DividendLaws.{first_head, first_length}
 use Rattle.gf_division.proofs.ReducerLaws.{members_equal, member_contained}
-pub use Rattle.gf_ideal.proofs.DividingLaws.{divisible_along}
+pub use Rattle.gf_ideal_theory.proofs.DividingLaws.{divisible_along}
 
 -- ---- after a search
 

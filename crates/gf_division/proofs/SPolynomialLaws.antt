@@ -7,8 +7,8 @@ use Rattle.std.proofs.Common.{arith, refl, sym, ap, ◌∙◌, subst, inl, inr, 
 use Rattle.std.proofs.lemmas.List.{take_more, take_all, map_push}
 use Rattle.gf_frac.specs.Fraction.{◌*ℚ◌, neg_ℚ, one_ℚ}
 use Rattle.gf_frac.proofs.FractionLaws.{one-*ℚ, zero-not-one}
-use Rattle.gf_exponents.specs.Exponents.{Exponents, plus, minus, join, Divides}
-use Rattle.gf_exponents.proofs.ExponentsLaws.{same_of, same_flip, minus_left, minus_right}
+use Rattle.gf_exponents_theory.specs.Exponents.{Exponents, plus, minus, join, Divides}
+use Rattle.gf_exponents_theory.proofs.ExponentsLaws.{same_of, same_flip, minus_left, minus_right}
 use Rattle.gf_poly.specs.declared.Term.{Term}
 use Rattle.gf_poly.specs.declared.error.PolyError.{PolyError}
 use Rattle.gf_poly.specs.declared.error.PolyError.TheVariants as errors
@@ -21,9 +21,9 @@ use Rattle.gf_poly.proofs.MonomialLaws.{length-join, length-minus}
 use Rattle.gf_poly.proofs.PolynomialLaws.{coefficient-times}
 use Rattle.gf_poly.proofs.ProductLaws.{IsDescending-products, HasVariables-products}
 use Rattle.gf_poly.proofs.CoefficientLaws.{term_coefficient}
-use Rattle.gf_ideal.specs.Reduction.{IsSPolynomial}
-use Rattle.gf_ideal.specs.Operands.{IsShiftOperation, IsSPolynomialExponents}
-use Rattle.gf_ideal.proofs.KeptForms.{term_there}
+use Rattle.gf_ideal_theory.specs.Reduction.{IsSPolynomial}
+use Rattle.gf_ideal_theory.specs.Operands.{IsShiftOperation, IsSPolynomialExponents}
+use Rattle.gf_ideal_theory.proofs.KeptForms.{term_there}
 use Rattle.gf_division.specs.SPolynomials.{ArePairOf, SharePairVariables, KeepsPairVariables, IsMonicPairRefusal, AreLcmCofactors, IsRaised, IsRaisingRefusal, IsSPolynomialOf}
 use Rattle.gf_division.specs.Dividends.{Split, joined_terms, IsSound, AreOverProducts, Subtracts, IsSubtractionRefusal}
 use Rattle.gf_division.proofs.StepLaws.{head_length}

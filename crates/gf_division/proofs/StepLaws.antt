@@ -8,9 +8,9 @@ use Rattle.gf_frac.specs.Fraction.{◌*ℚ◌, neg_ℚ, zero_ℚ}
 use Rattle.gf_frac.specs.Fits.{Fits}
 use Rattle.gf_frac.specs.declared.refusal.Op.{Op}
 use Rattle.gf_frac.specs.declared.refusal.Overflow.{Overflow}
-use Rattle.gf_exponents.specs.Exponents.{Exponents, plus}
-use Rattle.gf_exponents.specs.Orders.{deglex}
-use Rattle.gf_exponents.proofs.ExponentsLaws.{same_of}
+use Rattle.gf_exponents_theory.specs.Exponents.{Exponents, plus}
+use Rattle.gf_exponents_theory.specs.Orders.{deglex}
+use Rattle.gf_exponents_theory.proofs.ExponentsLaws.{same_of}
 use Rattle.gf_poly.specs.declared.Term.{Term}
 use Rattle.gf_poly.specs.declared.error.PolyError.{PolyError}
 use Rattle.gf_poly.specs.declared.error.PolyError.TheVariants as errors
@@ -21,9 +21,9 @@ use Rattle.gf_poly.specs.Marking.{MarkedPolynomial, head_of, HasMarkedTerm}
 use Rattle.gf_poly.proofs.DescendingLaws.{greater_trans}
 pub use Rattle.gf_poly.proofs.CoefficientLaws.{term_length, term_coefficient}
 use Rattle.gf_poly.proofs.ProductLaws.{deglex-plus, HasVariables-at}
-use Rattle.gf_ideal.specs.Operands.{IsPlace, IsStepOperation}
-use Rattle.gf_ideal.proofs.ListLaws.{Each-weaker}
-pub use Rattle.gf_ideal.proofs.KeptForms.{term_there}
+use Rattle.gf_ideal_theory.specs.Operands.{IsPlace, IsStepOperation}
+use Rattle.gf_ideal_theory.proofs.ListLaws.{Each-weaker}
+pub use Rattle.gf_ideal_theory.proofs.KeptForms.{term_there}
 use Rattle.gf_division.specs.Steps.{IsStepRefusal}
 use Rattle.gf_division.specs.Dividends.{Split, joined_terms, IsSound, DividesFirst, AreOver, AreOverProducts, MovesUp, IsScalingOverflow, IsDifferenceOverflow, Subtracts, IsSubtractionRefusal, SharesVariables, TakesStep}
 use Rattle.gf_division.proofs.DescendingParts.{descending-front}

@@ -8,8 +8,8 @@ use Rattle.std.proofs.Common.{refl, sym, ap, ◌∙◌, subst, inl, inr, get_or,
 use Rattle.std.proofs.lemmas.List.{reverse-append, take_more, drop_more, map_push, take-append-drop}
 use Rattle.gf_frac.specs.Fraction.{Fraction, ◌+ℚ◌, ◌-ℚ◌, ◌*ℚ◌, neg_ℚ, zero_ℚ}
 use Rattle.gf_frac.proofs.FractionLaws.{+ℚ_assoc, +ℚ_comm, +ℚ-zero, zero-+ℚ, *ℚ-zero, neg_ℚ-*ℚ, +ℚ-neg_ℚ}
-use Rattle.gf_exponents.specs.Exponents.{Exponents, plus, same}
-use Rattle.gf_exponents.specs.Orders.{deglex}
+use Rattle.gf_exponents_theory.specs.Exponents.{Exponents, plus, same}
+use Rattle.gf_exponents_theory.specs.Orders.{deglex}
 use Rattle.gf_poly.specs.declared.Term.{Term}
 use Rattle.gf_poly.specs.declared.error.PolyError.{PolyError}
 use Rattle.gf_poly.specs.declared.error.PolyError.TheVariants as errors
@@ -24,7 +24,7 @@ use Rattle.gf_poly.proofs.MonomialLaws.{length-plus}
 use Rattle.gf_poly.proofs.PolynomialLaws.{coefficient-++, coefficient-times}
 use Rattle.gf_poly.proofs.ProductLaws.{deglex-plus, nonzero_product}
 use Rattle.gf_poly.proofs.CollectLaws.{chosen_sum}
-use Rattle.gf_ideal.proofs.ListLaws.{Each-++, Each-weaker}
+use Rattle.gf_ideal_theory.proofs.ListLaws.{Each-++, Each-weaker}
 use Rattle.gf_division.specs.Dividends.{Split, joined_terms, IsSound, AreOver, AreFrom, AreOverProducts, FirstIs, Descends, TakesFromFirst, IsFirstRefusal, TakesAway, IsDifferenceRefusal, IsScalingOverflow, IsSubtractionRefusal}
 use Rattle.gf_division.proofs.DescendingParts.{descending-front, descending-back, descending-across, descending-join, all-above-join, variables-front, variables-back, variables-join, coefficient-midst, over-one, from-over}
 

@@ -11,16 +11,16 @@ use Rattle.std.specs.Map.{remove_entry}
 use Rattle.std.proofs.Common.{refl, sym, ap, ◌∙◌, subst, inl, inr, get_or, drop, append_assoc, append-nil}
 use Rattle.std.proofs.lemmas.Cmp.{tied_itself}
 use Rattle.gf_frac.specs.Fraction.{Fraction, ◌-ℚ◌, neg_ℚ, zero_ℚ}
-use Rattle.gf_exponents.specs.Exponents.{Exponents, plus, Divides}
-use Rattle.gf_exponents.specs.Orders.{deglex, lighter}
+use Rattle.gf_exponents_theory.specs.Exponents.{Exponents, plus, Divides}
+use Rattle.gf_exponents_theory.specs.Orders.{deglex, lighter}
 use Rattle.gf_poly.specs.declared.Term.{Term}
 use Rattle.gf_poly.specs.declared.TheConstants.{ROOM}
 use Rattle.gf_poly.specs.declared.error.PolyError.{PolyError}
 use Rattle.gf_poly.specs.Polynomial.{Terms, coefficient, times, IsAbove, IsDescending, HasVariables}
 use Rattle.gf_poly.specs.Marking.{MarkedPolynomial}
 use Rattle.gf_poly.proofs.DescendingLaws.{deglex-total, equal_same}
-use Rattle.gf_ideal.specs.Marks.{AreMarked}
-use Rattle.gf_ideal.specs.Measure.{work_left}
+use Rattle.gf_ideal_theory.specs.Marks.{AreMarked}
+use Rattle.gf_ideal_theory.specs.Measure.{work_left}
 use Rattle.gf_division.specs.declared.table.Key.{Key}
 use Rattle.gf_division.specs.Steps.{IsStepRefusal}
 use Rattle.gf_division.specs.Dividends.{Split, joined_terms, IsSound, IsTermInFront, AreOver, FirstIs, Descends, TakesFromFirst, TakesAway, IsDifferenceRefusal, Subtracts, IsSubtractionRefusal, TakesStep}

@@ -8,22 +8,22 @@ use Rattle.std.specs.declared.cmp.Ordering.{Ordering}
 use Rattle.std.specs.declared.cmp.Ordering.TheVariants.{Less, Equal, Greater}
 use Rattle.std.proofs.Common.{arith, refl, sym, ap, ◌∙◌, subst, get_or}
 use Rattle.std.proofs.lemmas.List.{take_all}
-use Rattle.gf_exponents.specs.Exponents.{Exponents, same}
-use Rattle.gf_exponents.specs.Orders.{deglex, lighter, IsDeglexBelow}
-use Rattle.gf_exponents.proofs.ExponentsLaws.{same-refl, same_flip, same_along}
-use Rattle.gf_exponents.proofs.OrderLaws.{deglex-compares, deglex-order, lighter-strict}
+use Rattle.gf_exponents_theory.specs.Exponents.{Exponents, same}
+use Rattle.gf_exponents_theory.specs.Orders.{deglex, lighter, IsDeglexBelow}
+use Rattle.gf_exponents_theory.proofs.ExponentsLaws.{same-refl, same_flip, same_along}
+use Rattle.gf_exponents_theory.proofs.OrderLaws.{deglex-compares, deglex-order, lighter-strict}
 use Rattle.gf_poly.specs.declared.Term.{Term}
 use Rattle.gf_poly.specs.declared.error.PolyError.{PolyError}
 use Rattle.gf_poly.specs.declared.error.PolyError.TheVariants as errors
 use Rattle.gf_poly.specs.Polynomial.{Terms, IsDescending, HasVariables, KeepsVariables}
 use Rattle.gf_poly.specs.Marking.{MarkedPolynomial, Each, head_of, HasMarkedTerm}
 use Rattle.gf_poly.proofs.DescendingLaws.{equal_same}
-use Rattle.gf_ideal.specs.Membership.{HasMonomial}
-use Rattle.gf_ideal.specs.Reduction.{IsDivisible}
-use Rattle.gf_ideal.specs.WorkLists.{IsTail, IsReducedTail}
-use Rattle.gf_ideal.proofs.ListedTerms.{listed}
-use Rattle.gf_ideal.proofs.MarkWeights.{mark-there}
-use Rattle.gf_ideal.proofs.InterreductionLaws.{tail-marked}
+use Rattle.gf_ideal_theory.specs.Membership.{HasMonomial}
+use Rattle.gf_ideal_theory.specs.Reduction.{IsDivisible}
+use Rattle.gf_ideal_theory.specs.WorkLists.{IsTail, IsReducedTail}
+use Rattle.gf_ideal_theory.proofs.ListedTerms.{listed}
+use Rattle.gf_ideal_theory.proofs.MarkWeights.{mark-there}
+use Rattle.gf_ideal_theory.proofs.InterreductionLaws.{tail-marked}
 use Rattle.gf_division.specs.NormalForms.{HasSomeWeight}
 use Rattle.gf_division.specs.Dividends.{Split, joined_terms}
 use Rattle.gf_division.specs.Reducers.{IsBeside, IsSpareIn, AreIrreducible, ShareVariables}

@@ -3,17 +3,17 @@
 use Rattle.std.specs.Prelude.{◌≡◌, ◌⊎◌, ℕ, ◌+◌, ◌*◌, ◌≤◌, ◌^◌, true, List, length, take, drop}
 use Rattle.std.proofs.Common.{subst, inl, inr}
 use Rattle.std.proofs.lemmas.List.{take_all}
-use Rattle.gf_exponents.specs.Exponents.{Exponents, same, weight}
-use Rattle.gf_exponents.specs.Orders.{lighter}
-use Rattle.gf_exponents.proofs.ExponentsLaws.{same_flip, same_trans}
-use Rattle.gf_exponents.proofs.OrderLaws.{lighter-strict}
+use Rattle.gf_exponents_theory.specs.Exponents.{Exponents, same, weight}
+use Rattle.gf_exponents_theory.specs.Orders.{lighter}
+use Rattle.gf_exponents_theory.proofs.ExponentsLaws.{same_flip, same_trans}
+use Rattle.gf_exponents_theory.proofs.OrderLaws.{lighter-strict}
 use Rattle.gf_poly.specs.declared.Term.{Term}
 use Rattle.gf_poly.specs.Polynomial.{HasVariables}
 use Rattle.gf_poly.specs.Marking.{MarkedPolynomial, Each, HasMarkedTerm}
-use Rattle.gf_ideal.specs.Marks.{IsMarked, IsPositive, HasPositiveWeight, IsRealisedBy, IsRealisable}
-use Rattle.gf_ideal.proofs.ListLaws.{contained_each}
-use Rattle.gf_ideal.proofs.ListedTerms.{by_terms}
-use Rattle.gf_ideal.proofs.KeptForms.{term_there}
+use Rattle.gf_ideal_theory.specs.Marks.{IsMarked, IsPositive, HasPositiveWeight, IsRealisedBy, IsRealisable}
+use Rattle.gf_ideal_theory.proofs.ListLaws.{contained_each}
+use Rattle.gf_ideal_theory.proofs.ListedTerms.{by_terms}
+use Rattle.gf_ideal_theory.proofs.KeptForms.{term_there}
 
 -- ---- loops over lists
 

@@ -5,18 +5,18 @@
 use Rattle.std.specs.Prelude.{◌≡◌, ◌⊎◌, ℕ, ◌≤◌, Bool, true, false, List, Contains}
 use Rattle.gf_frac.specs.Fraction.{Fraction}
 use Rattle.gf_frac.specs.declared.refusal.Op.{Op}
-use Rattle.gf_exponents.specs.Exponents.{Exponents, same, Divides}
+use Rattle.gf_exponents_theory.specs.Exponents.{Exponents, same, Divides}
 use Rattle.gf_poly.specs.declared.error.PolyError.{PolyError}
 use Rattle.gf_poly.specs.Refusals.{IsRefusedBy, NoSum}
 use Rattle.gf_poly.specs.Polynomial.{Terms, HasVariables}
 use Rattle.gf_poly.specs.Marking.{MarkedPolynomial, MarkedPolynomials, IsArranged, HaveVariables}
-use Rattle.gf_ideal.specs.Membership.{AreInVariables}
-use Rattle.gf_ideal.specs.Marks.{IsPositive, IsRealisedBy}
-use Rattle.gf_ideal.specs.Reduction.{AreMonicForms}
-use Rattle.gf_ideal.specs.Operands.{IsStepOperation, IsStepExponents}
-use Rattle.gf_ideal.specs.Settled.{IsAt}
-use Rattle.gf_ideal.specs.Bases.{IsBasis, AreApart, IsReducedBasis, IsCanonical}
-use Rattle.gf_ideal.specs.WorkLists.{IsTail, AreReducedTails}
+use Rattle.gf_ideal_theory.specs.Membership.{AreInVariables}
+use Rattle.gf_ideal_theory.specs.Marks.{IsPositive, IsRealisedBy}
+use Rattle.gf_ideal_theory.specs.Reduction.{AreMonicForms}
+use Rattle.gf_ideal_theory.specs.Operands.{IsStepOperation, IsStepExponents}
+use Rattle.gf_ideal_theory.specs.Settled.{IsAt}
+use Rattle.gf_ideal_theory.specs.Bases.{IsBasis, AreApart, IsReducedBasis, IsCanonical}
+use Rattle.gf_ideal_theory.specs.WorkLists.{IsTail, AreReducedTails}
 use Rattle.gf_division.specs.MonicForms.{IsMadeMonic, IsDivisionByMark}
 
 -- ---- which members are needed

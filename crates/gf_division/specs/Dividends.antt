@@ -8,8 +8,8 @@ use Rattle.gf_frac.specs.Fraction.{Fraction, ◌-ℚ◌, ◌*ℚ◌, neg_ℚ, ze
 use Rattle.gf_frac.specs.Fits.{Fits}
 use Rattle.gf_frac.specs.declared.refusal.Op.TheVariants.{Sub, Mul}
 use Rattle.gf_frac.specs.declared.refusal.Overflow.{Overflow}
-use Rattle.gf_exponents.specs.Exponents.{Exponents, plus, Divides}
-use Rattle.gf_exponents.specs.Orders.{deglex}
+use Rattle.gf_exponents_theory.specs.Exponents.{Exponents, plus, Divides}
+use Rattle.gf_exponents_theory.specs.Orders.{deglex}
 use Rattle.gf_poly.specs.declared.Term.{Term}
 use Rattle.gf_poly.specs.declared.error.PolyError.{PolyError}
 use Rattle.gf_poly.specs.declared.error.PolyError.TheVariants as errors

@@ -6,15 +6,15 @@ use Rattle.std.specs.Global.{Vec}
 use Rattle.gf_frac.specs.Fraction.{Fraction}
 use Rattle.gf_frac.specs.declared.refusal.Op.{Op}
 use Rattle.gf_frac.specs.declared.refusal.Op.TheVariants.{Add}
-use Rattle.gf_exponents.specs.Exponents.{Exponents}
+use Rattle.gf_exponents_theory.specs.Exponents.{Exponents}
 use Rattle.gf_poly.specs.declared.Term.{Term}
 use Rattle.gf_poly.specs.declared.error.PolyError.{PolyError}
 use Rattle.gf_poly.specs.Refusals.{ByKind, IsRefusedBy}
 use Rattle.gf_poly.specs.Polynomial.{Terms, coefficient, times, SamePolynomial, IsDescending, HasVariables}
 use Rattle.gf_poly.specs.Collecting.{like, sum_of_coefficients, IsLikeSumOverflow}
 use Rattle.gf_poly.specs.Marking.{MarkedPolynomial, Each}
-use Rattle.gf_ideal.specs.Operands.{IsReductionOperation, IsReductionExponents}
-use Rattle.gf_ideal.specs.NormalForms.{IsRuleStep}
+use Rattle.gf_ideal_theory.specs.Operands.{IsReductionOperation, IsReductionExponents}
+use Rattle.gf_ideal_theory.specs.NormalForms.{IsRuleStep}
 
 -- ---- cofactors
 

@@ -1,7 +1,7 @@
 -- Exponents arranged so that lists compare as monomials do.
 -- Laws: proofs/KeyLaws.antt.
 use Rattle.std.specs.Prelude.{◌≡◌, ℕ, ◌-◌, ◌<◌, ◌≤◌, ◌^◌, Bool, true, false, List, length}
-use Rattle.gf_exponents.specs.Exponents.{Exponents, entry}
+use Rattle.gf_exponents_theory.specs.Exponents.{Exponents, entry}
 
 -- entry i of the exponents arranged for a comparison: the exponent itself by lex; by revlex, turned, the exponent of the
 -- variable that is as far from the last one as i is from the first

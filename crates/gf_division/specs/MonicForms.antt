@@ -7,8 +7,8 @@ use Rattle.gf_poly.specs.declared.error.PolyError.{PolyError}
 use Rattle.gf_poly.specs.Refusals.{IsRefusedBy, NoSum}
 use Rattle.gf_poly.specs.Polynomial.{HasVariables, coefficient}
 use Rattle.gf_poly.specs.Marking.{MarkedPolynomial}
-use Rattle.gf_ideal.specs.Reduction.{IsMonicForm}
-use Rattle.gf_ideal.specs.Operands.{IsMonicOperation}
+use Rattle.gf_ideal_theory.specs.Reduction.{IsMonicForm}
+use Rattle.gf_ideal_theory.specs.Operands.{IsMonicOperation}
 
 -- b is f divided by its marked coefficient, with the same mark; where that is 1 already, f itself
 pub record IsMadeMonic (f b : MarkedPolynomial) : Type 0 where

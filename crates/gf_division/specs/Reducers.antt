@@ -2,13 +2,13 @@
 -- Laws: proofs/ReducerLaws.antt. Source: Cox, Little, O'Shea, Ideals, Varieties, and Algorithms, 2.3.
 use Rattle.std.specs.Prelude.{◌≡◌, ℕ, ◌<◌, false, List, [], length, Contains, Some, None}
 use Rattle.std.specs.declared.option.Option.{Option}
-use Rattle.gf_exponents.specs.Exponents.{Exponents, same, Divides, NoMultiple}
+use Rattle.gf_exponents_theory.specs.Exponents.{Exponents, same, Divides, NoMultiple}
 use Rattle.gf_poly.specs.declared.Term.{Term}
 use Rattle.gf_poly.specs.Monomial.{IsMonomial}
 use Rattle.gf_poly.specs.Polynomial.{Terms, HasVariables}
 use Rattle.gf_poly.specs.Marking.{MarkedPolynomial, Each, HaveVariables}
-use Rattle.gf_ideal.specs.Reduction.{IsDivisible}
-use Rattle.gf_ideal.specs.Settled.{IsAt}
+use Rattle.gf_ideal_theory.specs.Reduction.{IsDivisible}
+use Rattle.gf_ideal_theory.specs.Settled.{IsAt}
 use Rattle.gf_division.specs.Dividends.{Split, IsSound, IsTermInFront}
 
 -- the member at the place j is the first one whose mark divides x; it has as many variables as x

@@ -3,12 +3,12 @@
 -- Laws: proofs/RemainderLaws.antt. Source: Cox, Little, O'Shea, Ideals, Varieties, and Algorithms, 2.3 and 2.6.
 use Rattle.std.specs.Prelude.{◌≡◌, ℕ, List, Contains, Some, None}
 use Rattle.std.specs.declared.option.Option.{Option}
-use Rattle.gf_exponents.specs.Exponents.{Exponents}
+use Rattle.gf_exponents_theory.specs.Exponents.{Exponents}
 use Rattle.gf_poly.specs.declared.error.PolyError.{PolyError}
 use Rattle.gf_poly.specs.Refusals.{UnlessMemory}
 use Rattle.gf_poly.specs.Polynomial.{Terms, KeepsVariables}
 use Rattle.gf_poly.specs.Marking.{MarkedPolynomial}
-use Rattle.gf_ideal.specs.Reduction.{IsStep, IsIrreducible, Reached}
+use Rattle.gf_ideal_theory.specs.Reduction.{IsStep, IsIrreducible, Reached}
 use Rattle.gf_division.specs.Steps.{IsStepRefusal}
 use Rattle.gf_division.specs.Dividends.{Split, joined_terms}
 use Rattle.gf_division.specs.Reducers.{IsFirstFor, IsBeside, AreIrreducible, ShareVariables, IsReducibleFirst}

@@ -3,13 +3,13 @@
 use Rattle.std.specs.Prelude.{◌≡◌, ◌⊎◌, ℕ, length}
 use Rattle.gf_frac.specs.Fraction.{Fraction, one_ℚ}
 use Rattle.gf_frac.specs.declared.refusal.Op.{Op}
-use Rattle.gf_exponents.specs.Exponents.{Exponents, plus, join}
+use Rattle.gf_exponents_theory.specs.Exponents.{Exponents, plus, join}
 use Rattle.gf_poly.specs.declared.error.PolyError.{PolyError}
 use Rattle.gf_poly.specs.Refusals.{IsRefusedBy, NoOperation}
 use Rattle.gf_poly.specs.Polynomial.{Terms, HasVariables, IsDescending, times}
 use Rattle.gf_poly.specs.Marking.{MarkedPolynomial}
-use Rattle.gf_ideal.specs.Reduction.{IsSPolynomial}
-use Rattle.gf_ideal.specs.Operands.{IsShiftOperation, IsSPolynomialOperation, IsSPolynomialExponents}
+use Rattle.gf_ideal_theory.specs.Reduction.{IsSPolynomial}
+use Rattle.gf_ideal_theory.specs.Operands.{IsShiftOperation, IsSPolynomialOperation, IsSPolynomialExponents}
 use Rattle.gf_division.specs.MonicForms.{IsMadeMonic, IsDivisionByMark}
 
 -- b and c have the same variables

@@ -3,13 +3,13 @@
 -- Laws: proofs/StepLaws.antt. Source: Cox, Little, O'Shea, Ideals, Varieties, and Algorithms, 2.3.
 use Rattle.std.specs.Prelude.{◌≡◌, true, List, ◌++◌, Contains}
 use Rattle.gf_frac.specs.Fraction.{neg_ℚ}
-use Rattle.gf_exponents.specs.Exponents.{Exponents, same, plus}
+use Rattle.gf_exponents_theory.specs.Exponents.{Exponents, same, plus}
 use Rattle.gf_poly.specs.declared.error.PolyError.{PolyError}
 use Rattle.gf_poly.specs.Refusals.{IsRefusedBy}
 use Rattle.gf_poly.specs.Polynomial.{Terms, coefficient, SamePolynomial, times}
 use Rattle.gf_poly.specs.Marking.{MarkedPolynomial}
-use Rattle.gf_ideal.specs.Membership.{HasMonomial}
-use Rattle.gf_ideal.specs.Operands.{IsStepOperation, IsStepExponents, IsReductionOperation, IsReductionExponents}
+use Rattle.gf_ideal_theory.specs.Membership.{HasMonomial}
+use Rattle.gf_ideal_theory.specs.Operands.{IsStepOperation, IsStepExponents, IsReductionOperation, IsReductionExponents}
 
 -- ---- one step
 

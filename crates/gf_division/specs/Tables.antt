@@ -6,7 +6,7 @@ use Rattle.std.specs.declared.option.Option.{Option}
 use Rattle.std.specs.BTreeMap.{insert_entry, is_at}
 use Rattle.std.specs.Map.{lookup, remove_entry}
 use Rattle.gf_frac.specs.Fraction.{Fraction, zero_ℚ}
-use Rattle.gf_exponents.specs.Orders.{deglex}
+use Rattle.gf_exponents_theory.specs.Orders.{deglex}
 use Rattle.gf_poly.specs.declared.Term.{Term}
 use Rattle.gf_poly.specs.Monomial.{IsMonomial}
 use Rattle.gf_poly.specs.Polynomial.{Terms}

@@ -3,10 +3,10 @@
 ghost use Rattle.std.specs.Prelude.{◌≡◌, ◌<◌, false, length, Contains, IfOk, IfErr, IsTrue};
 ghost use Rattle.gf_poly.specs.Marking.{head_of};
 ghost use Rattle.gf_poly.specs.Polynomial.{HasVariables};
-ghost use Rattle.gf_ideal.specs.Membership.{HasMonomial};
-ghost use Rattle.gf_ideal.specs.Marks.{HasPositiveWeight, IsRealisable};
-ghost use Rattle.gf_ideal.specs.Bases.{AreArranged};
-ghost use Rattle.gf_ideal.specs.WorkLists.{IsReducedTail, AreReducedTails};
+ghost use Rattle.gf_ideal_theory.specs.Membership.{HasMonomial};
+ghost use Rattle.gf_ideal_theory.specs.Marks.{HasPositiveWeight, IsRealisable};
+ghost use Rattle.gf_ideal_theory.specs.Bases.{AreArranged};
+ghost use Rattle.gf_ideal_theory.specs.WorkLists.{IsReducedTail, AreReducedTails};
 ghost use Rattle.gf_division.specs.NormalForms.{HasSomeWeight};
 ghost use Rattle.gf_division.specs.Autoreduction.{AreNeededForms, IsAutoreduced, IsReducedOf, IsTailRefusal, IsNeededRefusal, IsAutoreductionRefusal, ShareSomeVariables, MakesNeedless, IsNeededAt, KeepVariables, IsKeptForm, AreKeptForms};
 ghost use Rattle.gf_division.specs.Remainders.{HasTailReached};

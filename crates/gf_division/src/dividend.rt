@@ -2,7 +2,7 @@
 
 ghost use Rattle.std.specs.Prelude.{false, zero, ◌≡◌, ◌≢◌, ◌≤◌, [], ◌++◌, length, reverse, MatchOption, IfOk, IfErr, IsTrue, OnOk};
 ghost use Rattle.gf_frac.specs.Fraction.{◌-ℚ◌, ◌*ℚ◌, zero_ℚ};
-ghost use Rattle.gf_exponents.specs.Exponents.{plus};
+ghost use Rattle.gf_exponents_theory.specs.Exponents.{plus};
 ghost use Rattle.gf_poly.specs.Marking.{head_of};
 ghost use Rattle.gf_poly.specs.Polynomial.{coefficient as coefficient_at, IsDescending, HasVariables};
 ghost use Rattle.gf_poly.specs.Sums.{PushesNonzero};

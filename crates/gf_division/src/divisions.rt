@@ -2,8 +2,8 @@
 
 ghost use Rattle.std.specs.Prelude.{◌≡◌, ◌<◌, ◌++◌, [], length, replicate, IfOk, IfErr, OnOk};
 ghost use Rattle.gf_poly.specs.Polynomial.{SamePolynomial, HasVariables, KeepsVariables, IsDescending};
-ghost use Rattle.gf_ideal.specs.Marks.{HasPositiveWeight};
-ghost use Rattle.gf_ideal.specs.NormalForms.{IsNormalForm};
+ghost use Rattle.gf_ideal_theory.specs.Marks.{HasPositiveWeight};
+ghost use Rattle.gf_ideal_theory.specs.NormalForms.{IsNormalForm};
 ghost use Rattle.gf_division.specs.Steps.{IsReductionRefusal};
 ghost use Rattle.gf_division.specs.NormalForms.{HasSomeWeight, HaveSameVariables};
 ghost use Rattle.gf_division.specs.Divisions.{cofactor_sum, AreForms, HaveVariablesOf, IsDivisionByRule, AreCofactors, AreSums, KeepForms, IsDivisionRefusal, IsSumRefusal, with_quotient, lists_of};

@@ -2,8 +2,8 @@
 
 ghost use Rattle.std.specs.Prelude.{IfOk, IfErr};
 ghost use Rattle.gf_poly.specs.Polynomial.{IsDescending, HasVariables, KeepsVariables};
-ghost use Rattle.gf_ideal.specs.Marks.{HasPositiveWeight};
-ghost use Rattle.gf_ideal.specs.NormalForms.{IsNormalForm};
+ghost use Rattle.gf_ideal_theory.specs.Marks.{HasPositiveWeight};
+ghost use Rattle.gf_ideal_theory.specs.NormalForms.{IsNormalForm};
 ghost use Rattle.gf_division.specs.Steps.{IsReductionRefusal};
 ghost use Rattle.gf_division.specs.NormalForms.{HasSomeWeight, HaveSameVariables};
 

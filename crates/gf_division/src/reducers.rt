@@ -1,9 +1,9 @@
 //! Which member reduces a term, and the search for a term that one reduces.
 
 ghost use Rattle.std.specs.Prelude.{false, ◌≡◌, ◌↔◌, length, IfSome, IfNone, IfOk, IsTrue, OnOk, Contains};
-ghost use Rattle.gf_exponents.specs.Exponents.{Divides, degree as total_degree};
+ghost use Rattle.gf_exponents_theory.specs.Exponents.{Divides, degree as total_degree};
 ghost use Rattle.gf_poly.specs.Marking.{HaveVariables};
-ghost use Rattle.gf_ideal.specs.Reduction.{IsDivisible};
+ghost use Rattle.gf_ideal_theory.specs.Reduction.{IsDivisible};
 ghost use Rattle.gf_division.specs.Dividends.{split_of, joined_terms};
 ghost use Rattle.gf_division.specs.Reducers.{IsDivisorAt, IsBeside, IsSpareIn, AreIrreducible, ShareVariables, IsSought};
 

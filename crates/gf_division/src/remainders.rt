@@ -4,7 +4,7 @@
 
 ghost use Rattle.std.specs.Prelude.{◌≡◌, IfOk, IfErr, IfSome, IsTrue, OnOk};
 ghost use Rattle.gf_poly.specs.Polynomial.{IsDescending, KeepsVariables};
-ghost use Rattle.gf_ideal.specs.NormalForms.{IsNormalForm};
+ghost use Rattle.gf_ideal_theory.specs.NormalForms.{IsNormalForm};
 ghost use Rattle.gf_division.specs.Steps.{IsReductionRefusal};
 ghost use Rattle.gf_division.specs.NormalForms.{HasSomeWeight, HaveSameVariables};
 ghost use Rattle.gf_division.specs.Dividends.{split_of, joined_terms};

@@ -2,7 +2,7 @@
 
 ghost use Rattle.std.specs.Prelude.{◌≡◌, length, IfOk, IfErr};
 ghost use Rattle.gf_poly.specs.Polynomial.{IsDescending, HasVariables};
-ghost use Rattle.gf_ideal.specs.Reduction.{IsSPolynomial};
+ghost use Rattle.gf_ideal_theory.specs.Reduction.{IsSPolynomial};
 ghost use Rattle.gf_division.specs.SPolynomials.{SharePairVariables, KeepsPairVariables, IsSPolynomialOf, IsPairRefusal, IsMonicPairRefusal, AreLcmCofactors, IsRaised, IsRaisingRefusal};
 
 use crate::dividend::Dividend;

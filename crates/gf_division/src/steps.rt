@@ -2,9 +2,9 @@
 
 ghost use Rattle.std.specs.Prelude.{◌≡◌, length, IfOk, IfErr};
 ghost use Rattle.gf_frac.specs.Fraction.{one_ℚ, zero_ℚ};
-ghost use Rattle.gf_exponents.specs.Exponents.{Divides};
+ghost use Rattle.gf_exponents_theory.specs.Exponents.{Divides};
 ghost use Rattle.gf_poly.specs.Polynomial.{coefficient, IsDescending, HasVariables};
-ghost use Rattle.gf_ideal.specs.Membership.{HasMonomial};
+ghost use Rattle.gf_ideal_theory.specs.Membership.{HasMonomial};
 ghost use Rattle.gf_division.specs.Steps.{StepsTo, IsStepRefusal};
 
 use crate::dividend::Dividend;

@@ -2,7 +2,7 @@
 
 ghost use Rattle.std.specs.Prelude.{◌≡◌, ◌≢◌, [], length, IfOk, IfErr, IfSome, OnOk};
 ghost use Rattle.gf_frac.specs.Fraction.{◌-ℚ◌, zero_ℚ};
-ghost use Rattle.gf_exponents.specs.Exponents.{Divides};
+ghost use Rattle.gf_exponents_theory.specs.Exponents.{Divides};
 ghost use Rattle.gf_poly.specs.Polynomial.{coefficient as coefficient_at, IsDescending, HasVariables};
 ghost use Rattle.gf_division.specs.Steps.{IsStepRefusal};
 ghost use Rattle.gf_division.specs.Dividends.{joined_terms, IsSound, TakesAway, IsDifferenceOverflow, IsDifferenceRefusal, Subtracts, IsSubtractionRefusal, SharesVariables};
@@ -28,7 +28,7 @@ impl PartialEq for Key {
     ghost use Rattle.std.specs.Ordering.{on, eq_of_both};
     ghost use Rattle.std.proofs.Common.{rules};
     ghost use lib.Pointwise.{pointwise};
-    ghost use Rattle.gf_exponents.specs.Exponents.{degree};
+    ghost use Rattle.gf_exponents_theory.specs.Exponents.{degree};
 
     ghost eq = { eq_of_both (on (λ k. degree k.mono) ◌==◌) (on (λ k. k.mono) (pointwise ◌==◌)) };
 
@@ -52,7 +52,7 @@ impl PartialOrd for Key {
     ghost use Rattle.std.specs.Cmp.Rules.{comparing};
     ghost use Rattle.std.specs.Ordering.{nat_cmp, on, flip_args, then_cmp, as_partial_cmp};
     ghost use Rattle.std.proofs.Common.{rules};
-    ghost use Rattle.gf_exponents.specs.Exponents.{degree};
+    ghost use Rattle.gf_exponents_theory.specs.Exponents.{degree};
 
     ghost partial_cmp = { as_partial_cmp (then_cmp (flip_args (on (λ k. degree k.mono) nat_cmp)) (flip_args (on (λ k. k.mono) (slice_cmp nat_cmp)))) };
 
@@ -68,7 +68,7 @@ impl Ord for Key {
     ghost use Rattle.std.specs.Cmp.Rules.{comparing};
     ghost use Rattle.std.specs.Ordering.{nat_cmp, on, flip_args, then_cmp};
     ghost use Rattle.std.proofs.Common.{rules};
-    ghost use Rattle.gf_exponents.specs.Exponents.{degree};
+    ghost use Rattle.gf_exponents_theory.specs.Exponents.{degree};
 
     ghost cmp = { then_cmp (flip_args (on (λ k. degree k.mono) nat_cmp)) (flip_args (on (λ k. k.mono) (slice_cmp nat_cmp))) };
 

@@ -7,13 +7,13 @@ use Rattle.std.proofs.lemmas.Bool.{cases_eq}
 use Rattle.std.proofs.lemmas.Nat.Bits.{bit_at_and, bit_at_or, bit_at_xor, bit_at-lt, bit_at-zero}
 use Rattle.std.proofs.lemmas.List.{get_or_default, take_all, take_more}
 use Rattle.std.proofs.lemmas.List.Elements.{All-append, All-contains, Contains-get_or, Contains-push, Contains-append_left, Contains-append_right}
-use Rattle.gf_int.proofs.ListLaws.{all_by, Contains-last, Contains-here}
+use Rattle.gf_int_theory.proofs.ListLaws.{all_by, Contains-last, Contains-here}
 use Rattle.gf_vec.specs.Vector.{dot}
 use Rattle.gf_gordan.specs.Alternative.{AreRows}
-use Rattle.gf_duality.proofs.ListLaws.{more, first_in, none_in, in_cons, in_tail}
-use Rattle.gf_fans.specs.FaceLists.{numbered}
-use Rattle.gf_fans.specs.Separating.{IsNowherePositive, IsCutOff, AreSeparating, AreSettled}
-use Rattle.gf_fans.proofs.PartNumbers.{of_map, in_map}
+use Rattle.gf_duality_theory.proofs.ListLaws.{more, first_in, none_in, in_cons, in_tail}
+use Rattle.gf_fans_theory.specs.FaceLists.{numbered}
+use Rattle.gf_fans_theory.specs.Separating.{IsNowherePositive, IsCutOff, AreSeparating, AreSettled}
+use Rattle.gf_fans_theory.proofs.PartNumbers.{of_map, in_map}
 use Rattle.gf_rays.specs.Cones.{RowsAndRays}
 use Rattle.gf_fan.specs.declared.bits.RowBits.{RowBits}
 use Rattle.gf_fan.specs.declared.bits.ConeBits.{ConeBits}

@@ -3,8 +3,8 @@ use Rattle.std.proofs.Common.{◌≡◌, ℕ, ◌+◌, ◌<◌, ◌≤◌, List,
 use Rattle.std.proofs.lemmas.List.{get_or_default}
 use Rattle.std.proofs.lemmas.List.Elements.{All-append, All-filter}
 use Rattle.gf_gordan.specs.declared.error.ConeOverflow.{ConeOverflow}
-use Rattle.gf_duality.specs.Faces.{Rows, part}
-use Rattle.gf_fans.specs.Fans.{meet}
+use Rattle.gf_duality_theory.specs.Faces.{Rows, part}
+use Rattle.gf_fans_theory.specs.Fans.{meet}
 use Rattle.gf_rays.specs.Cones.{rows_of}
 use Rattle.gf_rays.specs.Reached.{IsRaysStep}
 use Rattle.gf_rays.specs.Limits.{IsSmallSystem, has_room}

@@ -5,20 +5,20 @@ use Rattle.std.specs.Cmp.Lexicographic.{slice_cmp}
 use Rattle.std.specs.declared.cmp.Ordering.TheVariants.{Less}
 use Rattle.std.proofs.lemmas.List.{get_or-map, length-map}
 use Rattle.std.proofs.lemmas.List.Elements.{All-contains, Contains-get_or}
-use Rattle.gf_int.proofs.ListLaws.{Contains-here, all_by}
-use Rattle.gf_duality.specs.Generators.{Made}
-use Rattle.gf_duality.specs.Rays.{IsRays}
-use Rattle.gf_duality.specs.Faces.{SameCone}
-use Rattle.gf_duality.proofs.ListLaws.{none_in}
-use Rattle.gf_duality.proofs.Generated.{made-generated, generated-made}
-use Rattle.gf_duality.proofs.Echelon.{own_member}
-use Rattle.gf_duality.proofs.EchelonUnique.{same_ordered, no_widths, one_basis}
-use Rattle.gf_duality.proofs.Determined.{rays_determined, less_never}
-use Rattle.gf_fans.specs.Dimension.{HasDimension}
-use Rattle.gf_fans.specs.FaceLists.{AreNumbers, numbered}
-use Rattle.gf_fans.proofs.FanLaws.{same_turned}
-use Rattle.gf_fans.proofs.Ordered.{same_numbers}
-use Rattle.gf_fans.proofs.PartNumbers.{in_map, of_map, at_number, of_number, number_in}
+use Rattle.gf_int_theory.proofs.ListLaws.{Contains-here, all_by}
+use Rattle.gf_duality_theory.specs.Generators.{Made}
+use Rattle.gf_duality_theory.specs.Rays.{IsRays}
+use Rattle.gf_duality_theory.specs.Faces.{SameCone}
+use Rattle.gf_duality_theory.proofs.ListLaws.{none_in}
+use Rattle.gf_duality_theory.proofs.Generated.{made-generated, generated-made}
+use Rattle.gf_duality_theory.proofs.Echelon.{own_member}
+use Rattle.gf_duality_theory.proofs.EchelonUnique.{same_ordered, no_widths, one_basis}
+use Rattle.gf_duality_theory.proofs.Determined.{rays_determined, less_never}
+use Rattle.gf_fans_theory.specs.Dimension.{HasDimension}
+use Rattle.gf_fans_theory.specs.FaceLists.{AreNumbers, numbered}
+use Rattle.gf_fans_theory.proofs.FanLaws.{same_turned}
+use Rattle.gf_fans_theory.proofs.Ordered.{same_numbers}
+use Rattle.gf_fans_theory.proofs.PartNumbers.{in_map, of_map, at_number, of_number, number_in}
 use Rattle.gf_rays.specs.Cones.{RowsAndRays, rows_of}
 use Rattle.gf_fan.specs.declared.cones.FanCone.{FanCone}
 use Rattle.gf_fan.specs.Complement.{IsComplementBasis}

@@ -2,13 +2,13 @@
 use Rattle.std.proofs.Common.{◌≡◌, ℕ, ◌+◌, ◌<◌, ◌≤◌, ◌-◌, List, [], ◌∷◌, ◌++◌, length, map, get_or, ℤ, pos, ◌≤ℤ◌, false, All, Contains, arith, sym, ap, ◌∙◌, subst, ◌⊎◌, inl, inr}
 use Rattle.std.proofs.lemmas.List.{get_or_default, get_or_append_left, get_or-append_right, length-append}
 use Rattle.std.proofs.lemmas.List.Elements.{All-push, All-contains, Contains-get_or}
-use Rattle.gf_int.proofs.ListLaws.{all_by}
+use Rattle.gf_int_theory.proofs.ListLaws.{all_by}
 use Rattle.gf_vec.specs.Vector.{dot}
 use Rattle.gf_gordan.specs.Alternative.{AreRows}
-use Rattle.gf_duality.proofs.ListLaws.{place, less, at, more}
-use Rattle.gf_fans.specs.FaceLists.{numbered}
-use Rattle.gf_fans.specs.Separating.{IsNowherePositive, IsCutOff, AreSeparating, AreSettled}
-use Rattle.gf_fans.proofs.PartNumbers.{at_number, of_map, in_map}
+use Rattle.gf_duality_theory.proofs.ListLaws.{place, less, at, more}
+use Rattle.gf_fans_theory.specs.FaceLists.{numbered}
+use Rattle.gf_fans_theory.specs.Separating.{IsNowherePositive, IsCutOff, AreSeparating, AreSettled}
+use Rattle.gf_fans_theory.proofs.PartNumbers.{at_number, of_map, in_map}
 use Rattle.gf_rays.specs.Cones.{RowsAndRays}
 use Rattle.gf_fan.specs.declared.signs.Sign.{Sign}
 use Rattle.gf_fan.specs.declared.signs.ConeSigns.{ConeSigns}

@@ -7,15 +7,15 @@ use Rattle.std.proofs.lemmas.Bool.{cases_eq}
 use Rattle.std.proofs.lemmas.Option.{same_Some}
 use Rattle.std.proofs.lemmas.List.{get_or_default, get_or-map, take_more}
 use Rattle.std.proofs.lemmas.List.Elements.{All-contains, Contains-get_or, Contains-push}
-use Rattle.gf_int.proofs.ListLaws.{Contains-last, all_by}
-use Rattle.gf_duality.specs.Faces.{Rows, SameCone, part}
-use Rattle.gf_duality.specs.Rays.{IsRays}
-use Rattle.gf_duality.proofs.Determined.{rays_determined}
-use Rattle.gf_duality.proofs.ListLaws.{none_in, first_in, place, less, at, more}
-use Rattle.gf_fans.specs.FaceLists.{IsFaceBy, AreNumbers, numbered}
-use Rattle.gf_fans.proofs.FanLaws.{face_has, part_in, of_part}
-use Rattle.gf_fans.proofs.Ordered.{within_all, same_numbers}
-use Rattle.gf_fans.proofs.PartNumbers.{in_map, of_map, at_number, number_in}
+use Rattle.gf_int_theory.proofs.ListLaws.{Contains-last, all_by}
+use Rattle.gf_duality_theory.specs.Faces.{Rows, SameCone, part}
+use Rattle.gf_duality_theory.specs.Rays.{IsRays}
+use Rattle.gf_duality_theory.proofs.Determined.{rays_determined}
+use Rattle.gf_duality_theory.proofs.ListLaws.{none_in, first_in, place, less, at, more}
+use Rattle.gf_fans_theory.specs.FaceLists.{IsFaceBy, AreNumbers, numbered}
+use Rattle.gf_fans_theory.proofs.FanLaws.{face_has, part_in, of_part}
+use Rattle.gf_fans_theory.proofs.Ordered.{within_all, same_numbers}
+use Rattle.gf_fans_theory.proofs.PartNumbers.{in_map, of_map, at_number, number_in}
 use Rattle.gf_rays.specs.Cones.{RowsAndRays, rows_of}
 use Rattle.gf_fan.specs.declared.cones.FanCone.{FanCone}
 use Rattle.gf_fan.specs.FanLists.{rank_of, numbers_of}

@@ -7,16 +7,16 @@ use Rattle.std.proofs.lemmas.Bool.{cases_eq}
 use Rattle.std.proofs.lemmas.Cmp.{nat_list_cmp_total, tied_itself}
 use Rattle.std.proofs.lemmas.List.{get_or_default}
 use Rattle.std.proofs.lemmas.List.Elements.{All-contains, Contains-get_or, Contains-append_cases}
-use Rattle.gf_int.proofs.ListLaws.{all_by}
-use Rattle.gf_duality.specs.Faces.{Rows, SameCone, IsFaceOf, part}
-use Rattle.gf_duality.proofs.ListLaws.{place, less, at, more}
-use Rattle.gf_fans.specs.FaceLists.{numbered}
-use Rattle.gf_fans.specs.Heights.{IsWithinPart}
-use Rattle.gf_fans.specs.Fans.{meet}
-use Rattle.gf_fans.proofs.FanLaws.{both_in, face_same, same_lists}
-use Rattle.gf_fans.proofs.Meeting.{left_in}
-use Rattle.gf_fans.proofs.Ordered.{within_all, same_numbers, missing}
-use Rattle.gf_fans.proofs.PartNumbers.{in_map, of_map}
+use Rattle.gf_int_theory.proofs.ListLaws.{all_by}
+use Rattle.gf_duality_theory.specs.Faces.{Rows, SameCone, IsFaceOf, part}
+use Rattle.gf_duality_theory.proofs.ListLaws.{place, less, at, more}
+use Rattle.gf_fans_theory.specs.FaceLists.{numbered}
+use Rattle.gf_fans_theory.specs.Heights.{IsWithinPart}
+use Rattle.gf_fans_theory.specs.Fans.{meet}
+use Rattle.gf_fans_theory.proofs.FanLaws.{both_in, face_same, same_lists}
+use Rattle.gf_fans_theory.proofs.Meeting.{left_in}
+use Rattle.gf_fans_theory.proofs.Ordered.{within_all, same_numbers, missing}
+use Rattle.gf_fans_theory.proofs.PartNumbers.{in_map, of_map}
 use Rattle.gf_rays.specs.Cones.{RowsAndRays, rows_of}
 use Rattle.gf_fan.specs.declared.cones.FanCone.{FanCone}
 use Rattle.gf_fan.specs.FanLists.{FanLists, rank_of, numbers_of}

@@ -1,6 +1,6 @@
 -- Fans that have the same cones.
 use Rattle.std.specs.Prelude.{◌≡◌, map, Contains}
-use Rattle.gf_duality.specs.Faces.{SameCone}
+use Rattle.gf_duality_theory.specs.Faces.{SameCone}
 use Rattle.gf_rays.specs.Cones.{rows_of}
 use Rattle.gf_fan.specs.declared.cones.FanCone.{FanCone}
 use Rattle.gf_fan.specs.FanLists.{FanLists, rank_of}

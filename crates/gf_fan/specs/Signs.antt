@@ -1,7 +1,7 @@
 -- What is known of the rows of cones at the rays of a fan.
 use Rattle.std.specs.Prelude.{◌≡◌, ◌≢◌, ◌⊎◌, ◌<◌, ℕ, List, [], ℤ, pos, ◌≤ℤ◌, All, Contains, IsTrue, length, slice_index_or}
 use Rattle.gf_vec.specs.Vector.{dot}
-use Rattle.gf_fans.specs.FaceLists.{numbered}
+use Rattle.gf_fans_theory.specs.FaceLists.{numbered}
 use Rattle.gf_rays.specs.Cones.{RowsAndRays}
 use Rattle.gf_fan.specs.declared.signs.Sign.{Sign}
 use Rattle.gf_fan.specs.declared.signs.ConeSigns.{ConeSigns}

@@ -1,6 +1,6 @@
 -- The numbers of all rays of the cones that a fan is of.
 use Rattle.std.specs.Prelude.{◌≡◌, ◌≢◌, ◌<◌, ℕ, List, ℤ, All, AllPairs, Contains, length, slice_get, Some}
-use Rattle.gf_fans.specs.FaceLists.{numbered}
+use Rattle.gf_fans_theory.specs.FaceLists.{numbered}
 use Rattle.gf_rays.specs.Cones.{RowsAndRays}
 
 -- those of one cone

@@ -2,20 +2,20 @@
 -- To cite: alone_where, alone_at.
 use Rattle.std.proofs.Common.{◌≡◌, ℕ, zero, suc, Bool, true, false, List, [], ◌∷◌, length, map, get_or, Contains, ℤ, ◌==◌, arith, refl, sym, ap, ◌∙◌, subst}
 use Rattle.gf_frac.specs.Fraction.{one_ℚ}
-use Rattle.gf_exponents.specs.Exponents.{Exponents, same}
-use Rattle.gf_exponents.proofs.ExponentsLaws.{eq_by, same-refl, same_flip, same_trans}
-use Rattle.gf_int.proofs.ListLaws.{Contains-here}
+use Rattle.gf_exponents_theory.specs.Exponents.{Exponents, same}
+use Rattle.gf_exponents_theory.proofs.ExponentsLaws.{eq_by, same-refl, same_flip, same_trans}
+use Rattle.gf_int_theory.proofs.ListLaws.{Contains-here}
 use Rattle.gf_poly.specs.declared.Term.{Term}
 use Rattle.gf_poly.specs.Polynomial.{Terms, coefficient}
 use Rattle.gf_poly.specs.Marking.{MarkedPolynomial, polys}
-use Rattle.gf_ideal.specs.Membership.{HasMonomial}
-use Rattle.gf_ideal.specs.Settled.{IsAt}
-use Rattle.gf_ideal.proofs.Identities.{one_not_zero}
-use Rattle.gf_ideal.proofs.ListLaws.{Contains-there}
-use Rattle.gf_ideal.proofs.ListedTerms.{listed}
+use Rattle.gf_ideal_theory.specs.Membership.{HasMonomial}
+use Rattle.gf_ideal_theory.specs.Settled.{IsAt}
+use Rattle.gf_ideal_theory.proofs.Identities.{one_not_zero}
+use Rattle.gf_ideal_theory.proofs.ListLaws.{Contains-there}
+use Rattle.gf_ideal_theory.proofs.ListedTerms.{listed}
 use Rattle.gf_division.specs.NormalForms.{HasSomeWeight}
-use Rattle.gf_initial.specs.Parts.{IsPartAlong, ArePartsAlong}
-use Rattle.gf_initial.proofs.ClassLaws.{multiple-grading}
+use Rattle.gf_initial_theory.specs.Parts.{IsPartAlong, ArePartsAlong}
+use Rattle.gf_initial_theory.proofs.ClassLaws.{multiple-grading}
 use Rattle.gf_lines.specs.Along.{HasNonzero, AreAlong}
 use Rattle.gf_lines.specs.Splits.{IsAlone}
 use Rattle.gf_flip.specs.Chosen.{AreAloneWhere}

@@ -4,16 +4,16 @@ use Rattle.std.specs.declared.option.Option.{Option}
 use Rattle.std.proofs.Common.{Some, None, IfSome, ◌≡◌, ◌≢◌, ℕ, zero, suc, ◌+◌, ◌<◌, ◌≤◌, Bool, true, false, List, [], ◌∷◌, length, take, get_or, Contains, ℤ, arith, refl, sym, ap, ◌∙◌, subst}
 use Rattle.std.proofs.lemmas.List.{take_all, length-map, get_or-map, get_or_default}
 use Rattle.gf_frac.specs.Fraction.{◌*ℚ◌, zero_ℚ, one_ℚ}
-use Rattle.gf_exponents.specs.Exponents.{Exponents}
+use Rattle.gf_exponents_theory.specs.Exponents.{Exponents}
 use Rattle.gf_poly.specs.declared.Term.{Term}
 use Rattle.gf_poly.specs.Polynomial.{Terms, coefficient, SamePolynomial, HasVariables, IsDescending}
 use Rattle.gf_poly.specs.Marking.{MarkedPolynomial, HaveVariables}
-use Rattle.gf_ideal.specs.Settled.{IsAt}
+use Rattle.gf_ideal_theory.specs.Settled.{IsAt}
 use Rattle.gf_division.specs.NormalForms.{HasSomeWeight}
 use Rattle.gf_division.proofs.ReducerLaws.{member_at, members_equal, member_contained, member_variables}
-use Rattle.gf_initial.specs.Lifts.{IsTopLift, AreTopLifts}
-use Rattle.gf_ideal.specs.OrderTable.{AreMultipleApart}
-use Rattle.gf_initial.proofs.ClassLaws.{multiple-grading}
+use Rattle.gf_initial_theory.specs.Lifts.{IsTopLift, AreTopLifts}
+use Rattle.gf_ideal_theory.specs.OrderTable.{AreMultipleApart}
+use Rattle.gf_initial_theory.proofs.ClassLaws.{multiple-grading}
 use Rattle.gf_lines.specs.declared.lines.Point.{Point}
 use Rattle.gf_lines.specs.declared.lines.Line.{Line}
 use Rattle.gf_lines.specs.Along.{HasNonzero}

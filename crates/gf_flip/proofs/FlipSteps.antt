@@ -2,23 +2,23 @@
 -- To cite: weight_at, bounded_at, along_at, job_at, parts_at, if_neighbour, if_variables, if_tails_refused, topped_at, Ending, ending_at, lifts_weight,
 -- ended_variables, ended_neighbour.
 use Rattle.std.proofs.Common.{◌≡◌, ℕ, Bool, List, length, Contains, Result, Ok, Err, IfOk, IfErr, ℤ, refl, sym, ap, ◌∙◌, subst}
-use Rattle.gf_exponents.specs.Orders.{negated_row_of}
-use Rattle.gf_exponents.specs.SixOrders.{MonomialOrder}
-use Rattle.gf_exponents.proofs.ExponentsLaws.{same-refl}
+use Rattle.gf_exponents_theory.specs.Orders.{negated_row_of}
+use Rattle.gf_exponents_theory.specs.SixOrders.{MonomialOrder}
+use Rattle.gf_exponents_theory.proofs.ExponentsLaws.{same-refl}
 use Rattle.gf_order.specs.Comparisons.{HasEntries}
 use Rattle.gf_poly.specs.declared.error.PolyError.{PolyError}
 use Rattle.gf_poly.specs.Polynomial.{Terms, HasVariables}
 use Rattle.gf_poly.specs.Marking.{MarkedPolynomial, MarkedPolynomials, HaveVariables, IsArranged}
-use Rattle.gf_ideal.specs.Bases.{AreArranged, AreApart, AreSameBasis, IsTwin, IsCanonical}
-use Rattle.gf_ideal.specs.WorkLists.{AreReducedTails}
-use Rattle.gf_ideal.proofs.ListLaws.{each_contained}
-use Rattle.gf_ideal.proofs.KeptForms.{arranged_list}
+use Rattle.gf_ideal_theory.specs.Bases.{AreArranged, AreApart, AreSameBasis, IsTwin, IsCanonical}
+use Rattle.gf_ideal_theory.specs.WorkLists.{AreReducedTails}
+use Rattle.gf_ideal_theory.proofs.ListLaws.{each_contained}
+use Rattle.gf_ideal_theory.proofs.KeptForms.{arranged_list}
 use Rattle.gf_division.specs.NormalForms.{HasSomeWeight}
 use Rattle.gf_division.specs.Autoreduction.{IsAutoreduced, IsAutoreductionRefusal}
 use Rattle.gf_buchberger.specs.Jobs.{IsBasisJob}
 use Rattle.gf_buchberger.specs.Bases.{IsArrangedBasis, IsBasisRefusal, of_poly_error}
 use Rattle.gf_buchberger.specs.declared.bases.BasisError.{BasisError}
-use Rattle.gf_initial.specs.Lifts.{AreLifts, AreTopLifts}
+use Rattle.gf_initial_theory.specs.Lifts.{AreLifts, AreTopLifts}
 use Rattle.gf_lines.specs.Along.{AreSmall, AreAlong, IsBasisOfParts}
 use Rattle.gf_lifts.specs.Crossings.{IsCrossing, IsNeighbour}
 use Rattle.gf_lifts.specs.LiftTails.{AreCopies, AreTailsInTurn}

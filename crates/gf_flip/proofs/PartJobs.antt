@@ -5,23 +5,23 @@ use Rattle.std.specs.List.{AllByRecursion}
 use Rattle.std.proofs.Common.{arith, refl, ap, ◌∙◌, subst}
 use Rattle.std.proofs.lemmas.Int.{ints}
 use Rattle.std.proofs.lemmas.List.Elements.{recursion_from_All}
-use Rattle.gf_exponents.specs.Exponents.{Exponents, whole_weight}
-use Rattle.gf_exponents.specs.Orders.{negated_row_of, gains}
-use Rattle.gf_exponents.specs.SixOrders.{MonomialOrder}
+use Rattle.gf_exponents_theory.specs.Exponents.{Exponents, whole_weight}
+use Rattle.gf_exponents_theory.specs.Orders.{negated_row_of, gains}
+use Rattle.gf_exponents_theory.specs.SixOrders.{MonomialOrder}
 use Rattle.gf_vec.specs.Vector.{dot}
 use Rattle.gf_poly.specs.Polynomial.{Terms}
 use Rattle.gf_poly.specs.Marking.{MarkedPolynomial, polys}
-use Rattle.gf_ideal.specs.Membership.{HasMonomial}
-use Rattle.gf_ideal.specs.OrderTable.{AreMultipleApart}
+use Rattle.gf_ideal_theory.specs.Membership.{HasMonomial}
+use Rattle.gf_ideal_theory.specs.OrderTable.{AreMultipleApart}
 use Rattle.gf_buchberger.specs.Jobs.{HaveRingVariables, IsSuited}
 use Rattle.gf_buchberger.proofs.JobLaws.{orders_that_suit}
-use Rattle.gf_facets.specs.Rows.{negated}
-use Rattle.gf_facets.proofs.RegionLaws.{region-natural, region-positive}
-use Rattle.gf_initial.specs.Parts.{Matching, IsPartAlong, ArePartsAlong}
-use Rattle.gf_initial.proofs.MatchingLaws.{matched-map}
-use Rattle.gf_initial.proofs.PartLaws.{IsLevelPart}
-use Rattle.gf_initial.proofs.SideLaws.{IsSide, level_of_along, parts_of_one_class, apart-negated}
-use Rattle.gf_initial.proofs.FlipLaws.{side_of_inside, along_negated}
+use Rattle.gf_facets_theory.specs.Rows.{negated}
+use Rattle.gf_facets_theory.proofs.RegionLaws.{region-natural, region-positive}
+use Rattle.gf_initial_theory.specs.Parts.{Matching, IsPartAlong, ArePartsAlong}
+use Rattle.gf_initial_theory.proofs.MatchingLaws.{matched-map}
+use Rattle.gf_initial_theory.proofs.PartLaws.{IsLevelPart}
+use Rattle.gf_initial_theory.proofs.SideLaws.{IsSide, level_of_along, parts_of_one_class, apart-negated}
+use Rattle.gf_initial_theory.proofs.FlipLaws.{side_of_inside, along_negated}
 use Rattle.gf_lines.specs.Along.{AreAlong}
 use Rattle.gf_lifts.specs.Crossings.{IsCrossing}
 

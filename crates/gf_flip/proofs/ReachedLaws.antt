@@ -2,24 +2,24 @@
 -- To cite: reached_first, told_flippable, reached_crossing, reached_next.
 use Rattle.std.proofs.Common.{◌≡◌, ℕ, ◌<◌, Bool, true, List, [], length, get_or, ℤ, refl, sym, ap, ◌∙◌, subst}
 use Rattle.std.proofs.lemmas.List.{get_or_default}
-use Rattle.gf_exponents.specs.SixOrders.{MonomialOrder, below_of}
-use Rattle.gf_exponents.proofs.SixOrdersLaws.{order-is}
+use Rattle.gf_exponents_theory.specs.SixOrders.{MonomialOrder, below_of}
+use Rattle.gf_exponents_theory.proofs.SixOrdersLaws.{order-is}
 use Rattle.gf_poly.specs.Polynomial.{Terms}
 use Rattle.gf_poly.specs.Marking.{MarkedPolynomials}
-use Rattle.gf_ideal.specs.Membership.{AreInVariables}
-use Rattle.gf_ideal.specs.Marks.{HasPositiveWeight}
-use Rattle.gf_ideal.specs.MonomialOrders.{IsOfGrade}
-use Rattle.gf_ideal.proofs.BasisLaws.{basis_of_groebner_for}
-use Rattle.gf_ideal.proofs.ListedTerms.{variables_by_terms}
-use Rattle.gf_ideal.proofs.MarkWeights.{marked_positive, mark-there}
-use Rattle.gf_ideal.proofs.OrderWeights.{order-weights}
+use Rattle.gf_ideal_theory.specs.Membership.{AreInVariables}
+use Rattle.gf_ideal_theory.specs.Marks.{HasPositiveWeight}
+use Rattle.gf_ideal_theory.specs.MonomialOrders.{IsOfGrade}
+use Rattle.gf_ideal_theory.proofs.BasisLaws.{basis_of_groebner_for}
+use Rattle.gf_ideal_theory.proofs.ListedTerms.{variables_by_terms}
+use Rattle.gf_ideal_theory.proofs.MarkWeights.{marked_positive, mark-there}
+use Rattle.gf_ideal_theory.proofs.OrderWeights.{order-weights}
 use Rattle.gf_buchberger.specs.Bases.{IsArrangedBasis}
 use Rattle.gf_buchberger.specs.Jobs.{HaveRingVariables}
 use Rattle.gf_buchberger.proofs.JobLaws.{ring_variables}
-use Rattle.gf_facets.specs.Regions.{all_positive}
-use Rattle.gf_facets.specs.Facets.{IsFlippable}
-use Rattle.gf_facets.specs.MarkedBases.{IsBasisInRegion}
-use Rattle.gf_bases.proofs.FiniteLaws.{basis_everywhere}
+use Rattle.gf_facets_theory.specs.Regions.{all_positive}
+use Rattle.gf_facets_theory.specs.Facets.{IsFlippable}
+use Rattle.gf_facets_theory.specs.MarkedBases.{IsBasisInRegion}
+use Rattle.gf_bases_theory.proofs.FiniteLaws.{basis_everywhere}
 use Rattle.gf_cone.specs.Cones.{ConeRows, normal_at, IsConeOf}
 use Rattle.gf_cone.specs.Crossing.{IsFlipDecided}
 use Rattle.gf_lifts.specs.Crossings.{IsCrossing, IsNeighbour}

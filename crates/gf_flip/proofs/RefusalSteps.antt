@@ -1,8 +1,8 @@
 -- Refusals of a flip are operations of the flip.
 -- To cite: parts_refused, lifts_refused, tails_refused, flip_within.
 use Rattle.std.proofs.Common.{ℕ, List, ℤ, Result, Ok, Err, IfErr, arith, refl, inl, inr}
-use Rattle.gf_exponents.specs.Orders.{negated_row_of}
-use Rattle.gf_exponents.specs.SixOrders.{MonomialOrder}
+use Rattle.gf_exponents_theory.specs.Orders.{negated_row_of}
+use Rattle.gf_exponents_theory.specs.SixOrders.{MonomialOrder}
 use Rattle.gf_poly.specs.declared.error.PolyError.{PolyError}
 use Rattle.gf_poly.specs.declared.error.PolyError.TheVariants as errors
 use Rattle.gf_poly.specs.Polynomial.{Terms}
@@ -11,7 +11,7 @@ use Rattle.gf_division.specs.Autoreduction.{IsAutoreductionRefusal}
 use Rattle.gf_buchberger.specs.declared.bases.BasisError.{BasisError}
 use Rattle.gf_buchberger.specs.declared.bases.BasisError.TheVariants as basis_errors
 use Rattle.gf_buchberger.specs.Bases.{IsBasisRefusal, IsWantOfMemory, of_poly_error}
-use Rattle.gf_initial.specs.Lifts.{AreLifts}
+use Rattle.gf_initial_theory.specs.Lifts.{AreLifts}
 use Rattle.gf_lines.specs.Along.{AreAlong, IsBasisOfParts}
 use Rattle.gf_lifts.specs.LiftRefusals.{IsLiftsRefusal}
 use Rattle.gf_flip.specs.Operations.{IsFlipOperation, IsFlipExponents, IsFlipRefusal, IsFlipWithinLimits}

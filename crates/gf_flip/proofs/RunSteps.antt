@@ -2,13 +2,13 @@
 -- To cite: start_of, entering_of, ground_of, crossing_at, end_later, run_lifts, lifts_under, lifts_of, if_lifts_of, ending_of.
 use Rattle.std.specs.declared.option.Option.{Option}
 use Rattle.std.proofs.Common.{◌≡◌, ℕ, Bool, List, [], length, ℤ, Some, None, IfSome, refl, sym, subst}
-use Rattle.gf_exponents.specs.Exponents.{Exponents}
-use Rattle.gf_exponents.proofs.WholeWeightLaws.{length-losses}
+use Rattle.gf_exponents_theory.specs.Exponents.{Exponents}
+use Rattle.gf_exponents_theory.proofs.WholeWeightLaws.{length-losses}
 use Rattle.gf_order.specs.Comparisons.{HasEntries}
 use Rattle.gf_poly.specs.Polynomial.{Terms}
 use Rattle.gf_poly.specs.Marking.{MarkedPolynomial, HaveVariables}
 use Rattle.gf_buchberger.proofs.ReducedPairLaws.{variables_each}
-use Rattle.gf_initial.specs.Lifts.{AreTopLifts}
+use Rattle.gf_initial_theory.specs.Lifts.{AreTopLifts}
 use Rattle.gf_lifts.specs.declared.tops.Lifts.{Lifts}
 use Rattle.gf_lines.specs.Along.{AreSmall, IsBasisOfParts}
 use Rattle.gf_flip.specs.Chosen.{AreLiftsOfParts}

@@ -2,14 +2,14 @@
 -- To cite: normal_small, small_bounded.
 use Rattle.std.proofs.Common.{ℕ, zero, suc, ◌<◌, ◌^◌, List, [], ◌∷◌, All, ℤ, pos, ◌-ℤ◌, unsigned_abs, arith, sym, subst}
 use Rattle.std.proofs.lemmas.Int.{ints}
-use Rattle.gf_exponents.specs.Exponents.{Exponents}
+use Rattle.gf_exponents_theory.specs.Exponents.{Exponents}
 use Rattle.gf_order.specs.Weights.{AreBounded}
 use Rattle.gf_poly.specs.declared.Term.{Term}
 use Rattle.gf_poly.specs.Monomial.{IsMonomial}
 use Rattle.gf_poly.specs.Marking.{MarkedPolynomial}
-use Rattle.gf_ideal.proofs.ListLaws.{contained_each}
-use Rattle.gf_facets.specs.Rows.{differences, IsNormal}
-use Rattle.gf_facets.proofs.RowLaws.{row-from}
+use Rattle.gf_ideal_theory.proofs.ListLaws.{contained_each}
+use Rattle.gf_facets_theory.specs.Rows.{differences, IsNormal}
+use Rattle.gf_facets_theory.proofs.RowLaws.{row-from}
 use Rattle.gf_cone.proofs.SmallLaws.{primitive_small}
 use Rattle.gf_lines.specs.Along.{AreSmall}
 use Rattle.gf_flip.specs.Limits.{HasMonomialsAlone, HaveMonomialsAlone}

@@ -4,31 +4,31 @@ use Rattle.std.proofs.Common.{◌≡◌, ◌⊎◌, ℕ, ◌+◌, ◌<◌, ◌�
 use Rattle.std.proofs.lemmas.Bool.{cases_lt, false≢true}
 use Rattle.std.proofs.lemmas.List.{append-nil, map_push, get_or_append_left, get_or_push}
 use Rattle.std.proofs.lemmas.List.Elements.{Contains-append_left, Contains-push, Contains-push_cases}
-use Rattle.gf_int.proofs.ListLaws.{Contains-here}
+use Rattle.gf_int_theory.proofs.ListLaws.{Contains-here}
 use Rattle.gf_frac.specs.Fraction.{◌+ℚ◌, ◌*ℚ◌, zero_ℚ, one_ℚ}
 use Rattle.gf_frac.proofs.FractionLaws.{+ℚ-zero, one-*ℚ, zero_or_not}
-use Rattle.gf_exponents.specs.Exponents.{Exponents, same, plus, Divides, NoMultiple}
-use Rattle.gf_exponents.specs.Orders.{negated_row_of}
-use Rattle.gf_exponents.specs.SixOrders.{MonomialOrder, below_of}
-use Rattle.gf_exponents.proofs.ExponentsLaws.{same-refl, same_trans, same_flip}
+use Rattle.gf_exponents_theory.specs.Exponents.{Exponents, same, plus, Divides, NoMultiple}
+use Rattle.gf_exponents_theory.specs.Orders.{negated_row_of}
+use Rattle.gf_exponents_theory.specs.SixOrders.{MonomialOrder, below_of}
+use Rattle.gf_exponents_theory.proofs.ExponentsLaws.{same-refl, same_trans, same_flip}
 use Rattle.gf_order.specs.Comparisons.{HasEntries}
 use Rattle.gf_poly.specs.Polynomial.{Terms, coefficient, HasVariables}
 use Rattle.gf_poly.specs.Marking.{MarkedPolynomial, polys, Each}
 use Rattle.gf_poly.proofs.PolynomialLaws.{coefficient-same}
-use Rattle.gf_ideal.specs.Membership.{HasMonomial, IsMember}
-use Rattle.gf_ideal.specs.Marks.{IsMarked}
-use Rattle.gf_ideal.specs.Reduction.{IsDivisible, Reached, IsMonicForm}
-use Rattle.gf_ideal.specs.OrderTable.{AreMultipleApart}
-use Rattle.gf_ideal.specs.Settled.{IsAt}
-use Rattle.gf_ideal.specs.Bases.{AreApart, HasReducedTails, IsCanonical}
-use Rattle.gf_ideal.specs.WorkLists.{IsWorkList}
-use Rattle.gf_ideal.proofs.DividingLaws.{member_contained}
-use Rattle.gf_ideal.proofs.Identities.{one_not_zero}
-use Rattle.gf_ideal.proofs.ListLaws.{Contains-there, Contains-cases}
-use Rattle.gf_ideal.proofs.MembershipLaws.{member-generator}
-use Rattle.gf_ideal.proofs.PieceLaws.{Contains-polys}
+use Rattle.gf_ideal_theory.specs.Membership.{HasMonomial, IsMember}
+use Rattle.gf_ideal_theory.specs.Marks.{IsMarked}
+use Rattle.gf_ideal_theory.specs.Reduction.{IsDivisible, Reached, IsMonicForm}
+use Rattle.gf_ideal_theory.specs.OrderTable.{AreMultipleApart}
+use Rattle.gf_ideal_theory.specs.Settled.{IsAt}
+use Rattle.gf_ideal_theory.specs.Bases.{AreApart, HasReducedTails, IsCanonical}
+use Rattle.gf_ideal_theory.specs.WorkLists.{IsWorkList}
+use Rattle.gf_ideal_theory.proofs.DividingLaws.{member_contained}
+use Rattle.gf_ideal_theory.proofs.Identities.{one_not_zero}
+use Rattle.gf_ideal_theory.proofs.ListLaws.{Contains-there, Contains-cases}
+use Rattle.gf_ideal_theory.proofs.MembershipLaws.{member-generator}
+use Rattle.gf_ideal_theory.proofs.PieceLaws.{Contains-polys}
 use Rattle.gf_buchberger.proofs.RunSteps.{contained_old}
-use Rattle.gf_initial.proofs.ClassLaws.{multiple-grading}
+use Rattle.gf_initial_theory.proofs.ClassLaws.{multiple-grading}
 use Rattle.gf_lines.specs.Along.{HasNonzero, AreAlong}
 use Rattle.gf_lines.specs.Lines.{IsPartOf}
 use Rattle.gf_lines.specs.Splits.{IsAlone, AreSplit}

@@ -3,8 +3,8 @@
 use Rattle.std.specs.Prelude.{◌≡◌, ℕ, Bool, true, false, List, [], ◌∷◌, ◌++◌, ℤ, length, get_or}
 use Rattle.gf_poly.specs.Polynomial.{HasVariables}
 use Rattle.gf_poly.specs.Marking.{MarkedPolynomial, HaveVariables}
-use Rattle.gf_ideal.specs.Settled.{IsAt}
-use Rattle.gf_initial.specs.Lifts.{IsTopLift, AreTopLifts}
+use Rattle.gf_ideal_theory.specs.Settled.{IsAt}
+use Rattle.gf_initial_theory.specs.Lifts.{IsTopLift, AreTopLifts}
 use Rattle.gf_lines.specs.Along.{IsBasisOfParts}
 use Rattle.gf_lines.specs.Splits.{IsAlone}
 use Rattle.gf_lifts.specs.LiftTails.{IsCopy, AreCopies}

@@ -6,17 +6,17 @@ use Rattle.std.specs.Prelude.{ℕ, ◌+◌, ◌<◌, ◌≤◌, ◌^◌, List, �
 use Rattle.gf_frac.specs.Fraction.{Fraction}
 use Rattle.gf_frac.specs.Fits.{Fits}
 use Rattle.gf_frac.specs.declared.refusal.Op.{Op}
-use Rattle.gf_exponents.specs.Orders.{IsFacetBelow, negated_row_of}
-use Rattle.gf_exponents.specs.SixOrders.{MonomialOrder}
+use Rattle.gf_exponents_theory.specs.Orders.{IsFacetBelow, negated_row_of}
+use Rattle.gf_exponents_theory.specs.SixOrders.{MonomialOrder}
 use Rattle.gf_poly.specs.Polynomial.{Terms}
 use Rattle.gf_poly.specs.Marking.{MarkedPolynomial, MarkedPolynomials}
-use Rattle.gf_ideal.specs.WorkLists.{IsWorkList, IsRunOperation, IsRunExponents}
+use Rattle.gf_ideal_theory.specs.WorkLists.{IsWorkList, IsRunOperation, IsRunExponents}
 use Rattle.gf_division.specs.Autoreduction.{AreNeededForms, IsNeededOperation, IsTailOperation, IsTailExponents}
 use Rattle.gf_buchberger.specs.declared.bases.BasisError.{BasisError}
 use Rattle.gf_buchberger.specs.declared.bases.BasisError.TheVariants as errors
 use Rattle.gf_buchberger.specs.Pairs.{pairs_below}
 use Rattle.gf_buchberger.specs.Bases.{IsBudgetSpent}
-use Rattle.gf_initial.specs.Lifts.{AreLifts}
+use Rattle.gf_initial_theory.specs.Lifts.{AreLifts}
 use Rattle.gf_lines.specs.Along.{AreAlong, IsBasisOfParts}
 use Rattle.gf_lifts.specs.LiftRefusals.{IsLiftsOperation, IsLiftsExponents}
 

@@ -2,9 +2,9 @@
 use Rattle.std.specs.Prelude.{List}
 use Rattle.gf_poly.specs.Polynomial.{Terms}
 use Rattle.gf_poly.specs.Marking.{MarkedPolynomials}
-use Rattle.gf_ideal.specs.Membership.{AreInVariables}
-use Rattle.gf_facets.specs.Regions.{all_positive}
-use Rattle.gf_facets.specs.MarkedBases.{IsBasisInRegion}
+use Rattle.gf_ideal_theory.specs.Membership.{AreInVariables}
+use Rattle.gf_facets_theory.specs.Regions.{all_positive}
+use Rattle.gf_facets_theory.specs.MarkedBases.{IsBasisInRegion}
 
 -- s is a marked reduced basis of the ideal of fs in its variables, for some positive weight
 pub record IsReachedByFlips (fs : List Terms) (s : MarkedPolynomials) : Type 0 where

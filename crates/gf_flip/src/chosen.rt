@@ -8,7 +8,7 @@ ghost use Rattle.gf_lifts.specs.LiftTails.{AreCopies};
 ghost use Rattle.gf_lines.specs.Lines.{AreLinesOf, IsGround, IsLineAlong, IsLineOf, line_member, line_members};
 ghost use Rattle.gf_lines.specs.Monomials.{IsAddedWhere, chosen, with_monomials};
 ghost use Rattle.gf_lines.specs.Splits.{IsAloneAt};
-ghost use Rattle.gf_initial.specs.Lifts.{AreTopLifts, IsTopLift};
+ghost use Rattle.gf_initial_theory.specs.Lifts.{AreTopLifts, IsTopLift};
 ghost use Rattle.gf_poly.specs.Marking.{HaveVariables};
 ghost use Rattle.gf_poly.specs.Polynomial.{HasVariables, SamePolynomial};
 ghost use Rattle.std.specs.Prelude.{IfSome, [], get_or, length, pos, true, ℕ, ◌<◌, ◌≡◌, ◌≢◌};

@@ -1,6 +1,6 @@
 //! Crossing a facet: the marked reduced Gröbner basis on the other side.
 //!
-//! Start at `flip`. What neighbours are, and why there is one at most, stands in `gf_facets` and `gf_initial`.
+//! Start at `flip`. What neighbours are, and why there is one at most, stands in `gf_facets_theory` and `gf_initial_theory`.
 #![tactic(auto)]
 
 mod chosen;

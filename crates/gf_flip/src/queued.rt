@@ -5,11 +5,11 @@ ghost use Rattle.std.specs.Prelude.{◌≡◌, ◌≢◌, ◌<◌, pos, false, t
 ghost use Rattle.gf_frac.specs.Fraction.{one_ℚ};
 ghost use Rattle.gf_poly.specs.Marking.{HaveVariables};
 ghost use Rattle.gf_poly.specs.Polynomial.{coefficient, HasVariables};
-ghost use Rattle.gf_ideal.specs.Reduction.{HasOneMonomial};
+ghost use Rattle.gf_ideal_theory.specs.Reduction.{HasOneMonomial};
 ghost use Rattle.gf_division.specs.NormalForms.{HasSomeWeight};
 ghost use Rattle.gf_buchberger.specs.Bases.{IsArrangedBasis, IsBasisRefusal};
 ghost use Rattle.gf_buchberger.specs.Jobs.{IsBasisJob};
-ghost use Rattle.gf_initial.specs.Lifts.{IsTopLift, AreTopLifts};
+ghost use Rattle.gf_initial_theory.specs.Lifts.{IsTopLift, AreTopLifts};
 ghost use Rattle.gf_lines.specs.Along.{HasNonzero, AreSmall};
 ghost use Rattle.gf_lines.specs.Members.{AreMonic};
 ghost use Rattle.gf_lifts.specs.Tops.{IsMarkedAt};

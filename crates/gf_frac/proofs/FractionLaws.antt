@@ -7,8 +7,8 @@ use Rattle.std.proofs.Common.{◌≡◌, ℕ, zero, suc, ◌+◌, ◌-◌, ◌*�
 use Rattle.std.proofs.Math.Nat.{mul-pos}
 use Rattle.std.proofs.lemmas.Int.{ints}
 use lib.IntN.{neg_ℤ}
-use Rattle.gf_int.specs.Gcd.{gcd}
-use Rattle.gf_int.specs.Integers.{diff, each, diffs, diff-is, diff-eq, naturals, swap_middle}
+use Rattle.gf_int_theory.specs.Gcd.{gcd}
+use Rattle.gf_int_theory.specs.Integers.{diff, each, diffs, diff-is, diff-eq, naturals, swap_middle}
 use borrow.Author.Differences.{up, down}
 use Rattle.std.specs.Bool.{Decides}
 use Rattle.std.proofs.lemmas.Bool.Decides.{Decides-int_eq, Decides-eqb, Decides-and}

@@ -9,7 +9,7 @@ use Rattle.std.proofs.lemmas.Nat.Gcd.{dvd_trans, dvd_refl, IsGcd-swap}
 use Rattle.std.proofs.Math.Nat.{one-dvd, dvd-add, dvd-add_iff_left, dvd-mul_left, mul-div_cancel', mul_comm}
 use Rattle.std.proofs.lemmas.Bool.{cases_lt}
 use Rattle.std.proofs.Math.IntN.{+ℤ_comm}
-use Rattle.gf_int.specs.Gcd.{gcd, gcd-is, gcd-same, gcd-positive, coprime-dvd, lowest-quotients}
+use Rattle.gf_int_theory.specs.Gcd.{gcd, gcd-is, gcd-same, gcd-positive, coprime-dvd, lowest-quotients}
 use Rattle.gf_frac.specs.Fraction.{abs-div}
 use Rattle.gf_frac.specs.Fits.{sum_numerator, sum_denominator, product_numerator, product_denominator}
 

@@ -6,13 +6,13 @@ use Rattle.std.proofs.lemmas.Int.{to_z-of_z}
 use Rattle.std.proofs.lemmas.Nat.Gcd.{IsGcd-swap, dvd_refl}
 use Rattle.std.proofs.Math.Nat.{one-dvd}
 use lib.IntN.{neg_ℤ}
-use Rattle.gf_int.specs.Gcd.{gcd, gcd-is, gcd-same}
-use Rattle.gf_int.specs.Range.{InRange}
+use Rattle.gf_int_theory.specs.Gcd.{gcd, gcd-is, gcd-same}
+use Rattle.gf_int_theory.specs.Range.{InRange}
 use Rattle.gf_frac.specs.Fraction.{Fraction, over, over-parts, neg_ℚ, signed_as, reciprocal_ℚ, zero_ℚ}
 use Rattle.gf_frac.specs.Fields.{IsLowest, parts_back}
 use Rattle.gf_frac.specs.Fits.{IsReduced}
 use Rattle.gf_frac.proofs.FractionLaws.{zero_by_num}
-use Rattle.gf_int.proofs.ContentLaws.{quotient-smaller}
+use Rattle.gf_int_theory.proofs.ContentLaws.{quotient-smaller}
 
 -- ---- a fraction's own numbers
 

@@ -5,15 +5,15 @@ use Rattle.std.proofs.Math.Nat.{mul-div_cancel', mul-pos}
 use Rattle.std.specs.Int.{IsGcd}
 use Rattle.std.proofs.lemmas.Int.{ints}
 use Rattle.std.proofs.lemmas.Nat.Gcd.{le_of_dvd}
-use Rattle.gf_int.specs.Gcd.{gcd, gcd-is, gcd-positive}
-use Rattle.gf_int.specs.Range.{InRange}
-use Rattle.gf_int.specs.Integers.{each, naturals, diff-eq}
+use Rattle.gf_int_theory.specs.Gcd.{gcd, gcd-is, gcd-positive}
+use Rattle.gf_int_theory.specs.Range.{InRange}
+use Rattle.gf_int_theory.specs.Integers.{each, naturals, diff-eq}
 use Rattle.gf_frac.specs.Fraction.{Fraction, over, over-eq, ◌+ℚ◌, ◌*ℚ◌, div-times}
 use Rattle.gf_frac.specs.Fields.{IsLowest}
 use Rattle.gf_frac.proofs.PartsLaws.{IsLowest-whole}
 use Rattle.gf_frac.proofs.LowestLaws.{lowest_product, sum_common}
 use Rattle.gf_frac.specs.Fits.{FitsAdd, FitsMul, FitsSum, FitsProduct, IsReduced, IsSum, IsSumWorking, sum_numerator, sum_denominator, IsProduct, product_numerator, product_denominator}
-use Rattle.gf_int.proofs.ContentLaws.{gcd-by_one}
+use Rattle.gf_int_theory.proofs.ContentLaws.{gcd-by_one}
 
 factor_positive : (g x y : ℕ) → g * x ≡ y → 0 < y → 0 < x
 factor_positive g zero y e h = absurd (omega arith)

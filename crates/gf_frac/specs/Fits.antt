@@ -2,8 +2,8 @@
 -- The range is from -(2^127 - 1) to 2^127 - 1. An operation is refused exactly where one of these numbers is outside.
 use Rattle.std.specs.Prelude.{◌≡◌, ℕ, ◌-◌, ◌*◌, ◌/◌, ◌<◌, ◌^◌, ℤ, pos, ◌+ℤ◌, ◌*ℤ◌}
 use Rattle.std.specs.Int.RustNames.{unsigned_abs, int_div}
-use Rattle.gf_int.specs.Gcd.{gcd}
-use Rattle.gf_int.specs.Range.{InRange}
+use Rattle.gf_int_theory.specs.Gcd.{gcd}
+use Rattle.gf_int_theory.specs.Range.{InRange}
 use Rattle.gf_frac.specs.Fraction.{Fraction, over, neg_ℚ, reciprocal_ℚ}
 use Rattle.gf_frac.specs.Fields.{IsLowest}
 use Rattle.gf_frac.specs.declared.refusal.Op.{Op}

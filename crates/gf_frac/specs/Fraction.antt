@@ -11,8 +11,8 @@ use lib.IntN.{neg_ℤ}
 use mathlib.Core.HLevel.{is_prop→PathP}
 use mathlib.Core.Logic.{∥∥₁_prop}
 use native.Mathlib.Bridge.{le_prop}
-use Rattle.gf_int.specs.Gcd.{gcd, gcd-is, gcd-positive, lowest-quotients, lowest-denominator}
-use Rattle.gf_int.specs.Integers.{each, diffs, diff-eq, cancel_factor, *ℤ_assoc, swap_middle}
+use Rattle.gf_int_theory.specs.Gcd.{gcd, gcd-is, gcd-positive, lowest-quotients, lowest-denominator}
+use Rattle.gf_int_theory.specs.Integers.{each, diffs, diff-eq, cancel_factor, *ℤ_assoc, swap_middle}
 
 -- the fraction num/den in lowest terms
 pub record Fraction : Type 0 where

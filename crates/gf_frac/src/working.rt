@@ -2,8 +2,8 @@
 
 ghost use Rattle.std.specs.Prelude.{◌≡◌, ◌*◌, ◌/◌, ◌<◌, ◌≤◌, ◌^◌, pos, ◌+ℤ◌, ◌*ℤ◌, neg_ℤ, MatchOption};
 ghost use Rattle.std.specs.Int.RustNames.{int_div, unsigned_abs};
-ghost use Rattle.gf_int.specs.Range.{InRange};
-ghost use Rattle.gf_int.specs.Gcd.{gcd as greatest_common};
+ghost use Rattle.gf_int_theory.specs.Range.{InRange};
+ghost use Rattle.gf_int_theory.specs.Gcd.{gcd as greatest_common};
 ghost use Rattle.gf_frac.specs.Fraction.{signed_as};
 ghost use Rattle.gf_frac.specs.Fields.{IsLowest};
 ghost use Rattle.gf_frac.specs.Fits.{FitsSum, IsSum, IsSumWorking, FitsProduct, IsProduct, IsReduced};

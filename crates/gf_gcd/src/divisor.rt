@@ -2,7 +2,7 @@
 
 ghost use Rattle.std.specs.Prelude.{◌≡◌, ◌≤◌, ◌<◌, ◌%◌, max};
 ghost use Rattle.std.specs.Int.{IsGcd};
-ghost use Rattle.gf_int.specs.Gcd.{gcd as greatest_common};
+ghost use Rattle.gf_int_theory.specs.Gcd.{gcd as greatest_common};
 
 /// The greatest common divisor of `a` and `b`, by Euclid's algorithm; of 0 and 0 it is 0.
 ///

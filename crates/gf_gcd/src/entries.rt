@@ -1,8 +1,8 @@
 //! The content of a slice of whole numbers.
 
 ghost use Rattle.std.specs.Prelude.{◌<◌, ◌^◌, All};
-ghost use Rattle.gf_int.specs.Range.{InRange};
-ghost use Rattle.gf_int.specs.Content.{IsContent, IsGcdOfAll};
+ghost use Rattle.gf_int_theory.specs.Range.{InRange};
+ghost use Rattle.gf_int_theory.specs.Content.{IsContent, IsGcdOfAll};
 
 use super::divisor::gcd;
 

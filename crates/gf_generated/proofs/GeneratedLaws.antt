@@ -6,18 +6,18 @@ use Rattle.std.specs.declared.cmp.Ordering.TheVariants.{Less, Equal, Greater}
 use Rattle.std.proofs.Common.{arith, refl, sym, ap, ◌∙◌}
 use Rattle.gf_frac.specs.Fraction.{◌+ℚ◌, neg_ℚ, zero_ℚ, one_ℚ}
 use Rattle.gf_frac.proofs.FractionLaws.{+ℚ-zero, +ℚ-neg_ℚ, +ℚ_comm}
-use Rattle.gf_exponents.specs.Exponents.{Exponents, entry, same}
-use Rattle.gf_exponents.specs.Orders.{deglex}
+use Rattle.gf_exponents_theory.specs.Exponents.{Exponents, entry, same}
+use Rattle.gf_exponents_theory.specs.Orders.{deglex}
 use Rattle.gf_poly.specs.declared.Term.{Term}
 use Rattle.gf_poly.specs.Monomial.{IsMonomial}
 use Rattle.gf_poly.specs.Polynomial.{coefficient, HasVariables, IsDescending}
 use Rattle.gf_poly.specs.Marking.{Each}
 use Rattle.gf_poly.proofs.DescendingLaws.{less_greater, equal_same}
 use Rattle.gf_poly.proofs.MonomialLaws.{limit_by_entries}
-use Rattle.gf_ideal.proofs.Identities.{one_not_zero}
-use Rattle.gf_ideal.proofs.ListLaws.{contained_each}
-use Rattle.gf_binomials.specs.Binomials.{indicator, IsBinomial}
-use Rattle.gf_binomials.proofs.MonomialLaws.{neg-zero}
+use Rattle.gf_ideal_theory.proofs.Identities.{one_not_zero}
+use Rattle.gf_ideal_theory.proofs.ListLaws.{contained_each}
+use Rattle.gf_binomials_theory.specs.Binomials.{indicator, IsBinomial}
+use Rattle.gf_binomials_theory.proofs.MonomialLaws.{neg-zero}
 use Rattle.gf_generated.specs.Generated.{next, number_after, rest_by_three, in_order, difference, generated_set}
 use Rattle.gf_generated.specs.Laws.{GeneratorsAreBinomials}
 

@@ -1,7 +1,7 @@
 -- The theorems on these generators that functions of this crate name.
 use Rattle.std.specs.Prelude.{◌≡◌, ◌≢◌, ℕ, [], ◌∷◌, Contains}
 use Rattle.gf_poly.specs.Polynomial.{Terms, HasVariables}
-use Rattle.gf_binomials.specs.Binomials.{AreBinomials}
+use Rattle.gf_binomials_theory.specs.Binomials.{AreBinomials}
 use Rattle.gf_generated.specs.Generated.{difference, generated_set}
 
 -- each is a difference of two monomials in four variables, without coefficients, and isn't zero; for 0 they are a - b, b - c and c - d, and for 1

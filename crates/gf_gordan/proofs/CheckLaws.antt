@@ -4,7 +4,7 @@ use Rattle.std.specs.List.{AllByRecursion}
 use Rattle.std.proofs.lemmas.Int.{ints}
 use Rattle.std.proofs.lemmas.List.{take_more, drop_more, drop_all, length-take, get_or_at, set_at}
 use Rattle.std.proofs.lemmas.List.Elements.{recursion_from_All, All-from_recursion, All-drop}
-use Rattle.gf_int.specs.Content.{IsContent, scaled}
+use Rattle.gf_int_theory.specs.Content.{IsContent, scaled}
 use Rattle.gf_vec.specs.Vector.{vector_sum, zeros, combined, SomePositive}
 use Rattle.gf_vec.proofs.VectorLaws.{length-times, length-plus, length-combined, plus_assoc, zeros-plus, plus-zeros, zero-times}
 use Rattle.gf_gordan.specs.Alternative.{AreRows, IsFarkas}

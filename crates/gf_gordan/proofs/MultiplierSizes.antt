@@ -3,7 +3,7 @@ use Rattle.std.proofs.Common.{◌≡◌, ℕ, zero, suc, ◌+◌, ◌*◌, ◌�
 use Rattle.std.specs.Int.{int_signum}
 use Rattle.std.specs.List.{AllByRecursion}
 use Rattle.std.proofs.Math.Nat.{mul-le-mul_right}
-use Rattle.gf_int.specs.Content.{scaled}
+use Rattle.gf_int_theory.specs.Content.{scaled}
 use Rattle.gf_vec.specs.Vector.{dot, zeros, entry_at}
 use Rattle.gf_gordan.specs.Elimination.{IsPivot, size_at, IsSystemBy, column, times_taken, IsCarried}
 use Rattle.gf_gordan.specs.Elimination as elimination

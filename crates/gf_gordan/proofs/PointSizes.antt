@@ -1,7 +1,7 @@
 -- How large the entries of the recursion's points are.
 use Rattle.std.proofs.Common.{◌≡◌, ℕ, zero, suc, ◌+◌, ◌*◌, ◌≤◌, List, [], ◌∷◌, ◌++◌, length, ℤ, ◌*ℤ◌, neg_ℤ, arith, sym, ◌∙◌, subst, unsigned_abs, remove}
 use Rattle.std.specs.Int.{int_signum}
-use Rattle.gf_int.specs.Content.{scaled}
+use Rattle.gf_int_theory.specs.Content.{scaled}
 use Rattle.gf_vec.specs.Vector.{dot, entry_at}
 use Rattle.gf_gordan.specs.Elimination.{IsPivot, size_at, lifted, greatest_value, push_factor, IsPushed}
 use Rattle.gf_gordan.specs.Recursion.{IsPoint, nothing, kept, pushed}
@@ -11,7 +11,7 @@ use Rattle.gf_gordan.proofs.PointLaws.{all_snoc, length-remove_lem}
 use Rattle.gf_gordan.proofs.MultiplierLaws.{all_front}
 use Rattle.gf_gordan.proofs.SizeLaws.{UpTo, up_weaker, up_zeros, up_times, up_sum, up_remove, up_insert, up_divided, neg_up, product_up, signum_up, dot_up}
 use Rattle.gf_gordan.proofs.ReducedSizes.{below_bound, size_up, Sized, Sized-below}
-use Rattle.gf_int.proofs.ListLaws.{all_join, all_back}
+use Rattle.gf_int_theory.proofs.ListLaws.{all_join, all_back}
 
 -- what bounds a lifted point, where the point has n entries of at most q
 abbrev pub lift_bound : ℕ → ℕ → ℕ → ℕ

@@ -5,14 +5,14 @@ use Rattle.std.specs.List.{AllByRecursion}
 use Rattle.std.proofs.lemmas.Int.{ints}
 use Rattle.std.proofs.lemmas.Nat.Gcd.{dvd-zero, le_of_dvd}
 use Rattle.std.proofs.Math.Nat.{eq-zero_of_zero-dvd, mul-le-mul, dvd-mul_right}
-use Rattle.gf_int.specs.Content.{scaled, DividesAll, AllZero, IsContent, IsPrimitive}
+use Rattle.gf_int_theory.specs.Content.{scaled, DividesAll, AllZero, IsContent, IsPrimitive}
 use Rattle.gf_vec.specs.Vector.{entry_at}
 use Rattle.gf_vec.specs.Primitive.{IsDivided}
 use Rattle.gf_vec.proofs.PrimitiveLaws.{primitive_of}
 use Rattle.gf_gordan.specs.Elimination.{IsPivot, size_at, signed_at, reduced_by, IsSystemBy, column}
 use Rattle.gf_gordan.proofs.PointLaws.{HaveWidth, HaveWidth-below}
 use Rattle.gf_gordan.proofs.SizeLaws.{UpTo, up_none, up_cons, up_times, up_sum, up_remove, up_divided, neg_up, product_up, signum_up}
-use Rattle.gf_int.proofs.SignLaws.{abs_positive}
+use Rattle.gf_int_theory.proofs.SignLaws.{abs_positive}
 
 -- what bounds the entries before the division
 abbrev pub twice : ℕ → ℕ

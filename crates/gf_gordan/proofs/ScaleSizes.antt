@@ -4,8 +4,8 @@ use Rattle.std.specs.List.{AllByRecursion}
 use Rattle.std.proofs.lemmas.Int.{ints}
 use Rattle.std.proofs.Math.IntN.{zero-*ℤ, *ℤ-zero}
 use Rattle.std.proofs.Math.Nat.{mul-le-mul, mul-le-mul_left, mul-le-mul_right, div-le_of_le-mul}
-use Rattle.gf_int.specs.Content.{scaled}
-use Rattle.gf_int.proofs.ContentLaws.{quotient-smaller}
+use Rattle.gf_int_theory.specs.Content.{scaled}
+use Rattle.gf_int_theory.proofs.ContentLaws.{quotient-smaller}
 use Rattle.gf_vec.specs.Vector.{dot, zeros, entry_at}
 use Rattle.gf_gordan.specs.Elimination.{scale_part, scale_from, taken_by}
 use Rattle.gf_gordan.proofs.SizeLaws.{UpTo, up_none, up_cons, up_tail, sum_up, product_up}

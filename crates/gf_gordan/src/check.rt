@@ -1,6 +1,6 @@
 //! Candidates judged by exact arithmetic: whether a vector is a solution, and whether multipliers refute.
 ghost use Rattle.std.specs.Prelude.{◌≡◌, ◌↔◌, pos, All, IfOk, IfErr, OnOk, IsTrue, length, ◌<ℤ◌, ◌≤ℤ◌, ◌++◌};
-ghost use Rattle.gf_int.specs.Content.{IsContent, scaled};
+ghost use Rattle.gf_int_theory.specs.Content.{IsContent, scaled};
 ghost use Rattle.gf_vec.specs.Vector.{dot, vector_sum, zeros, combined};
 ghost use Rattle.gf_vec.specs.Steps.{IsWide, IfWide};
 ghost use Rattle.gf_gordan.specs.Alternative.{AreRows, IsSolution, IsFarkas};

@@ -5,7 +5,7 @@
 //! finite pivoting rules for the simplex method, 1977).
 
 ghost use Rattle.std.specs.Prelude.{All, IsFalse};
-ghost use Rattle.gf_int.specs.Range.{InRange};
+ghost use Rattle.gf_int_theory.specs.Range.{InRange};
 
 use crate::found::Found;
 use crate::table::{Column, Table};

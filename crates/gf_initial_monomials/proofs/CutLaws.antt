@@ -2,8 +2,8 @@
 use Rattle.std.specs.Prelude.{IfOk, Result, Ok, Err}
 use Rattle.std.proofs.Common.{◌≡◌, ℕ, List, ◌++◌, ℤ, ◌∙◌, sym, subst}
 use Rattle.gf_gordan.specs.declared.error.GordanError.{GordanError}
-use Rattle.gf_duality.specs.Rays.{IsRays}
-use Rattle.gf_duality.specs.Faces.{Rows}
+use Rattle.gf_duality_theory.specs.Rays.{IsRays}
+use Rattle.gf_duality_theory.specs.Faces.{Rows}
 use Rattle.gf_rays.specs.Cones.{RowsAndRays}
 use Rattle.gf_initial_monomials.specs.Outcomes.{IsCutBy}
 

@@ -11,14 +11,14 @@ use Rattle.gf_vec.specs.declared.error.VecError.TheVariants as vectors
 use Rattle.gf_gordan.specs.Steps.{Failed}
 use Rattle.gf_gordan.specs.declared.error.GordanError.{GordanError}
 use Rattle.gf_gordan.specs.declared.error.GordanError.TheVariants as cones
-use Rattle.gf_duality.specs.Faces.{Rows}
-use Rattle.gf_fans.specs.FaceLists.{numbered}
+use Rattle.gf_duality_theory.specs.Faces.{Rows}
+use Rattle.gf_fans_theory.specs.FaceLists.{numbered}
 use Rattle.gf_rays.specs.Cones.{RowsAndRays}
 use Rattle.gf_rays.specs.Faces.{AreFaces, IsPartBy}
 use Rattle.gf_rays.specs.Reached.{IsRaysStep}
 use Rattle.gf_rays.specs.Sums.{adding_steps}
 use Rattle.gf_rays.specs.declared.faces.Face.{Face}
-use Rattle.gf_saturation.specs.Saturations.{HasOneTermMember}
+use Rattle.gf_saturation_theory.specs.Saturations.{HasOneTermMember}
 use Rattle.gf_initial_monomials.specs.declared.error.InitialError.{InitialError}
 use Rattle.gf_initial_monomials.specs.declared.error.InitialError.TheVariants.{Cone, Wide, Entry, Saturation, Memory}
 use Rattle.gf_initial_monomials.specs.Outcomes.{AreFormsAt, HasMonomialAt, HasNoMonomialAt, TellsMonomial, PassesAt, FailsAt, vector_of}

@@ -1,13 +1,13 @@
 -- Initial forms of the members of a basis, one member further. To cite: forms_none, forms_more, forms_all, ring_none, ring_more.
 use Rattle.std.proofs.Common.{◌≡◌, ◌⊎◌, ℕ, ◌+◌, ◌<◌, ◌≤◌, List, [], ◌∷◌, ◌++◌, ℤ, Contains, length, take, get_or, arith, refl, sym, ap, ◌∙◌, subst, inl, inr}
 use Rattle.std.proofs.lemmas.List.{take_more, take_all}
-use Rattle.gf_int.proofs.ListLaws.{Contains-last}
+use Rattle.gf_int_theory.proofs.ListLaws.{Contains-last}
 use Rattle.gf_poly.specs.Polynomial.{Terms, HasVariables}
 use Rattle.gf_poly.specs.Marking.{MarkedPolynomial, polys}
 use Rattle.gf_poly.specs.InitialForms.{IsInitialForm}
 use Rattle.gf_buchberger.specs.Jobs.{HaveRingVariables}
-use Rattle.gf_initial.specs.Parts.{Matching, IsInitialPart}
-use Rattle.gf_initial.proofs.MatchingLaws.{matched-push}
+use Rattle.gf_initial_theory.specs.Parts.{Matching, IsInitialPart}
+use Rattle.gf_initial_theory.proofs.MatchingLaws.{matched-push}
 use Rattle.gf_initial_monomials.specs.Outcomes.{AreFormsAt}
 
 polys_last : (ps : List MarkedPolynomial) (p : MarkedPolynomial) → polys (ps ++ p ∷ []) ≡ polys ps ++ p.poly ∷ []

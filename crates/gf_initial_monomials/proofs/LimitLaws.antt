@@ -8,7 +8,7 @@ use Rattle.gf_vec.specs.Steps.{NoneWide, IsFirstWide, FitsRange, IsWide}
 use Rattle.gf_order.specs.Weights.{AreBounded}
 use Rattle.gf_saturate.specs.Saturating.{AreStepsWithinLimits}
 use Rattle.gf_saturate.proofs.StageLaws.{if_memory}
-use Rattle.gf_duality.specs.Faces.{Rows}
+use Rattle.gf_duality_theory.specs.Faces.{Rows}
 use Rattle.gf_rays.specs.Cones.{RowsAndRays}
 use Rattle.gf_rays.specs.declared.faces.Face.{Face}
 use Rattle.gf_initial_monomials.specs.declared.error.InitialError.{InitialError}

@@ -1,7 +1,7 @@
 -- A list that is gone through until something fails. To cite: AllPass, pass_none, pass_more, pass_all, reached.
 use Rattle.std.proofs.Common.{◌≡◌, ◌⊎◌, ℕ, ◌+◌, ◌<◌, ◌≤◌, List, [], ◌∷◌, ◌++◌, Contains, length, take, get_or, arith, sym, ap, ◌∙◌, subst, inl, inr}
 use Rattle.std.proofs.lemmas.List.{take_more, take_all}
-use Rattle.gf_int.proofs.ListLaws.{Contains-last}
+use Rattle.gf_int_theory.proofs.ListLaws.{Contains-last}
 use Rattle.gf_initial_monomials.specs.Outcomes.{IsReached}
 
 -- the first i pass

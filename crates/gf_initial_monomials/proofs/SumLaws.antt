@@ -2,16 +2,16 @@
 use Rattle.std.proofs.Common.{◌≡◌, ℕ, zero, suc, ◌+◌, ◌<◌, ◌≤◌, List, [], ◌∷◌, ◌++◌, length, ℤ, arith, refl, sym, ap, ◌∙◌, subst, take, drop, get_or, Contains}
 use Rattle.std.proofs.lemmas.List.{take_more, take_all, get_or_default}
 use Rattle.std.proofs.lemmas.List.Elements.{All-contains}
-use Rattle.gf_int.proofs.ListLaws.{all_by}
+use Rattle.gf_int_theory.proofs.ListLaws.{all_by}
 use Rattle.gf_vec.specs.declared.error.WideVector.{WideVector}
 use Rattle.gf_vec.specs.Vector.{vector_sum, zeros}
 use Rattle.gf_vec.specs.Steps.{sum_steps, NoneWide, IsFirstWide}
 use Rattle.gf_vec.proofs.VectorLaws.{length-plus}
 use Rattle.gf_vec.proofs.VectorIdentities.{vz}
 use Rattle.gf_gordan.specs.Alternative.{AreRows}
-use Rattle.gf_duality.specs.Faces.{sum_of}
-use Rattle.gf_fans.specs.FaceLists.{numbered}
-use Rattle.gf_fans.proofs.PartNumbers.{of_number}
+use Rattle.gf_duality_theory.specs.Faces.{sum_of}
+use Rattle.gf_fans_theory.specs.FaceLists.{numbered}
+use Rattle.gf_fans_theory.proofs.PartNumbers.{of_number}
 use Rattle.gf_rays.specs.Sums.{adding_steps}
 use Rattle.gf_rays.proofs.SumLaws.{added, added_push, sum_added, none_push, first_at}
 use Rattle.gf_rays.proofs.PickedLaws.{numbered_snoc}

@@ -7,8 +7,8 @@ use Rattle.gf_vec.specs.Steps.{NoneWide}
 use Rattle.gf_order.specs.Weights.{AreBounded}
 use Rattle.gf_buchberger.specs.Bases.{IsWantOfMemory}
 use Rattle.gf_saturate.specs.Saturating.{AreStepsWithinLimits}
-use Rattle.gf_duality.specs.Faces.{Rows}
-use Rattle.gf_fans.specs.FaceLists.{numbered}
+use Rattle.gf_duality_theory.specs.Faces.{Rows}
+use Rattle.gf_fans_theory.specs.FaceLists.{numbered}
 use Rattle.gf_rays.specs.Cones.{RowsAndRays, AreRaysWithinLimits}
 use Rattle.gf_rays.specs.Faces.{AreFaces}
 use Rattle.gf_rays.specs.Sums.{adding_steps}

@@ -4,14 +4,14 @@
 use Rattle.std.specs.Prelude.{◌≡◌, ℕ, ◌++◌, ◌<◌, Bool, true, false, List, ℤ, Option, Some, None, Contains, length, take, slice_index_or}
 use Rattle.gf_poly.specs.Polynomial.{Terms}
 use Rattle.gf_poly.specs.Marking.{MarkedPolynomial, polys}
-use Rattle.gf_duality.specs.Rays.{IsRays}
-use Rattle.gf_duality.specs.Faces.{Rows, sum_of}
-use Rattle.gf_fans.specs.FaceLists.{numbered}
+use Rattle.gf_duality_theory.specs.Rays.{IsRays}
+use Rattle.gf_duality_theory.specs.Faces.{Rows, sum_of}
+use Rattle.gf_fans_theory.specs.FaceLists.{numbered}
 use Rattle.gf_rays.specs.Cones.{RowsAndRays}
 use Rattle.gf_rays.specs.Faces.{AreFaces}
 use Rattle.gf_rays.specs.declared.faces.Face.{Face}
-use Rattle.gf_initial.specs.Parts.{AreInitialParts}
-use Rattle.gf_saturation.specs.Saturations.{HasOneTermMember}
+use Rattle.gf_initial_theory.specs.Parts.{AreInitialParts}
+use Rattle.gf_saturation_theory.specs.Saturations.{HasOneTermMember}
 
 -- ---- at a vector
 

@@ -10,8 +10,8 @@ use Rattle.gf_gordan.specs.declared.error.ConeOverflow.{ConeOverflow}
 use Rattle.gf_gordan.specs.declared.error.GordanError.{GordanError}
 use Rattle.gf_gordan.specs.declared.error.GordanError.TheVariants as cones
 use Rattle.gf_saturate.specs.Saturating.{IsSaturateRefusal}
-use Rattle.gf_duality.specs.Faces.{Rows}
-use Rattle.gf_fans.specs.FaceLists.{numbered}
+use Rattle.gf_duality_theory.specs.Faces.{Rows}
+use Rattle.gf_fans_theory.specs.FaceLists.{numbered}
 use Rattle.gf_rays.specs.Cones.{RowsAndRays}
 use Rattle.gf_rays.specs.Faces.{AreFaces}
 use Rattle.gf_rays.specs.Reached.{IsRaysStep}

@@ -1,6 +1,6 @@
 //! The lists of initial forms that were tested and passed.
 ghost use Rattle.std.specs.Prelude.{◌≡◌, IsTrue};
-ghost use Rattle.gf_saturation.specs.Saturations.{HasOneTermMember};
+ghost use Rattle.gf_saturation_theory.specs.Saturations.{HasOneTermMember};
 
 use gf_poly::{Poly, Polys, Term};
 use std::alloc::{AllocError, Global};
@@ -16,7 +16,7 @@ pub struct Seen {
 
 impl Model for Seen {
     ghost use Rattle.std.specs.Prelude.{ℕ, All};
-    ghost use Rattle.gf_saturation.specs.Saturations.{HasOneTermMember};
+    ghost use Rattle.gf_saturation_theory.specs.Saturations.{HasOneTermMember};
 
     ghost Value = { ℕ };
 

@@ -2,8 +2,8 @@
 ghost use Rattle.std.specs.Prelude.{◌≡◌, ◌<◌, All, IfOk, IfErr, length};
 ghost use Rattle.gf_vec.specs.Vector.{zeros};
 ghost use Rattle.gf_vec.specs.Steps.{IsFirstWide, IfWide};
-ghost use Rattle.gf_duality.specs.Faces.{sum_of};
-ghost use Rattle.gf_fans.specs.FaceLists.{numbered};
+ghost use Rattle.gf_duality_theory.specs.Faces.{sum_of};
+ghost use Rattle.gf_fans_theory.specs.FaceLists.{numbered};
 ghost use Rattle.gf_rays.specs.Sums.{adding_steps};
 
 use gf_rays::Rays;

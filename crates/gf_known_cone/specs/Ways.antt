@@ -3,7 +3,7 @@
 use Rattle.std.specs.Prelude.{ℕ, ◌<◌, List, [], ◌∷◌, length, ℤ, Option, Some, None}
 use Rattle.gf_gordan.specs.Alternative.{IsSolution}
 use Rattle.gf_gordan.specs.declared.error.ConeOverflow.{ConeOverflow}
-use Rattle.gf_facets.specs.LexPositive.{IsNegative}
+use Rattle.gf_facets_theory.specs.LexPositive.{IsNegative}
 use Rattle.gf_cone.specs.Cones.{ConeRows, normal_at, other_rows}
 use Rattle.gf_cone.specs.Answers.{IsNormalStep}
 use Rattle.gf_cone.specs.Crossing.{IsCrossable}

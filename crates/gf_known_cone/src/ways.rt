@@ -4,7 +4,7 @@ ghost use Rattle.gf_gordan.specs.Alternative.{IsSolution};
 ghost use Rattle.gf_gordan.specs.Steps.{Failed};
 ghost use Rattle.gf_gordan.specs.Sizes.{HaveEntriesUpTo};
 ghost use Rattle.gf_gordan.specs.declared.error.GordanError.TheVariants.{Memory};
-ghost use Rattle.gf_facets.specs.LexPositive.{IsNegative};
+ghost use Rattle.gf_facets_theory.specs.LexPositive.{IsNegative};
 ghost use Rattle.gf_cone.specs.Cones.{all_rows, normal_at, other_rows};
 ghost use Rattle.gf_cone.specs.Answers.{IsNormalStep};
 ghost use Rattle.gf_known_cone.specs.Ways.{LeadsUpAt, IsLeastUp, IsWayFrom, IsWayShown, SomeUpBefore, IsStepBefore};

@@ -5,32 +5,32 @@ use Rattle.std.specs.Prelude.{◌≡◌, ℕ, zero, suc, ◌<◌, true, false, L
 use Rattle.std.proofs.Common.{arith, refl, sym, ap, ◌∙◌, subst}
 use Rattle.gf_frac.specs.Fraction.{Fraction, ◌+ℚ◌, neg_ℚ, zero_ℚ, one_ℚ}
 use Rattle.gf_frac.proofs.FractionLaws.{+ℚ_assoc, +ℚ_comm, +ℚ-neg_ℚ, zero-+ℚ}
-use Rattle.gf_exponents.specs.Exponents.{Exponents, same, plus, NoMultiple, Divides}
-use Rattle.gf_exponents.specs.Orders.{IsFacetBelow, negated_row_of}
-use Rattle.gf_exponents.proofs.ExponentsLaws.{same-refl, plus_comm}
+use Rattle.gf_exponents_theory.specs.Exponents.{Exponents, same, plus, NoMultiple, Divides}
+use Rattle.gf_exponents_theory.specs.Orders.{IsFacetBelow, negated_row_of}
+use Rattle.gf_exponents_theory.proofs.ExponentsLaws.{same-refl, plus_comm}
 use Rattle.gf_poly.specs.Polynomial.{Terms, coefficient, times}
 use Rattle.gf_poly.specs.Marking.{MarkedPolynomial, polys, MarkedPolynomials, HaveVariables}
-use Rattle.gf_ideal.specs.Membership.{AreInVariables}
-use Rattle.gf_ideal.specs.Marks.{IsMarked, IsRealisable, HasPositiveWeight}
-use Rattle.gf_ideal.specs.Reduction.{Reached, IsIrreducible}
-use Rattle.gf_ideal.specs.Settled.{IsAt}
-use Rattle.gf_ideal.specs.Bases.{IsBasis, AreApart, IsReducedBasisFor, IsTwin, AreSameBasis, AreArranged}
-use Rattle.gf_ideal.specs.WorkLists.{AreReducedTails}
-use Rattle.gf_ideal.proofs.ListLaws.{contained_each}
-use Rattle.gf_ideal.proofs.MarkWeights.{realised_of_marked}
+use Rattle.gf_ideal_theory.specs.Membership.{AreInVariables}
+use Rattle.gf_ideal_theory.specs.Marks.{IsMarked, IsRealisable, HasPositiveWeight}
+use Rattle.gf_ideal_theory.specs.Reduction.{Reached, IsIrreducible}
+use Rattle.gf_ideal_theory.specs.Settled.{IsAt}
+use Rattle.gf_ideal_theory.specs.Bases.{IsBasis, AreApart, IsReducedBasisFor, IsTwin, AreSameBasis, AreArranged}
+use Rattle.gf_ideal_theory.specs.WorkLists.{AreReducedTails}
+use Rattle.gf_ideal_theory.proofs.ListLaws.{contained_each}
+use Rattle.gf_ideal_theory.proofs.MarkWeights.{realised_of_marked}
 use Rattle.gf_division.specs.Autoreduction.{IsNeeded, AreNeededForms, IsAutoreduced}
-use Rattle.gf_facets.specs.Rows.{negated}
-use Rattle.gf_facets.specs.Beyond.{IsBeyond}
-use Rattle.gf_facets.specs.Regions.{Region}
-use Rattle.gf_facets.specs.Facets.{IsFlippable}
-use Rattle.gf_facets.specs.MarkedBases.{IsBasisInRegion}
-use Rattle.gf_facets.proofs.NormalLaws.{normal-length, normal-nonzero}
-use Rattle.gf_bases.proofs.DifferenceLaws.{difference, less_summand}
-use Rattle.gf_initial.specs.Lifts.{AreLifts, IsLifted, AreLifted, AreTopLifts}
-use Rattle.gf_initial.proofs.MatchingLaws.{matched-apart}
-use Rattle.gf_initial.proofs.LiftedLaws.{lifted_of_lift, lifted_marked, lifted_basis}
-use Rattle.gf_initial.proofs.SideLaws.{side-weak}
-use Rattle.gf_initial.proofs.FlipLaws.{ArePartFacts, part_facts, lifted_all, lifted_tops, crossed}
+use Rattle.gf_facets_theory.specs.Rows.{negated}
+use Rattle.gf_facets_theory.specs.Beyond.{IsBeyond}
+use Rattle.gf_facets_theory.specs.Regions.{Region}
+use Rattle.gf_facets_theory.specs.Facets.{IsFlippable}
+use Rattle.gf_facets_theory.specs.MarkedBases.{IsBasisInRegion}
+use Rattle.gf_facets_theory.proofs.NormalLaws.{normal-length, normal-nonzero}
+use Rattle.gf_bases_theory.proofs.DifferenceLaws.{difference, less_summand}
+use Rattle.gf_initial_theory.specs.Lifts.{AreLifts, IsLifted, AreLifted, AreTopLifts}
+use Rattle.gf_initial_theory.proofs.MatchingLaws.{matched-apart}
+use Rattle.gf_initial_theory.proofs.LiftedLaws.{lifted_of_lift, lifted_marked, lifted_basis}
+use Rattle.gf_initial_theory.proofs.SideLaws.{side-weak}
+use Rattle.gf_initial_theory.proofs.FlipLaws.{ArePartFacts, part_facts, lifted_all, lifted_tops, crossed}
 use Rattle.gf_lines.specs.Along.{HasNonzero, IsBasisOfParts}
 use Rattle.gf_lines.specs.Members.{AreMonic}
 use Rattle.gf_lifts.specs.Crossings.{IsCrossing, IsNeighbour}

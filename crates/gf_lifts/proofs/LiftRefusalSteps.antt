@@ -9,7 +9,7 @@ use Rattle.gf_poly.specs.Polynomial.{Terms, HasVariables, IsDescending}
 use Rattle.gf_poly.specs.Sums.{IsLikeCause}
 use Rattle.gf_poly.specs.Marking.{MarkedPolynomial, HasMarkedTerm}
 use Rattle.gf_poly.proofs.CoefficientLaws.{term_coefficient}
-use Rattle.gf_ideal.specs.NormalForms.{IsNormalForm}
+use Rattle.gf_ideal_theory.specs.NormalForms.{IsNormalForm}
 use Rattle.gf_division.specs.Steps.{IsReductionRefusal}
 use Rattle.gf_lifts.specs.LiftRefusals.{IsLiftOperation, IsLiftRefusal, IsLiftsRefusal}
 

@@ -5,17 +5,17 @@ use Rattle.std.proofs.lemmas.List.{take_more}
 use Rattle.gf_frac.specs.Fraction.{◌+ℚ◌, neg_ℚ, zero_ℚ, one_ℚ}
 use Rattle.gf_poly.specs.Polynomial.{Terms, coefficient, HasVariables, KeepsBothVariables}
 use Rattle.gf_poly.specs.Sums.{IsDifference}
-use Rattle.gf_exponents.specs.Exponents.{Exponents}
+use Rattle.gf_exponents_theory.specs.Exponents.{Exponents}
 use Rattle.gf_poly.specs.Marking.{MarkedPolynomial, HaveVariables, head_of, HasMarkedTerm}
 use Rattle.gf_division.proofs.StepLaws.{head_length}
-use Rattle.gf_ideal.specs.Membership.{HasMonomial}
-use Rattle.gf_ideal.specs.NormalForms.{IsNormalForm}
-use Rattle.gf_ideal.proofs.Identities.{one_not_zero}
-use Rattle.gf_ideal.proofs.NormalFormLaws.{normal_form-reached}
-use Rattle.gf_ideal.proofs.ListLaws.{Each-++}
-use Rattle.gf_initial.specs.Lifts.{IsLift, AreLifts}
-use Rattle.gf_initial.proofs.MatchingLaws.{matched-push}
-use Rattle.gf_bases.proofs.DifferenceLaws.{difference, less_zero}
+use Rattle.gf_ideal_theory.specs.Membership.{HasMonomial}
+use Rattle.gf_ideal_theory.specs.NormalForms.{IsNormalForm}
+use Rattle.gf_ideal_theory.proofs.Identities.{one_not_zero}
+use Rattle.gf_ideal_theory.proofs.NormalFormLaws.{normal_form-reached}
+use Rattle.gf_ideal_theory.proofs.ListLaws.{Each-++}
+use Rattle.gf_initial_theory.specs.Lifts.{IsLift, AreLifts}
+use Rattle.gf_initial_theory.proofs.MatchingLaws.{matched-push}
+use Rattle.gf_bases_theory.proofs.DifferenceLaws.{difference, less_zero}
 use Rattle.gf_lifts.specs.Lifting.{IsLiftable}
 
 -- ---- one

@@ -4,20 +4,20 @@
 use Rattle.std.proofs.Common.{◌≡◌, ◌⊎◌, ℕ, zero, suc, ◌+◌, ◌<◌, ◌≤◌, Bool, true, false, List, [], ◌∷◌, ◌++◌, length, take, get_or, Contains, arith, refl, sym, ap, ◌∙◌, subst, inl, inr, eqb}
 use Rattle.std.proofs.lemmas.Bool.{cases_eq, cases_lt, ne_eqb, false≢true}
 use Rattle.std.proofs.lemmas.List.{take_more, take_all, get_or_default}
-use Rattle.gf_exponents.specs.Exponents.{Exponents, same, plus, Divides}
-use Rattle.gf_exponents.proofs.ExponentsLaws.{same_of, same_along, same_trans}
+use Rattle.gf_exponents_theory.specs.Exponents.{Exponents, same, plus, Divides}
+use Rattle.gf_exponents_theory.proofs.ExponentsLaws.{same_of, same_along, same_trans}
 use Rattle.gf_poly.specs.declared.Term.{Term}
 use Rattle.gf_poly.specs.Polynomial.{Terms}
 use Rattle.gf_poly.specs.Marking.{MarkedPolynomial, Each, head_of, HasMarkedTerm}
-use Rattle.gf_ideal.specs.Settled.{IsAt}
-use Rattle.gf_ideal.specs.Bases.{HasReducedTails}
-use Rattle.gf_ideal.proofs.ListLaws.{Each-++}
-use Rattle.gf_ideal.proofs.ListedTerms.{listed}
+use Rattle.gf_ideal_theory.specs.Settled.{IsAt}
+use Rattle.gf_ideal_theory.specs.Bases.{HasReducedTails}
+use Rattle.gf_ideal_theory.proofs.ListLaws.{Each-++}
+use Rattle.gf_ideal_theory.proofs.ListedTerms.{listed}
 use Rattle.gf_division.specs.Autoreduction.{IsKeptForm}
 use Rattle.gf_division.proofs.ReducerLaws.{members_equal}
 use Rattle.gf_division.proofs.StepLaws.{head_length}
 use Rattle.gf_division.proofs.TailLaws.{head_at}
-use Rattle.gf_initial.proofs.MatchingLaws.{matched-push}
+use Rattle.gf_initial_theory.proofs.MatchingLaws.{matched-push}
 use Rattle.gf_lifts.specs.LiftTails.{IsCopy, AreCopies, AreCopiedTo, AreSparedBeside, AreUndivided, HasUndividedTail, HasUndividedTailAt}
 use Rattle.gf_lines.specs.Members.{HasReducedTail}
 

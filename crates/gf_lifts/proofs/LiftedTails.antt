@@ -5,27 +5,27 @@ use Rattle.std.proofs.lemmas.Bool.{false≢true}
 use Rattle.std.proofs.lemmas.Int.{ints}
 use Rattle.gf_frac.specs.Fraction.{◌+ℚ◌, neg_ℚ, zero_ℚ}
 use Rattle.gf_frac.proofs.FractionLaws.{zero_or_not, +ℚ-zero}
-use Rattle.gf_exponents.specs.Exponents.{Exponents, same, plus, whole_weight}
-use Rattle.gf_exponents.proofs.WholeWeightLaws.{whole_weight-same}
+use Rattle.gf_exponents_theory.specs.Exponents.{Exponents, same, plus, whole_weight}
+use Rattle.gf_exponents_theory.proofs.WholeWeightLaws.{whole_weight-same}
 use Rattle.gf_poly.specs.Polynomial.{Terms, coefficient, times}
 use Rattle.gf_poly.specs.Marking.{MarkedPolynomial}
 use Rattle.gf_poly.proofs.PolynomialLaws.{coefficient-++}
 use Rattle.gf_vec.specs.Vector.{dot}
-use Rattle.gf_ideal.specs.Membership.{HasMonomial, AreInVariables}
-use Rattle.gf_ideal.specs.Marks.{IsMarked, AreMarked}
-use Rattle.gf_ideal.specs.Reduction.{IsStep}
-use Rattle.gf_ideal.specs.Settled.{IsAt}
-use Rattle.gf_ideal.specs.Bases.{HasReducedTails}
-use Rattle.gf_ideal.proofs.Identities.{one_not_zero}
-use Rattle.gf_ideal.proofs.StepLaws.{IsClosed, IsWithin, closed_downward, multiple_within, member-reached, reached-one}
+use Rattle.gf_ideal_theory.specs.Membership.{HasMonomial, AreInVariables}
+use Rattle.gf_ideal_theory.specs.Marks.{IsMarked, AreMarked}
+use Rattle.gf_ideal_theory.specs.Reduction.{IsStep}
+use Rattle.gf_ideal_theory.specs.Settled.{IsAt}
+use Rattle.gf_ideal_theory.specs.Bases.{HasReducedTails}
+use Rattle.gf_ideal_theory.proofs.Identities.{one_not_zero}
+use Rattle.gf_ideal_theory.proofs.StepLaws.{IsClosed, IsWithin, closed_downward, multiple_within, member-reached, reached-one}
 use Rattle.gf_division.specs.Remainders.{ReachedBeside}
-use Rattle.gf_facets.specs.Beyond.{IsFurther, IsBeyond}
-use Rattle.gf_facets.proofs.VectorLaws.{three, IsNonzero}
-use Rattle.gf_facets.proofs.WholeLaws.{beyond-strict, further-weight}
-use Rattle.gf_initial.specs.Parts.{Matching}
-use Rattle.gf_initial.specs.Lifts.{IsLifted, AreLifted}
-use Rattle.gf_initial.proofs.MatchingLaws.{matched-from}
-use Rattle.gf_initial.proofs.LiftedLaws.{lifted_marked, lifted_marks}
+use Rattle.gf_facets_theory.specs.Beyond.{IsFurther, IsBeyond}
+use Rattle.gf_facets_theory.proofs.VectorLaws.{three, IsNonzero}
+use Rattle.gf_facets_theory.proofs.WholeLaws.{beyond-strict, further-weight}
+use Rattle.gf_initial_theory.specs.Parts.{Matching}
+use Rattle.gf_initial_theory.specs.Lifts.{IsLifted, AreLifted}
+use Rattle.gf_initial_theory.proofs.MatchingLaws.{matched-from}
+use Rattle.gf_initial_theory.proofs.LiftedLaws.{lifted_marked, lifted_marks}
 use Rattle.gf_lines.specs.Along.{IsBasisOfParts}
 use Rattle.gf_lifts.specs.LiftTails.{IsReducedLift, IsNextInTurn, AreTailsInTurn}
 use Rattle.gf_lifts.proofs.CrossingMath.{parts_of, AreEverLifted}

@@ -4,45 +4,45 @@
 use Rattle.std.proofs.Common.{◌≡◌, ◌⊎◌, ℕ, zero, suc, ◌+◌, ◌<◌, true, List, [], ◌∷◌, ◌++◌, length, take, get_or, Contains, ℤ, pos, ◌<ℤ◌, ◌≤ℤ◌, arith, refl, sym, ap, ◌∙◌, subst, inl, inr, Result, Ok, Err, IfOk, ◌≤◌}
 use Rattle.std.proofs.lemmas.Int.{ints}
 use Rattle.std.proofs.lemmas.List.{take_more}
-use Rattle.gf_int.proofs.ListLaws.{Contains-last}
+use Rattle.gf_int_theory.proofs.ListLaws.{Contains-last}
 use Rattle.gf_frac.specs.Fraction.{Fraction, ◌+ℚ◌, neg_ℚ, zero_ℚ, one_ℚ}
 use Rattle.gf_frac.proofs.FractionLaws.{zero_or_not, +ℚ_assoc, +ℚ_comm, +ℚ-neg_ℚ, zero-+ℚ}
-use Rattle.gf_exponents.specs.Exponents.{Exponents, same, whole_weight}
-use Rattle.gf_exponents.proofs.ExponentsLaws.{same-refl}
-use Rattle.gf_exponents.proofs.WholeWeightLaws.{whole_weight-same}
-use Rattle.gf_exponents.specs.Orders.{lighter}
+use Rattle.gf_exponents_theory.specs.Exponents.{Exponents, same, whole_weight}
+use Rattle.gf_exponents_theory.proofs.ExponentsLaws.{same-refl}
+use Rattle.gf_exponents_theory.proofs.WholeWeightLaws.{whole_weight-same}
+use Rattle.gf_exponents_theory.specs.Orders.{lighter}
 use Rattle.gf_vec.specs.Vector.{dot}
 use Rattle.gf_poly.specs.Polynomial.{Terms, coefficient, SamePolynomial, times, HasVariables, KeepsVariables, KeepsBothVariables}
 use Rattle.gf_poly.specs.Sums.{IsDifference}
 use Rattle.gf_poly.specs.Marking.{MarkedPolynomial, HaveVariables, head_of, MarkedPolynomials}
 use Rattle.gf_poly.proofs.PolynomialLaws.{coefficient-++}
-use Rattle.gf_ideal.specs.Membership.{HasMonomial, IsInVariables, AreInVariables, IsMember}
-use Rattle.gf_ideal.specs.Marks.{IsMarked, AreMarked, HasPositiveWeight, Piece, value}
-use Rattle.gf_ideal.specs.Reduction.{Reached}
-use Rattle.gf_ideal.proofs.Identities.{one_not_zero}
-use Rattle.gf_ideal.proofs.ListLaws.{Each-weaker, Each-++, each_contained}
-use Rattle.gf_ideal.proofs.MembershipLaws.{member-equal, variables-++, variables-times, variables_of_member, spans_of_member, member_of_spans}
-use Rattle.gf_ideal.proofs.SpanLaws.{Spans-equal, Spans-++}
-use Rattle.gf_ideal.proofs.PieceLaws.{spans_value}
-use Rattle.gf_ideal.proofs.StepLaws.{IsClosed, IsPieceIn, AreTaken, taken, closed_downward, variables-reached}
-use Rattle.gf_ideal.proofs.UniquenessLaws.{apart_same}
-use Rattle.gf_ideal.specs.Bases.{AreArranged}
+use Rattle.gf_ideal_theory.specs.Membership.{HasMonomial, IsInVariables, AreInVariables, IsMember}
+use Rattle.gf_ideal_theory.specs.Marks.{IsMarked, AreMarked, HasPositiveWeight, Piece, value}
+use Rattle.gf_ideal_theory.specs.Reduction.{Reached}
+use Rattle.gf_ideal_theory.proofs.Identities.{one_not_zero}
+use Rattle.gf_ideal_theory.proofs.ListLaws.{Each-weaker, Each-++, each_contained}
+use Rattle.gf_ideal_theory.proofs.MembershipLaws.{member-equal, variables-++, variables-times, variables_of_member, spans_of_member, member_of_spans}
+use Rattle.gf_ideal_theory.proofs.SpanLaws.{Spans-equal, Spans-++}
+use Rattle.gf_ideal_theory.proofs.PieceLaws.{spans_value}
+use Rattle.gf_ideal_theory.proofs.StepLaws.{IsClosed, IsPieceIn, AreTaken, taken, closed_downward, variables-reached}
+use Rattle.gf_ideal_theory.proofs.UniquenessLaws.{apart_same}
+use Rattle.gf_ideal_theory.specs.Bases.{AreArranged}
 use Rattle.gf_division.specs.Remainders.{IsRemainder}
 use Rattle.gf_division.proofs.ReducerLaws.{member_variables}
 use Rattle.gf_division.specs.Autoreduction.{IsAutoreduced, IsReducedOf}
-use Rattle.gf_facets.specs.Beyond.{IsFurther, IsBeyond}
-use Rattle.gf_facets.proofs.VectorLaws.{three, IsNonzero}
-use Rattle.gf_facets.proofs.WholeLaws.{beyond-strict, further-weight}
-use Rattle.gf_facets.proofs.RegionLaws.{beyond-positive}
-use Rattle.gf_facets.specs.Rows.{negated}
-use Rattle.gf_bases.proofs.DifferenceLaws.{difference, other_summand}
-use Rattle.gf_initial.specs.Lifts.{IsLifted}
-use Rattle.gf_initial.proofs.MatchingLaws.{matched-map, matched-from, matched-push}
-use Rattle.gf_initial.proofs.InitialLaws.{remainder_below}
-use Rattle.gf_initial.proofs.LiftLaws.{further-flat, lift-taken, part_ring}
-use Rattle.gf_initial.proofs.LiftedLaws.{lifted_marked, lifted_of_lift}
-use Rattle.gf_initial.proofs.SideLaws.{side-weak}
-use Rattle.gf_initial.proofs.FlipLaws.{ArePartFacts}
+use Rattle.gf_facets_theory.specs.Beyond.{IsFurther, IsBeyond}
+use Rattle.gf_facets_theory.proofs.VectorLaws.{three, IsNonzero}
+use Rattle.gf_facets_theory.proofs.WholeLaws.{beyond-strict, further-weight}
+use Rattle.gf_facets_theory.proofs.RegionLaws.{beyond-positive}
+use Rattle.gf_facets_theory.specs.Rows.{negated}
+use Rattle.gf_bases_theory.proofs.DifferenceLaws.{difference, other_summand}
+use Rattle.gf_initial_theory.specs.Lifts.{IsLifted}
+use Rattle.gf_initial_theory.proofs.MatchingLaws.{matched-map, matched-from, matched-push}
+use Rattle.gf_initial_theory.proofs.InitialLaws.{remainder_below}
+use Rattle.gf_initial_theory.proofs.LiftLaws.{further-flat, lift-taken, part_ring}
+use Rattle.gf_initial_theory.proofs.LiftedLaws.{lifted_marked, lifted_of_lift}
+use Rattle.gf_initial_theory.proofs.SideLaws.{side-weak}
+use Rattle.gf_initial_theory.proofs.FlipLaws.{ArePartFacts}
 use Rattle.gf_lines.specs.Along.{IsBasisOfParts}
 use Rattle.gf_lifts.specs.Crossings.{IsCrossing}
 use Rattle.gf_lifts.specs.LiftsInTurn.{IsRest, AreRests, IsLessBy, AreLiftsInTurn, IsLiftIn, AreLiftsIn, IsReducedForm}

@@ -3,19 +3,19 @@
 use Rattle.std.proofs.Common.{◌≡◌, ◌⊎◌, ℕ, zero, suc, ◌+◌, ◌<◌, ◌≤◌, Bool, false, List, [], ◌∷◌, length, get_or, set, Contains, arith, refl, sym, ap, ◌∙◌, subst, inl, inr}
 use Rattle.std.proofs.lemmas.Bool.{cases_lt, cases_eq}
 use Rattle.std.proofs.lemmas.List.{length-set}
-use Rattle.gf_exponents.specs.Exponents.{Exponents}
-use Rattle.gf_exponents.specs.Orders.{lighter}
-use Rattle.gf_exponents.proofs.ExponentsLaws.{same-refl}
-use Rattle.gf_exponents.proofs.OrderLaws.{lighter-strict}
+use Rattle.gf_exponents_theory.specs.Exponents.{Exponents}
+use Rattle.gf_exponents_theory.specs.Orders.{lighter}
+use Rattle.gf_exponents_theory.proofs.ExponentsLaws.{same-refl}
+use Rattle.gf_exponents_theory.proofs.OrderLaws.{lighter-strict}
 use Rattle.gf_poly.specs.declared.Term.{Term}
 use Rattle.gf_poly.specs.Polynomial.{HasVariables}
 use Rattle.gf_poly.specs.Marking.{MarkedPolynomial, HaveVariables}
-use Rattle.gf_ideal.specs.Marks.{IsMarked, AreMarked}
-use Rattle.gf_ideal.specs.Settled.{IsAt}
-use Rattle.gf_ideal.specs.Bases.{HasReducedTails, IsCanonical}
-use Rattle.gf_ideal.specs.WorkLists.{IsTail, IsReducedTail, AreReducedTails}
-use Rattle.gf_ideal.proofs.ListLaws.{Each-weaker, each_contained}
-use Rattle.gf_ideal.proofs.InterreductionLaws.{tail-marked}
+use Rattle.gf_ideal_theory.specs.Marks.{IsMarked, AreMarked}
+use Rattle.gf_ideal_theory.specs.Settled.{IsAt}
+use Rattle.gf_ideal_theory.specs.Bases.{HasReducedTails, IsCanonical}
+use Rattle.gf_ideal_theory.specs.WorkLists.{IsTail, IsReducedTail, AreReducedTails}
+use Rattle.gf_ideal_theory.proofs.ListLaws.{Each-weaker, each_contained}
+use Rattle.gf_ideal_theory.proofs.InterreductionLaws.{tail-marked}
 use Rattle.gf_division.specs.Autoreduction.{IsKeptForm}
 use Rattle.gf_division.specs.NormalForms.{HasSomeWeight}
 use Rattle.gf_division.proofs.ReducerLaws.{members_equal, member_contained, member_variables}

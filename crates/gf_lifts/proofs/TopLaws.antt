@@ -4,12 +4,12 @@
 use Rattle.std.specs.declared.option.Option.{Option}
 use Rattle.std.proofs.Common.{◌≡◌, ◌≢◌, ℕ, ◌+◌, ◌<◌, ◌≤◌, ◌^◌, true, Some, None, IfSome, List, [], ◌∷◌, ◌++◌, length, take, get_or, Contains, ℤ, pos, ◌+ℤ◌, ◌*ℤ◌, arith, refl, sym, ap, ◌∙◌, subst, inl, inr}
 use Rattle.std.proofs.lemmas.List.{take_more, take_all, append_assoc}
-use Rattle.gf_int.proofs.RingLaws.{dv, dn, ◌⊕◌, ◌⊗◌, same as same_number}
+use Rattle.gf_int_theory.proofs.RingLaws.{dv, dn, ◌⊕◌, ◌⊗◌, same as same_number}
 use Rattle.gf_frac.specs.Fraction.{Fraction, ◌+ℚ◌, ◌*ℚ◌, neg_ℚ, reciprocal_ℚ, zero_ℚ, one_ℚ}
 use Rattle.gf_frac.proofs.FractionLaws.{zero_or_not, +ℚ-zero, +ℚ-neg_ℚ, +ℚ_assoc, +ℚ_comm, *ℚ-one, one-*ℚ, *ℚ_assoc, reciprocal_ℚ-*ℚ, zero-*ℚ, neg_ℚ-*ℚ}
-use Rattle.gf_exponents.specs.Exponents.{Exponents, same, plus, entry, Divides}
-use Rattle.gf_exponents.specs.Orders.{lighter}
-use Rattle.gf_exponents.proofs.ExponentsLaws.{same_of, same-refl}
+use Rattle.gf_exponents_theory.specs.Exponents.{Exponents, same, plus, entry, Divides}
+use Rattle.gf_exponents_theory.specs.Orders.{lighter}
+use Rattle.gf_exponents_theory.proofs.ExponentsLaws.{same_of, same-refl}
 use Rattle.gf_poly.specs.declared.Term.{Term}
 use Rattle.gf_poly.specs.declared.TheConstants.{ROOM}
 use Rattle.gf_poly.specs.Monomial.{IsMonomial}
@@ -19,19 +19,19 @@ use Rattle.gf_poly.specs.Sums.{IsDifference}
 use Rattle.gf_poly.specs.Products.{HasProducts, IsScaled}
 use Rattle.gf_poly.proofs.CoefficientLaws.{term_coefficient}
 use Rattle.gf_division.proofs.TailLaws.{head_at}
-use Rattle.gf_ideal.proofs.StepLaws.{reached_trans}
+use Rattle.gf_ideal_theory.proofs.StepLaws.{reached_trans}
 use Rattle.gf_poly.proofs.ProductLaws.{IsScaled-products, KeepsVariables-scaled}
 use Rattle.gf_poly.proofs.MarkingLaws.{nonzero_reciprocal, head_of-times}
-use Rattle.gf_ideal.specs.Membership.{HasMonomial}
-use Rattle.gf_ideal.specs.Marks.{AreMarked}
-use Rattle.gf_ideal.specs.Measure.{work_left}
-use Rattle.gf_ideal.specs.Reduction.{IsStep, Reached, HasOneMonomial}
-use Rattle.gf_ideal.specs.Settled.{IsAt}
-use Rattle.gf_ideal.specs.OrderTable.{AreMultipleApart}
-use Rattle.gf_ideal.proofs.ListLaws.{Each-++}
-use Rattle.gf_ideal.proofs.ListedTerms.{listed, box_of_monomial}
-use Rattle.gf_ideal.proofs.MeasureLaws.{work_left-at}
-use Rattle.gf_ideal.proofs.Identities.{one_not_zero}
+use Rattle.gf_ideal_theory.specs.Membership.{HasMonomial}
+use Rattle.gf_ideal_theory.specs.Marks.{AreMarked}
+use Rattle.gf_ideal_theory.specs.Measure.{work_left}
+use Rattle.gf_ideal_theory.specs.Reduction.{IsStep, Reached, HasOneMonomial}
+use Rattle.gf_ideal_theory.specs.Settled.{IsAt}
+use Rattle.gf_ideal_theory.specs.OrderTable.{AreMultipleApart}
+use Rattle.gf_ideal_theory.proofs.ListLaws.{Each-++}
+use Rattle.gf_ideal_theory.proofs.ListedTerms.{listed, box_of_monomial}
+use Rattle.gf_ideal_theory.proofs.MeasureLaws.{work_left-at}
+use Rattle.gf_ideal_theory.proofs.Identities.{one_not_zero}
 use Rattle.gf_division.specs.Dividends.{Split, joined_terms, IsSound, IsTermInFront, PassesOne, SharesVariables, DividesFirst, TakesStep}
 use Rattle.gf_division.specs.NormalForms.{HasSomeWeight}
 use Rattle.gf_poly.proofs.PolynomialLaws.{coefficient-same, coefficient-++, coefficient-times}
@@ -40,10 +40,10 @@ use Rattle.gf_division.proofs.DividendLaws.{terms_down, first_head, first_length
 use Rattle.gf_division.proofs.ReducerLaws.{member_at, members_equal, member_contained, member_variables}
 use Rattle.gf_division.proofs.RuleLaws.{keeps_along, sound_same}
 use Rattle.gf_division.proofs.StepLaws.{head_length}
-use Rattle.gf_initial.specs.Lifts.{IsTopLift, AreTopLifts}
-use Rattle.gf_bases.proofs.DifferenceLaws.{difference, less_zero, less_summand}
-use Rattle.gf_initial.proofs.ClassLaws.{multiple-grading}
-use Rattle.gf_initial.proofs.MatchingLaws.{matched-push}
+use Rattle.gf_initial_theory.specs.Lifts.{IsTopLift, AreTopLifts}
+use Rattle.gf_bases_theory.proofs.DifferenceLaws.{difference, less_zero, less_summand}
+use Rattle.gf_initial_theory.proofs.ClassLaws.{multiple-grading}
+use Rattle.gf_initial_theory.proofs.MatchingLaws.{matched-push}
 use Rattle.gf_lines.specs.Along.{HasNonzero}
 use Rattle.gf_lifts.specs.Tops.{AreOff, IsTopRemainder, IsQuotientAt}
 use Rattle.gf_lines.specs.Splits.{IsAlone}

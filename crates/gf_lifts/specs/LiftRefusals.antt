@@ -4,13 +4,13 @@ use Rattle.std.specs.Prelude.{◌≡◌, ℕ, List, Contains}
 use Rattle.gf_frac.specs.Fraction.{Fraction}
 use Rattle.gf_frac.specs.declared.refusal.Op.{Op}
 use Rattle.gf_frac.specs.declared.refusal.Op.TheVariants.{Sub}
-use Rattle.gf_exponents.specs.Exponents.{Exponents}
+use Rattle.gf_exponents_theory.specs.Exponents.{Exponents}
 use Rattle.gf_poly.specs.declared.error.PolyError.{PolyError}
 use Rattle.gf_poly.specs.Polynomial.{Terms, coefficient}
 use Rattle.gf_poly.specs.Refusals.{IsRefusedBy}
 use Rattle.gf_poly.specs.Marking.{MarkedPolynomial}
-use Rattle.gf_ideal.specs.NormalForms.{IsNormalForm}
-use Rattle.gf_ideal.specs.Operands.{IsReductionOperation, IsReductionExponents}
+use Rattle.gf_ideal_theory.specs.NormalForms.{IsNormalForm}
+use Rattle.gf_ideal_theory.specs.Operands.{IsReductionOperation, IsReductionExponents}
 
 -- the operation is one of a reduction of h by bs, or the difference of a coefficient of h and that of its remainder at the same monomial
 pub data IsLiftOperation (bs : List MarkedPolynomial) (h : MarkedPolynomial) (op : Op) (left right : Fraction) : Type 0 where

@@ -1,13 +1,13 @@
 -- Tails of lifts, as the code reduces them in place, one lift after another: which stay as they are, and what the others
 -- become. Laws: proofs/LiftTailLaws.antt, proofs/TailsInTurn.antt, proofs/LiftedTails.antt.
 use Rattle.std.specs.Prelude.{◌≡◌, ◌⊎◌, ℕ, ◌+◌, ◌<◌, ◌≤◌, Bool, true, false, Some, List, length, set, Contains, slice_index_or}
-use Rattle.gf_exponents.specs.Exponents.{Exponents, same, Divides}
+use Rattle.gf_exponents_theory.specs.Exponents.{Exponents, same, Divides}
 use Rattle.gf_poly.specs.declared.Term.{Term}
 use Rattle.gf_poly.specs.Marking.{MarkedPolynomial, Each}
-use Rattle.gf_ideal.specs.Settled.{IsAt}
+use Rattle.gf_ideal_theory.specs.Settled.{IsAt}
 use Rattle.gf_division.specs.Autoreduction.{IsKeptForm}
 use Rattle.gf_division.specs.Remainders.{ReachedBeside}
-use Rattle.gf_initial.specs.Parts.{Matching}
+use Rattle.gf_initial_theory.specs.Parts.{Matching}
 use Rattle.gf_lines.specs.Members.{HasReducedTail}
 
 -- a lift with a flag is one of bs

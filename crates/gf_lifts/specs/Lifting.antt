@@ -3,7 +3,7 @@ use Rattle.std.specs.Prelude.{◌≡◌, List, Contains}
 use Rattle.gf_frac.specs.Fraction.{zero_ℚ, one_ℚ}
 use Rattle.gf_poly.specs.Polynomial.{Terms, coefficient}
 use Rattle.gf_poly.specs.Marking.{MarkedPolynomial}
-use Rattle.gf_ideal.specs.Reduction.{Reached, IsIrreducible}
+use Rattle.gf_ideal_theory.specs.Reduction.{Reached, IsIrreducible}
 
 -- no remainder of h has a term at its mark, where the coefficient of h is 1
 pub record IsLiftable (bs : List MarkedPolynomial) (h : MarkedPolynomial) : Type 0 where

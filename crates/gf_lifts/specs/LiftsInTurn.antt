@@ -4,12 +4,12 @@ use Rattle.std.specs.Prelude.{◌≡◌, List, [], ◌∷◌, ◌++◌, Contains
 use Rattle.gf_frac.specs.Fraction.{neg_ℚ, one_ℚ}
 use Rattle.gf_poly.specs.Polynomial.{Terms, SamePolynomial, KeepsVariables, times}
 use Rattle.gf_poly.specs.Marking.{MarkedPolynomial, MarkedPolynomials}
-use Rattle.gf_ideal.specs.Reduction.{Reached}
-use Rattle.gf_ideal.specs.Marks.{HasPositiveWeight}
-use Rattle.gf_ideal.specs.Bases.{AreArranged}
+use Rattle.gf_ideal_theory.specs.Reduction.{Reached}
+use Rattle.gf_ideal_theory.specs.Marks.{HasPositiveWeight}
+use Rattle.gf_ideal_theory.specs.Bases.{AreArranged}
 use Rattle.gf_division.specs.Remainders.{IsRemainder}
 use Rattle.gf_division.specs.Autoreduction.{IsAutoreduced, IsReducedOf}
-use Rattle.gf_initial.specs.Parts.{Matching}
+use Rattle.gf_initial_theory.specs.Parts.{Matching}
 
 -- r is a remainder of h by bs, in the variables of h
 pub record IsRest (bs : List MarkedPolynomial) (h : MarkedPolynomial) (r : Terms) : Type 0 where

@@ -1,15 +1,15 @@
 -- Lifts that end once nothing is left along the normal. Laws: proofs/TopLaws.antt.
 use Rattle.std.specs.Prelude.{◌≡◌, ℕ, List, ℤ, Contains}
 use Rattle.gf_frac.specs.Fraction.{reciprocal_ℚ}
-use Rattle.gf_exponents.specs.Exponents.{Exponents}
+use Rattle.gf_exponents_theory.specs.Exponents.{Exponents}
 use Rattle.gf_poly.specs.declared.Term.{Term}
 use Rattle.gf_poly.specs.Polynomial.{Terms, coefficient, IsDescending, KeepsVariables}
 use Rattle.gf_poly.specs.Marking.{MarkedPolynomial, Each}
 use Rattle.gf_poly.specs.Products.{IsScaled}
-use Rattle.gf_ideal.specs.Membership.{HasMonomial}
-use Rattle.gf_ideal.specs.Reduction.{Reached}
-use Rattle.gf_ideal.specs.Settled.{IsAt}
-use Rattle.gf_ideal.specs.OrderTable.{AreMultipleApart}
+use Rattle.gf_ideal_theory.specs.Membership.{HasMonomial}
+use Rattle.gf_ideal_theory.specs.Reduction.{Reached}
+use Rattle.gf_ideal_theory.specs.Settled.{IsAt}
+use Rattle.gf_ideal_theory.specs.OrderTable.{AreMultipleApart}
 
 -- no listed term is a multiple of a apart from x
 abbrev pub AreOff : List ℤ → Exponents → Terms → Type 0

@@ -3,8 +3,8 @@
 ghost use Rattle.std.specs.Prelude.{IfOk, IfErr};
 ghost use Rattle.gf_poly.specs.Marking.{HaveVariables};
 ghost use Rattle.gf_poly.specs.Polynomial.{HasVariables};
-ghost use Rattle.gf_ideal.specs.Marks.{HasPositiveWeight};
-ghost use Rattle.gf_initial.specs.Lifts.{IsLift, AreLifts};
+ghost use Rattle.gf_ideal_theory.specs.Marks.{HasPositiveWeight};
+ghost use Rattle.gf_initial_theory.specs.Lifts.{IsLift, AreLifts};
 ghost use Rattle.gf_lifts.specs.Lifting.{IsLiftable, AreLiftable};
 ghost use Rattle.gf_lifts.specs.LiftRefusals.{IsLiftRefusal, IsLiftsRefusal};
 

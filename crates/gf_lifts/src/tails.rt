@@ -4,10 +4,10 @@
 //! the numbers small.
 
 ghost use Rattle.std.specs.Prelude.{◌≡◌, ◌<◌, ◌≤◌, false, true, Some, length, Contains, IfSome, IsTrue};
-ghost use Rattle.gf_exponents.specs.Exponents.{Divides};
+ghost use Rattle.gf_exponents_theory.specs.Exponents.{Divides};
 ghost use Rattle.gf_poly.specs.Marking.{HaveVariables};
 ghost use Rattle.gf_poly.specs.Polynomial.{HasVariables};
-ghost use Rattle.gf_ideal.specs.Reduction.{IsDivisible};
+ghost use Rattle.gf_ideal_theory.specs.Reduction.{IsDivisible};
 ghost use Rattle.gf_division.specs.NormalForms.{HasSomeWeight};
 ghost use Rattle.gf_division.specs.Autoreduction.{ShareSomeVariables};
 ghost use Rattle.gf_division.specs.Reducers.{AreIrreducible};

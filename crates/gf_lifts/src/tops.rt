@@ -7,7 +7,7 @@ ghost use Rattle.gf_poly.specs.Polynomial.{coefficient, HasVariables};
 ghost use Rattle.gf_division.specs.NormalForms.{HasSomeWeight};
 ghost use Rattle.gf_division.specs.Dividends.{split_of, joined_terms, IsSound};
 ghost use Rattle.gf_division.specs.Reducers.{IsDivisorAt, IsReducibleFirst, IsSought};
-ghost use Rattle.gf_initial.specs.Lifts.{IsTopLift};
+ghost use Rattle.gf_initial_theory.specs.Lifts.{IsTopLift};
 ghost use Rattle.gf_lines.specs.Along.{AreSmall};
 ghost use Rattle.gf_lifts.specs.Tops.{AreOff, IsTopRemainder, IsQuotientAt, IsMarkedAt};
 

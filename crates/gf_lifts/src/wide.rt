@@ -5,7 +5,7 @@
 ghost use Rattle.std.specs.Prelude.{◌≡◌, ◌<◌, ◌≤◌, length, IfOk, IfSome};
 ghost use Rattle.gf_poly.specs.Marking.{HaveVariables, head_of};
 ghost use Rattle.gf_poly.specs.Polynomial.{HasVariables, KeepsVariables};
-ghost use Rattle.gf_ideal.specs.Marks.{HasPositiveWeight, IsRealisable};
+ghost use Rattle.gf_ideal_theory.specs.Marks.{HasPositiveWeight, IsRealisable};
 ghost use Rattle.gf_division.specs.NormalForms.{HasSomeWeight, HaveSameVariables};
 ghost use Rattle.gf_lines.specs.Along.{IsBasisOfParts};
 ghost use Rattle.gf_lifts.specs.Crossings.{IsCrossing, IsNeighbour};

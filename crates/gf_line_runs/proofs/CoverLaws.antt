@@ -3,24 +3,24 @@
 -- To cite: join_left, join_right, cover_all, covered_pair.
 use Rattle.std.proofs.Common.{◌≡◌, ◌⊎◌, ℕ, Bool, true, false, if◌then◌else◌, List, [], ◌∷◌, ◌++◌, Contains, refl, sym, ap, ◌∙◌, inl, inr}
 use Rattle.gf_frac.specs.Fraction.{Fraction, ◌+ℚ◌, ◌*ℚ◌, neg_ℚ, zero_ℚ, one_ℚ}
-use Rattle.gf_exponents.specs.Exponents.{Exponents, plus, minus, join, same, Divides}
-use Rattle.gf_exponents.specs.Orders.{IsStrict}
-use Rattle.gf_exponents.proofs.ExponentsLaws.{same-refl, same-sym, same_along, same_flip, same_shift, same_trans, minus_left, minus_right}
+use Rattle.gf_exponents_theory.specs.Exponents.{Exponents, plus, minus, join, same, Divides}
+use Rattle.gf_exponents_theory.specs.Orders.{IsStrict}
+use Rattle.gf_exponents_theory.proofs.ExponentsLaws.{same-refl, same-sym, same_along, same_flip, same_shift, same_trans, minus_left, minus_right}
 use Rattle.gf_poly.specs.declared.Term.{Term}
 use Rattle.gf_poly.specs.Polynomial.{Terms, coefficient, times}
 use Rattle.gf_poly.specs.Marking.{MarkedPolynomial, polys, Each}
 use Rattle.gf_poly.proofs.PolynomialLaws.{coefficient-++, coefficient-factor, SamePolynomial-times, times-plain}
-use Rattle.gf_ideal.specs.Membership.{HasMonomial, AreInVariables}
-use Rattle.gf_ideal.specs.Marks.{AreMarked, IsMarked, Piece, level, value}
-use Rattle.gf_ideal.specs.Reduction.{HasOneMonomial}
-use Rattle.gf_ideal.specs.Settled.{IsPieceBelow, IsSettledAtJoin, IsSettledPair}
-use Rattle.gf_ideal.proofs.Identities.{crossed_over, neg_one}
-use Rattle.gf_ideal.proofs.IntegerPairLaws.{pair_of_settled}
-use Rattle.gf_ideal.proofs.ListLaws.{Each-++}
-use Rattle.gf_ideal.proofs.ListedTerms.{listed}
-use Rattle.gf_ideal.proofs.PieceLaws.{coefficient-value-++, scale, value-scale, Each-scale}
-use Rattle.gf_ideal.proofs.StepLaws.{coefficient-mark}
-use Rattle.gf_ideal.proofs.TermLaws.{Canonical, canonical, canonical_terms, without, apart, nothing_there}
+use Rattle.gf_ideal_theory.specs.Membership.{HasMonomial, AreInVariables}
+use Rattle.gf_ideal_theory.specs.Marks.{AreMarked, IsMarked, Piece, level, value}
+use Rattle.gf_ideal_theory.specs.Reduction.{HasOneMonomial}
+use Rattle.gf_ideal_theory.specs.Settled.{IsPieceBelow, IsSettledAtJoin, IsSettledPair}
+use Rattle.gf_ideal_theory.proofs.Identities.{crossed_over, neg_one}
+use Rattle.gf_ideal_theory.proofs.IntegerPairLaws.{pair_of_settled}
+use Rattle.gf_ideal_theory.proofs.ListLaws.{Each-++}
+use Rattle.gf_ideal_theory.proofs.ListedTerms.{listed}
+use Rattle.gf_ideal_theory.proofs.PieceLaws.{coefficient-value-++, scale, value-scale, Each-scale}
+use Rattle.gf_ideal_theory.proofs.StepLaws.{coefficient-mark}
+use Rattle.gf_ideal_theory.proofs.TermLaws.{Canonical, canonical, canonical_terms, without, apart, nothing_there}
 use Rattle.gf_division.proofs.SubtractionLaws.{swap_last}
 use Rattle.gf_lines.specs.Forms.{HasCover}
 use Rattle.gf_line_runs.specs.Turns.{HasCoveredTail, IsPairCovered}

@@ -2,14 +2,14 @@
 -- To cite: cover_more, tail_cover_monomial, cover_chain, front_chain, front_take, chained_behind, chained_turn, read_monomial, read_members, AreSettledTo, settled_to-start, settled_to-more, settled_within, settled_turning,
 -- settled_entered, row_next, row_start, first_behind, pair_behind, behind_second, behind_size, row_second, undivided-first, undivided-rest.
 use Rattle.std.proofs.Common.{◌≡◌, ◌⊎◌, ℕ, zero, suc, ◌+◌, ◌<◌, ◌≤◌, List, [], ◌∷◌, length, take, get_or, Contains, arith, refl, sym, ap, ◌∙◌, subst, inl, inr}
-use Rattle.gf_exponents.specs.Exponents.{Exponents, join, minus, plus}
-use Rattle.gf_exponents.specs.SixOrders.{MonomialOrder}
+use Rattle.gf_exponents_theory.specs.Exponents.{Exponents, join, minus, plus}
+use Rattle.gf_exponents_theory.specs.SixOrders.{MonomialOrder}
 use Rattle.gf_poly.specs.Polynomial.{Terms}
 use Rattle.gf_poly.specs.Marking.{MarkedPolynomial, HaveVariables}
-use Rattle.gf_ideal.specs.Reduction.{HasOneMonomial, IsIrreducible}
-use Rattle.gf_ideal.specs.Settled.{IsAt}
-use Rattle.gf_int.proofs.ListLaws.{Contains-here}
-use Rattle.gf_ideal.proofs.ListLaws.{Contains-there}
+use Rattle.gf_ideal_theory.specs.Reduction.{HasOneMonomial, IsIrreducible}
+use Rattle.gf_ideal_theory.specs.Settled.{IsAt}
+use Rattle.gf_int_theory.proofs.ListLaws.{Contains-here}
+use Rattle.gf_ideal_theory.proofs.ListLaws.{Contains-there}
 use Rattle.gf_division.proofs.ReducerLaws.{member_at}
 use Rattle.gf_buchberger.proofs.ReducedPairLaws.{AreRead}
 use Rattle.gf_lines.specs.Monomials.{monomial_member, with_monomials}

@@ -7,17 +7,17 @@ use Rattle.std.specs.declared.option.Option.{Option}
 use Rattle.std.proofs.lemmas.List.{length-map, get_or-map, nil_from_length, take_more}
 use Rattle.gf_frac.specs.Fraction.{Fraction, ◌+ℚ◌, ◌*ℚ◌, neg_ℚ, zero_ℚ, one_ℚ}
 use Rattle.gf_frac.proofs.FractionLaws.{zero-+ℚ, *ℚ-one, +ℚ-neg_ℚ, +ℚ-middle}
-use Rattle.gf_exponents.specs.Exponents.{Exponents, Divides, join, minus, plus, same}
-use Rattle.gf_exponents.specs.SixOrders.{MonomialOrder}
-use Rattle.gf_exponents.proofs.ExponentsLaws.{eq_by, same-refl, minus_left, minus_right}
+use Rattle.gf_exponents_theory.specs.Exponents.{Exponents, Divides, join, minus, plus, same}
+use Rattle.gf_exponents_theory.specs.SixOrders.{MonomialOrder}
+use Rattle.gf_exponents_theory.proofs.ExponentsLaws.{eq_by, same-refl, minus_left, minus_right}
 use Rattle.gf_poly.specs.Polynomial.{Terms, coefficient, SamePolynomial, times}
 use Rattle.gf_poly.specs.Marking.{MarkedPolynomial, Each}
 use Rattle.gf_poly.proofs.MonomialLaws.{length-join, length-minus, plus-minus}
 use Rattle.gf_poly.proofs.PolynomialLaws.{coefficient-++, times-plain}
-use Rattle.gf_ideal.specs.Reduction.{HasOneMonomial, IsSPolynomial}
-use Rattle.gf_ideal.proofs.DividingLaws.{member_contained}
-use Rattle.gf_ideal.proofs.Identities.{neg_one}
-use Rattle.gf_ideal.proofs.ListLaws.{Each-++, Each-weaker}
+use Rattle.gf_ideal_theory.specs.Reduction.{HasOneMonomial, IsSPolynomial}
+use Rattle.gf_ideal_theory.proofs.DividingLaws.{member_contained}
+use Rattle.gf_ideal_theory.proofs.Identities.{neg_one}
+use Rattle.gf_ideal_theory.proofs.ListLaws.{Each-++, Each-weaker}
 use Rattle.gf_division.proofs.ReducerLaws.{member_at}
 use Rattle.gf_buchberger.proofs.ReducedPairLaws.{AreRead}
 use Rattle.gf_lines.specs.declared.lines.Point.{Point}

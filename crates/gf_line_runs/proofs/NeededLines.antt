@@ -3,12 +3,12 @@
 use Rattle.std.proofs.Common.{◌≡◌, ◌⊎◌, ℕ, ◌+◌, ◌<◌, ◌≤◌, Bool, true, false, List, [], ◌∷◌, ◌++◌, length, get_or, ℤ, arith, refl, sym, ap, ◌∙◌, subst, inl, inr}
 use Rattle.std.proofs.lemmas.Bool.{cases_lt}
 use Rattle.std.proofs.lemmas.List.{get_or_append_left, get_or_push, get_or_default}
-use Rattle.gf_exponents.specs.Exponents.{Exponents, same, Divides}
-use Rattle.gf_exponents.proofs.ExponentsLaws.{same_of}
+use Rattle.gf_exponents_theory.specs.Exponents.{Exponents, same, Divides}
+use Rattle.gf_exponents_theory.proofs.ExponentsLaws.{same_of}
 use Rattle.gf_poly.specs.Marking.{MarkedPolynomial, Each}
-use Rattle.gf_ideal.specs.Membership.{HasMonomial}
-use Rattle.gf_ideal.specs.Settled.{IsAt}
-use Rattle.gf_ideal.proofs.Identities.{one_not_zero}
+use Rattle.gf_ideal_theory.specs.Membership.{HasMonomial}
+use Rattle.gf_ideal_theory.specs.Settled.{IsAt}
+use Rattle.gf_ideal_theory.proofs.Identities.{one_not_zero}
 use Rattle.gf_division.specs.Autoreduction.{IsNeededAt}
 use Rattle.gf_division.proofs.ReducerLaws.{members_equal, member_contained}
 use Rattle.gf_lines.specs.declared.lines.Line.{Line}

@@ -5,24 +5,24 @@ use Rattle.std.proofs.lemmas.Bool.{cases_lt, cases_eq}
 use Rattle.std.proofs.lemmas.List.{drop_more, get_or_default, set-get_or, length-set, map-set, append_assoc, append-nil}
 use Rattle.gf_frac.specs.Fraction.{Fraction, ◌+ℚ◌, ◌*ℚ◌, neg_ℚ, zero_ℚ, one_ℚ}
 use Rattle.gf_frac.proofs.FractionLaws.{+ℚ_comm, zero-+ℚ, +ℚ-neg_ℚ, one-*ℚ, +ℚ-zero, zero_or_not}
-use Rattle.gf_exponents.specs.Exponents.{Exponents, same, plus, Divides}
-use Rattle.gf_exponents.specs.Orders.{lighter, IsStrict}
-use Rattle.gf_exponents.specs.SixOrders.{MonomialOrder, below_of}
-use Rattle.gf_exponents.proofs.ExponentsLaws.{same-refl, same_flip, same_trans, same_of}
-use Rattle.gf_exponents.proofs.OrderLaws.{lighter-strict}
-use Rattle.gf_exponents.proofs.SixOrdersLaws.{order-is}
+use Rattle.gf_exponents_theory.specs.Exponents.{Exponents, same, plus, Divides}
+use Rattle.gf_exponents_theory.specs.Orders.{lighter, IsStrict}
+use Rattle.gf_exponents_theory.specs.SixOrders.{MonomialOrder, below_of}
+use Rattle.gf_exponents_theory.proofs.ExponentsLaws.{same-refl, same_flip, same_trans, same_of}
+use Rattle.gf_exponents_theory.proofs.OrderLaws.{lighter-strict}
+use Rattle.gf_exponents_theory.proofs.SixOrdersLaws.{order-is}
 use Rattle.gf_poly.specs.Polynomial.{Terms, coefficient, times}
 use Rattle.gf_poly.specs.Marking.{MarkedPolynomial, Each}
 use Rattle.gf_poly.proofs.PolynomialLaws.{coefficient-same}
-use Rattle.gf_ideal.specs.Membership.{HasMonomial, AreInVariables, IsMember}
-use Rattle.gf_ideal.specs.Marks.{IsMarked, AreMarked}
-use Rattle.gf_ideal.specs.Reduction.{IsIrreducible, Reached, HasOneMonomial}
-use Rattle.gf_ideal.specs.Settled.{IsAt}
-use Rattle.gf_ideal.specs.Bases.{AreMembers, IsBasis, HasReducedTails, IsReducedBasisFor}
-use Rattle.gf_ideal.proofs.Identities.{one_not_zero, crossed_over}
-use Rattle.gf_ideal.proofs.InterreductionLaws.{basis-kept, basis-tails, reduced_by_order}
-use Rattle.gf_ideal.proofs.ListLaws.{Each-weaker, contained_each}
-use Rattle.gf_ideal.proofs.StepLaws.{IsWithin, closed-below, taken, member-reached, reached-here}
+use Rattle.gf_ideal_theory.specs.Membership.{HasMonomial, AreInVariables, IsMember}
+use Rattle.gf_ideal_theory.specs.Marks.{IsMarked, AreMarked}
+use Rattle.gf_ideal_theory.specs.Reduction.{IsIrreducible, Reached, HasOneMonomial}
+use Rattle.gf_ideal_theory.specs.Settled.{IsAt}
+use Rattle.gf_ideal_theory.specs.Bases.{AreMembers, IsBasis, HasReducedTails, IsReducedBasisFor}
+use Rattle.gf_ideal_theory.proofs.Identities.{one_not_zero, crossed_over}
+use Rattle.gf_ideal_theory.proofs.InterreductionLaws.{basis-kept, basis-tails, reduced_by_order}
+use Rattle.gf_ideal_theory.proofs.ListLaws.{Each-weaker, contained_each}
+use Rattle.gf_ideal_theory.proofs.StepLaws.{IsWithin, closed-below, taken, member-reached, reached-here}
 use Rattle.gf_division.specs.MonicForms.{IsMadeMonic}
 use Rattle.gf_division.specs.Remainders.{IsRemainder}
 use Rattle.gf_division.specs.Autoreduction.{IsNeededAt, IsNeededForm, AreNeededForms}

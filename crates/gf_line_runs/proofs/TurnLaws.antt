@@ -3,27 +3,27 @@
 use Rattle.std.proofs.Common.{◌≡◌, ◌≢◌, ◌⊎◌, ℕ, zero, suc, ◌+◌, ◌<◌, ◌≤◌, List, [], ◌∷◌, ◌++◌, length, take, Contains, arith, refl, sym, ap, ◌∙◌, subst, inl, inr}
 use Rattle.std.proofs.lemmas.Bool.{cases_lt}
 use Rattle.std.proofs.lemmas.List.{get_or_push}
-use Rattle.gf_exponents.specs.SixOrders.{MonomialOrder, below_of}
-use Rattle.gf_exponents.proofs.SixOrdersLaws.{order-is}
+use Rattle.gf_exponents_theory.specs.SixOrders.{MonomialOrder, below_of}
+use Rattle.gf_exponents_theory.proofs.SixOrdersLaws.{order-is}
 use Rattle.gf_poly.specs.Polynomial.{Terms, HasVariables, coefficient}
-use Rattle.gf_exponents.specs.Exponents.{Exponents, Divides, plus, minus, join}
-use Rattle.gf_exponents.proofs.ExponentsLaws.{same_of}
+use Rattle.gf_exponents_theory.specs.Exponents.{Exponents, Divides, plus, minus, join}
+use Rattle.gf_exponents_theory.proofs.ExponentsLaws.{same_of}
 use Rattle.gf_poly.specs.Marking.{MarkedPolynomial, polys, Each}
 use Rattle.gf_poly.proofs.MonomialLaws.{length-join, plus-minus}
-use Rattle.gf_ideal.specs.Membership.{HasMonomial, AreInVariables, IsInVariables, IsMember}
-use Rattle.gf_ideal.specs.Marks.{AreMarked}
-use Rattle.gf_ideal.specs.Reduction.{IsIrreducible, Reached, IsKept}
-use Rattle.gf_ideal.specs.Settled.{IsAt, IsSettledPair}
-use Rattle.gf_ideal.specs.WorkLists.{IsOrigin, IsWorkList}
-use Rattle.gf_ideal.proofs.CriteriaLaws.{pair_by_steps, pair_by_product, pair_by_monomials, pair_by_chain, pair_turned, pair_more}
-use Rattle.gf_ideal.proofs.GeneratorLaws.{entered-zero, entered-appended}
-use Rattle.gf_ideal.proofs.ListedTerms.{variables_by_terms}
-use Rattle.gf_ideal.proofs.MembershipLaws.{member-generator, member-trans}
-use Rattle.gf_ideal.proofs.ListLaws.{Contains-cases, Contains-there}
-use Rattle.gf_ideal.proofs.PieceLaws.{Contains-polys, Contains-marked}
-use Rattle.gf_ideal.proofs.StepLaws.{monic-monomials, reached-more}
-use Rattle.gf_ideal.proofs.WorkLaws.{run_basis, work-marked}
-use Rattle.gf_ideal.proofs.DividingLaws.{member_contained}
+use Rattle.gf_ideal_theory.specs.Membership.{HasMonomial, AreInVariables, IsInVariables, IsMember}
+use Rattle.gf_ideal_theory.specs.Marks.{AreMarked}
+use Rattle.gf_ideal_theory.specs.Reduction.{IsIrreducible, Reached, IsKept}
+use Rattle.gf_ideal_theory.specs.Settled.{IsAt, IsSettledPair}
+use Rattle.gf_ideal_theory.specs.WorkLists.{IsOrigin, IsWorkList}
+use Rattle.gf_ideal_theory.proofs.CriteriaLaws.{pair_by_steps, pair_by_product, pair_by_monomials, pair_by_chain, pair_turned, pair_more}
+use Rattle.gf_ideal_theory.proofs.GeneratorLaws.{entered-zero, entered-appended}
+use Rattle.gf_ideal_theory.proofs.ListedTerms.{variables_by_terms}
+use Rattle.gf_ideal_theory.proofs.MembershipLaws.{member-generator, member-trans}
+use Rattle.gf_ideal_theory.proofs.ListLaws.{Contains-cases, Contains-there}
+use Rattle.gf_ideal_theory.proofs.PieceLaws.{Contains-polys, Contains-marked}
+use Rattle.gf_ideal_theory.proofs.StepLaws.{monic-monomials, reached-more}
+use Rattle.gf_ideal_theory.proofs.WorkLaws.{run_basis, work-marked}
+use Rattle.gf_ideal_theory.proofs.DividingLaws.{member_contained}
 use Rattle.gf_buchberger.specs.Runs.{MembersHaveVariables}
 use Rattle.gf_buchberger.proofs.BasesOfRuns.{IsEnd}
 use Rattle.gf_buchberger.proofs.JobLaws.{ring_variables}
@@ -34,7 +34,7 @@ use Rattle.gf_line_runs.specs.Turns.{ArePairExcused, IsChained, IsPairTaken, IsU
 use Rattle.gf_lines.specs.Forms.{IsGrown, IsTakenIn}
 use Rattle.gf_division.proofs.ReducerLaws.{members_equal}
 use Rattle.std.proofs.lemmas.List.Elements.{Contains-push}
-use Rattle.gf_int.proofs.ListLaws.{Contains-here}
+use Rattle.gf_int_theory.proofs.ListLaws.{Contains-here}
 
 -- ---- lists of a run
 

@@ -1,12 +1,12 @@
 -- The reduced basis of the lines of a run: those that are needed, their tails reduced in place. Laws: proofs/SettlingLaws.antt.
 -- Source: Cox, Little, O'Shea, Ideals, Varieties, and Algorithms, 2.7.
 use Rattle.std.specs.Prelude.{◌≡◌, ◌⊎◌, ℕ, ℤ, ◌<◌, Bool, true, false, List, length, set, get_or, Contains}
-use Rattle.gf_exponents.specs.Exponents.{Exponents}
-use Rattle.gf_exponents.specs.SixOrders.{MonomialOrder, below_of}
+use Rattle.gf_exponents_theory.specs.Exponents.{Exponents}
+use Rattle.gf_exponents_theory.specs.SixOrders.{MonomialOrder, below_of}
 use Rattle.gf_poly.specs.Polynomial.{Terms}
 use Rattle.gf_poly.specs.Marking.{MarkedPolynomial, Each}
-use Rattle.gf_ideal.specs.Reduction.{IsIrreducible, Reached}
-use Rattle.gf_ideal.specs.Bases.{IsReducedBasisFor}
+use Rattle.gf_ideal_theory.specs.Reduction.{IsIrreducible, Reached}
+use Rattle.gf_ideal_theory.specs.Bases.{IsReducedBasisFor}
 use Rattle.gf_division.specs.Autoreduction.{IsNeededAt}
 use Rattle.gf_lines.specs.declared.lines.Line.{Line}
 use Rattle.gf_lines.specs.declared.lines.Point.{Point}

@@ -2,14 +2,14 @@
 -- told by two places, with no mark of a pair. Laws: proofs/TurnLaws.antt.
 -- Source: Cox, Little, O'Shea, Ideals, Varieties, and Algorithms, 2.7.
 use Rattle.std.specs.Prelude.{◌≡◌, ◌⊎◌, ℕ, ◌<◌, true, List, length, take, Contains}
-use Rattle.gf_exponents.specs.Exponents.{Exponents, AreCoprime, Divides, join, minus, plus, same}
-use Rattle.gf_exponents.specs.SixOrders.{MonomialOrder, below_of}
+use Rattle.gf_exponents_theory.specs.Exponents.{Exponents, AreCoprime, Divides, join, minus, plus, same}
+use Rattle.gf_exponents_theory.specs.SixOrders.{MonomialOrder, below_of}
 use Rattle.gf_poly.specs.Polynomial.{Terms, HasVariables}
 use Rattle.gf_poly.specs.Marking.{MarkedPolynomial, polys}
-use Rattle.gf_ideal.specs.Membership.{HasMonomial, IsMember}
-use Rattle.gf_ideal.specs.Reduction.{IsIrreducible, IsSPolynomial, HasOneMonomial}
-use Rattle.gf_ideal.specs.Settled.{IsAt, IsSettledPair}
-use Rattle.gf_ideal.specs.WorkLists.{IsWorkList}
+use Rattle.gf_ideal_theory.specs.Membership.{HasMonomial, IsMember}
+use Rattle.gf_ideal_theory.specs.Reduction.{IsIrreducible, IsSPolynomial, HasOneMonomial}
+use Rattle.gf_ideal_theory.specs.Settled.{IsAt, IsSettledPair}
+use Rattle.gf_ideal_theory.specs.WorkLists.{IsWorkList}
 use Rattle.gf_buchberger.specs.Jobs.{IsBasisJob}
 use Rattle.gf_buchberger.specs.Runs.{MembersHaveVariables}
 use Rattle.gf_lines.specs.Monomials.{AreLaterUndivided}

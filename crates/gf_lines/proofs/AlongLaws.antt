@@ -7,27 +7,27 @@ use Rattle.std.proofs.lemmas.List.{take_more, take_all, map-append}
 use Rattle.std.proofs.lemmas.List.Elements.{Contains-append_left, Contains-append_right, Contains-append_cases}
 use Rattle.gf_frac.specs.Fraction.{Fraction, ◌+ℚ◌, zero_ℚ}
 use Rattle.gf_frac.proofs.FractionLaws.{+ℚ_comm, +ℚ_assoc, +ℚ-zero}
-use Rattle.gf_exponents.specs.Exponents.{Exponents, same}
-use Rattle.gf_exponents.proofs.ExponentsLaws.{same_of}
-use Rattle.gf_int.proofs.ListLaws.{Contains-here}
+use Rattle.gf_exponents_theory.specs.Exponents.{Exponents, same}
+use Rattle.gf_exponents_theory.proofs.ExponentsLaws.{same_of}
+use Rattle.gf_int_theory.proofs.ListLaws.{Contains-here}
 use Rattle.gf_poly.specs.declared.Term.{Term}
 use Rattle.gf_poly.specs.Polynomial.{Terms, coefficient, HasVariables, IsAbove, IsDescending}
 use Rattle.gf_poly.specs.Marking.{MarkedPolynomial, HasMarkedTerm, Each, head_of}
 use Rattle.gf_poly.proofs.PolynomialLaws.{coefficient-++}
-use Rattle.gf_ideal.specs.OrderTable.{AreMultipleApart}
-use Rattle.gf_ideal.proofs.ListLaws.{Contains-cases, Each-++}
-use Rattle.gf_ideal.proofs.GeneratorLaws.{polys-++}
+use Rattle.gf_ideal_theory.specs.OrderTable.{AreMultipleApart}
+use Rattle.gf_ideal_theory.proofs.ListLaws.{Contains-cases, Each-++}
+use Rattle.gf_ideal_theory.proofs.GeneratorLaws.{polys-++}
 use Rattle.gf_division.proofs.TailLaws.{head_at}
 use Rattle.gf_division.proofs.StepLaws.{head_length}
-use Rattle.gf_initial.specs.Parts.{IsPartAlong}
-use Rattle.gf_initial.proofs.ClassLaws.{multiple-grading}
-use Rattle.gf_initial.proofs.MatchingLaws.{matched-push}
+use Rattle.gf_initial_theory.specs.Parts.{IsPartAlong}
+use Rattle.gf_initial_theory.proofs.ClassLaws.{multiple-grading}
+use Rattle.gf_initial_theory.proofs.MatchingLaws.{matched-push}
 use Rattle.gf_lines.specs.Along.{HasNonzero, IsSelected, IsAlong, AreAlong}
 use Rattle.gf_lines.specs.declared.lines.Point.{Point}
 use Rattle.gf_lines.specs.Lines.{moved, IsDistance, IsSpot, AreSpots, AreFalling, point_term, line_terms, IsPartOf, IsPointAdded, IsTermAdded}
 use Rattle.gf_lines.proofs.MoveLaws.{moved_is, on_is, moved_apart}
 use Rattle.gf_lines.proofs.LineLaws.{line_variables}
-use Rattle.gf_ideal.proofs.CriterionLaws.{not_same}
+use Rattle.gf_ideal_theory.proofs.CriterionLaws.{not_same}
 use Rattle.gf_poly.proofs.InitialFormLaws.{elsewhere, take-next}
 
 -- ---- terms

@@ -7,24 +7,24 @@ use Rattle.std.specs.Option.{is_some}
 use Rattle.std.specs.declared.option.Option.{Option}
 use Rattle.std.proofs.lemmas.Bool.{cases_lt}
 use Rattle.std.proofs.lemmas.List.{append_assoc, append-nil, get_or_default, map-append, map_push}
-use Rattle.gf_int.specs.Integers.{diff-eq, naturals}
+use Rattle.gf_int_theory.specs.Integers.{diff-eq, naturals}
 use Rattle.gf_frac.specs.Fraction.{Fraction, over-eq, ◌+ℚ◌, ◌*ℚ◌, neg_ℚ, zero_ℚ, one_ℚ}
 use Rattle.gf_frac.proofs.FractionLaws.{overs, each_q, dens, zero-+ℚ, *ℚ-one}
-use Rattle.gf_exponents.specs.Exponents.{Exponents, Divides, same, plus, minus}
-use Rattle.gf_exponents.proofs.ExponentsLaws.{same_along, same_of, same-sym}
+use Rattle.gf_exponents_theory.specs.Exponents.{Exponents, Divides, same, plus, minus}
+use Rattle.gf_exponents_theory.proofs.ExponentsLaws.{same_along, same_of, same-sym}
 use Rattle.gf_poly.specs.Polynomial.{Terms, coefficient, SamePolynomial, KeepsVariables, HasVariables, times}
 use Rattle.gf_poly.specs.Marking.{MarkedPolynomial, HaveVariables, Each}
 use Rattle.gf_poly.proofs.MonomialLaws.{length-minus, plus-minus}
 use Rattle.gf_poly.proofs.PolynomialLaws.{coefficient-++}
-use Rattle.gf_ideal.specs.Membership.{HasMonomial}
-use Rattle.gf_ideal.specs.OrderTable.{AreMultipleApart}
-use Rattle.gf_ideal.specs.Reduction.{IsDivisible, IsIrreducible, Reached}
-use Rattle.gf_ideal.proofs.DividingLaws.{member_contained, divisible_along}
-use Rattle.gf_ideal.proofs.ListLaws.{Each-++, contained_each}
-use Rattle.gf_ideal.proofs.StepLaws.{reached-here, reached-next, reached_trans}
-use Rattle.gf_ideal.proofs.TermLaws.{zero_chosen}
+use Rattle.gf_ideal_theory.specs.Membership.{HasMonomial}
+use Rattle.gf_ideal_theory.specs.OrderTable.{AreMultipleApart}
+use Rattle.gf_ideal_theory.specs.Reduction.{IsDivisible, IsIrreducible, Reached}
+use Rattle.gf_ideal_theory.proofs.DividingLaws.{member_contained, divisible_along}
+use Rattle.gf_ideal_theory.proofs.ListLaws.{Each-++, contained_each}
+use Rattle.gf_ideal_theory.proofs.StepLaws.{reached-here, reached-next, reached_trans}
+use Rattle.gf_ideal_theory.proofs.TermLaws.{zero_chosen}
 use Rattle.gf_division.specs.Remainders.{IsRemainder}
-use Rattle.gf_initial.proofs.ClassLaws.{multiple-grading}
+use Rattle.gf_initial_theory.proofs.ClassLaws.{multiple-grading}
 use Rattle.gf_lines.specs.declared.lines.Point.{Point}
 use Rattle.gf_lines.specs.declared.lines.Line.{Line}
 use Rattle.gf_lines.specs.declared.lines.Part.{Part}

@@ -3,7 +3,7 @@
 use Rattle.std.proofs.Common.{◌≡◌, ℕ, ◌<◌, List, [], ◌∷◌, ◌++◌, length, get_or, ℤ, pos, ◌<ℤ◌, sym, subst}
 use Rattle.std.proofs.lemmas.List.{append-nil}
 use Rattle.gf_poly.specs.Marking.{Each}
-use Rattle.gf_ideal.proofs.ListLaws.{Each-++, contained_each}
+use Rattle.gf_ideal_theory.proofs.ListLaws.{Each-++, contained_each}
 use Rattle.gf_lines.specs.declared.lines.Point.{Point}
 use Rattle.gf_lines.specs.declared.lines.Line.{Line}
 use Rattle.gf_lines.specs.Lines.{IsLineAlong, IsSubtracted, KeepsFurther}

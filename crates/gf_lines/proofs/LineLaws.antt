@@ -4,19 +4,19 @@ use Rattle.std.proofs.Common.{◌≡◌, ℕ, Bool, true, false, List, [], ◌�
 use Rattle.std.proofs.lemmas.Int.{ints}
 use Rattle.gf_frac.specs.Fraction.{◌+ℚ◌, zero_ℚ, one_ℚ}
 use Rattle.gf_frac.proofs.FractionLaws.{+ℚ-zero}
-use Rattle.gf_int.proofs.ListLaws.{Contains-here}
-use Rattle.gf_exponents.specs.Exponents.{Exponents, same}
-use Rattle.gf_exponents.specs.SixOrders.{below_of}
-use Rattle.gf_exponents.proofs.ExponentsLaws.{same-refl, same_flip}
-use Rattle.gf_exponents.proofs.SixOrdersLaws.{order-is}
+use Rattle.gf_int_theory.proofs.ListLaws.{Contains-here}
+use Rattle.gf_exponents_theory.specs.Exponents.{Exponents, same}
+use Rattle.gf_exponents_theory.specs.SixOrders.{below_of}
+use Rattle.gf_exponents_theory.proofs.ExponentsLaws.{same-refl, same_flip}
+use Rattle.gf_exponents_theory.proofs.SixOrdersLaws.{order-is}
 use Rattle.gf_poly.specs.declared.Term.{Term}
 use Rattle.gf_poly.specs.Polynomial.{Terms, coefficient, HasVariables}
 use Rattle.gf_poly.specs.Marking.{HaveVariables, Each}
 use Rattle.gf_poly.proofs.InitialFormLaws.{same_or_not, elsewhere}
-use Rattle.gf_ideal.specs.Membership.{HasMonomial}
-use Rattle.gf_ideal.specs.Marks.{IsMarked}
-use Rattle.gf_ideal.proofs.ListLaws.{Contains-there, contained_each}
-use Rattle.gf_ideal.proofs.ListedTerms.{listed}
+use Rattle.gf_ideal_theory.specs.Membership.{HasMonomial}
+use Rattle.gf_ideal_theory.specs.Marks.{IsMarked}
+use Rattle.gf_ideal_theory.proofs.ListLaws.{Contains-there, contained_each}
+use Rattle.gf_ideal_theory.proofs.ListedTerms.{listed}
 use Rattle.gf_lines.specs.declared.lines.Point.{Point}
 use Rattle.gf_lines.specs.declared.lines.Line.{Line}
 use Rattle.gf_lines.specs.Along.{HasNonzero}

@@ -5,11 +5,11 @@ use Rattle.std.proofs.Common.{◌≡◌, ◌⊎◌, ℕ, zero, suc, ◌+◌, ◌
 use Rattle.std.proofs.lemmas.Bool.{cases_lt}
 use Rattle.std.proofs.lemmas.List.{get_or_default}
 use Rattle.gf_frac.specs.Fraction.{one_ℚ}
-use Rattle.gf_exponents.specs.Exponents.{Exponents, Divides}
+use Rattle.gf_exponents_theory.specs.Exponents.{Exponents, Divides}
 use Rattle.gf_poly.specs.Polynomial.{coefficient}
 use Rattle.gf_poly.specs.Marking.{MarkedPolynomial, Each}
-use Rattle.gf_ideal.specs.Settled.{IsAt}
-use Rattle.gf_ideal.proofs.ListLaws.{Each-weaker, contained_each, each_contained}
+use Rattle.gf_ideal_theory.specs.Settled.{IsAt}
+use Rattle.gf_ideal_theory.proofs.ListLaws.{Each-weaker, contained_each, each_contained}
 use Rattle.gf_lines.specs.declared.lines.Line.{Line}
 use Rattle.gf_lines.specs.declared.lines.Point.{Point}
 use Rattle.gf_lines.specs.Along.{HasNonzero}

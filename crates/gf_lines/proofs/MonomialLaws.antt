@@ -6,13 +6,13 @@ use Rattle.std.proofs.lemmas.List.{get_or_default}
 use Rattle.std.proofs.lemmas.List.Elements.{Contains-append_left, Contains-append_right}
 use Rattle.gf_frac.specs.Fraction.{one_ℚ, zero_ℚ, ◌+ℚ◌}
 use Rattle.gf_frac.proofs.FractionLaws.{zero-+ℚ, +ℚ-zero}
-use Rattle.gf_exponents.specs.Exponents.{Exponents, Divides, same, plus}
-use Rattle.gf_exponents.proofs.ExponentsLaws.{same-refl, same_trans, same_flip}
+use Rattle.gf_exponents_theory.specs.Exponents.{Exponents, Divides, same, plus}
+use Rattle.gf_exponents_theory.proofs.ExponentsLaws.{same-refl, same_trans, same_flip}
 use Rattle.gf_poly.specs.Polynomial.{coefficient}
 use Rattle.gf_poly.specs.Marking.{MarkedPolynomial, HaveVariables}
-use Rattle.gf_ideal.specs.Membership.{HasMonomial}
-use Rattle.gf_ideal.specs.Reduction.{HasOneMonomial}
-use Rattle.gf_ideal.specs.Settled.{IsAt}
+use Rattle.gf_ideal_theory.specs.Membership.{HasMonomial}
+use Rattle.gf_ideal_theory.specs.Reduction.{HasOneMonomial}
+use Rattle.gf_ideal_theory.specs.Settled.{IsAt}
 use Rattle.gf_lines.specs.Monomials.{monomial_member, with_monomials, AreMonomialsApart, AreLaterUndivided}
 
 -- ---- monomials as members

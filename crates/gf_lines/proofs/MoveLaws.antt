@@ -3,14 +3,14 @@
 use Rattle.std.proofs.Common.{◌≡◌, zero, suc, true, List, [], ◌∷◌, length, get_or, ℤ, pos, negsuc, ◌+ℤ◌, ◌-ℤ◌, ◌*ℤ◌, ◌<ℤ◌, unsigned_abs, arith, refl, sym, ap, ap₂, ◌∙◌, subst, inl, inr}
 use Rattle.std.proofs.Math.IntN.{*ℤ-zero}
 use Rattle.std.proofs.lemmas.Int.{ints}
-use Rattle.gf_int.proofs.RingLaws.{dv, dn, ◌⊕◌, ◌⊖◌, ◌⊗◌, same as same_number}
-use Rattle.gf_int.proofs.SignLaws.{zero_of_*ℤ}
-use Rattle.gf_exponents.specs.Exponents.{Exponents, entry, same, plus}
-use Rattle.gf_exponents.specs.SixOrders.{below_of}
-use Rattle.gf_exponents.proofs.ExponentsLaws.{entry-plus, entries_same}
+use Rattle.gf_int_theory.proofs.RingLaws.{dv, dn, ◌⊕◌, ◌⊖◌, ◌⊗◌, same as same_number}
+use Rattle.gf_int_theory.proofs.SignLaws.{zero_of_*ℤ}
+use Rattle.gf_exponents_theory.specs.Exponents.{Exponents, entry, same, plus}
+use Rattle.gf_exponents_theory.specs.SixOrders.{below_of}
+use Rattle.gf_exponents_theory.proofs.ExponentsLaws.{entry-plus, entries_same}
 use Rattle.gf_poly.proofs.MonomialLaws.{length-plus}
-use Rattle.gf_ideal.specs.OrderTable.{AreMultipleApart}
-use Rattle.gf_initial.proofs.ClassLaws.{further-below}
+use Rattle.gf_ideal_theory.specs.OrderTable.{AreMultipleApart}
+use Rattle.gf_initial_theory.proofs.ClassLaws.{further-below}
 use Rattle.gf_lines.specs.Along.{HasNonzero}
 use Rattle.gf_lines.specs.Lines.{moved, IsDistance, IsSpot, facet_order}
 

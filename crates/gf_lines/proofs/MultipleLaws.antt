@@ -8,14 +8,14 @@ use Rattle.std.proofs.lemmas.Bool.{cases_lt}
 use Rattle.std.specs.Int.{w64, w128}
 use Rattle.std.proofs.lemmas.Int.{ints, unsigned_abs-mul, quot-rem, rem_below, to_z-of_z, fits_signed_from_abs}
 use Rattle.std.proofs.lemmas.Nat.{mul-le}
-use Rattle.gf_int.proofs.RingLaws.{dv, dn, ◌⊖◌, ◌⊗◌, same as same_number}
-use Rattle.gf_exponents.specs.Exponents.{Exponents, entry}
-use Rattle.gf_exponents.proofs.ExponentsLaws.{entry-get_or, entry-past}
-use Rattle.gf_ideal.specs.OrderTable.{AreMultipleApart}
+use Rattle.gf_int_theory.proofs.RingLaws.{dv, dn, ◌⊖◌, ◌⊗◌, same as same_number}
+use Rattle.gf_exponents_theory.specs.Exponents.{Exponents, entry}
+use Rattle.gf_exponents_theory.proofs.ExponentsLaws.{entry-get_or, entry-past}
+use Rattle.gf_ideal_theory.specs.OrderTable.{AreMultipleApart}
 use Rattle.gf_lines.specs.Along.{AreSmall}
 use Rattle.gf_lines.specs.Lines.{IsDistance}
-use Rattle.gf_int.proofs.SignLaws.{abs_positive}
-use Rattle.gf_int.proofs.ContentLaws.{abs_zero}
+use Rattle.gf_int_theory.proofs.SignLaws.{abs_positive}
+use Rattle.gf_int_theory.proofs.ContentLaws.{abs_zero}
 
 none_left : (m a : ℕ) → m * a < a → m ≡ 0
 none_left zero a l = refl

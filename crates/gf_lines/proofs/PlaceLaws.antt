@@ -3,10 +3,10 @@
 use Rattle.std.proofs.Common.{◌≡◌, ◌⊎◌, ℕ, ◌<◌, true, List, length, get_or, set, Contains, arith, sym, ap, ◌∙◌, subst, inl, inr}
 use Rattle.std.proofs.lemmas.Bool.{cases_eq}
 use Rattle.std.proofs.lemmas.List.{get_or_default, get_or-set_same, get_or-set_other, length-set}
-use Rattle.gf_exponents.specs.Exponents.{Exponents, same, plus}
+use Rattle.gf_exponents_theory.specs.Exponents.{Exponents, same, plus}
 use Rattle.gf_poly.specs.Marking.{MarkedPolynomial}
-use Rattle.gf_ideal.specs.Reduction.{IsDivisible}
-use Rattle.gf_ideal.specs.Settled.{IsAt}
+use Rattle.gf_ideal_theory.specs.Reduction.{IsDivisible}
+use Rattle.gf_ideal_theory.specs.Settled.{IsAt}
 use Rattle.gf_division.proofs.ReducerLaws.{member_contained}
 
 pub at_place : (bs : List MarkedPolynomial) (i : ℕ) (d : MarkedPolynomial) → i < length bs → IsAt bs i (get_or bs i d)

@@ -10,16 +10,16 @@ use Rattle.std.proofs.lemmas.List.Elements.{All-set, All-take}
 use Rattle.std.proofs.lemmas.Grind.{get_or-set_at}
 use Rattle.gf_frac.specs.Fraction.{Fraction, ◌+ℚ◌, ◌*ℚ◌, ◌/ℚ◌, neg_ℚ, reciprocal_ℚ, zero_ℚ, one_ℚ}
 use Rattle.gf_frac.proofs.FractionLaws.{+ℚ_comm, +ℚ_assoc, +ℚ-zero, *ℚ_comm, *ℚ_assoc, *ℚ-one, neg_ℚ-*ℚ, *ℚ-reciprocal_ℚ, reciprocal_ℚ-*ℚ}
-use Rattle.gf_exponents.specs.Exponents.{Exponents, entry, same}
-use Rattle.gf_exponents.proofs.ExponentsLaws.{entry-get_or, entry-past}
+use Rattle.gf_exponents_theory.specs.Exponents.{Exponents, entry, same}
+use Rattle.gf_exponents_theory.proofs.ExponentsLaws.{entry-get_or, entry-past}
 use Rattle.gf_poly.specs.declared.TheConstants.{ROOM}
 use Rattle.gf_poly.specs.declared.Term.{Term}
 use Rattle.gf_poly.specs.Monomial.{IsMonomial}
 use Rattle.gf_poly.specs.Polynomial.{Terms, coefficient, SamePolynomial, times, times_term}
 use Rattle.gf_poly.specs.Marking.{Each}
 use Rattle.gf_poly.proofs.PolynomialLaws.{coefficient-++, coefficient-times, times-++}
-use Rattle.gf_ideal.specs.OrderTable.{AreMultipleApart}
-use Rattle.gf_ideal.proofs.ListLaws.{each_contained, contained_each}
+use Rattle.gf_ideal_theory.specs.OrderTable.{AreMultipleApart}
+use Rattle.gf_ideal_theory.proofs.ListLaws.{each_contained, contained_each}
 use Rattle.gf_lines.specs.declared.lines.Point.{Point}
 use Rattle.gf_lines.specs.declared.lines.Line.{Line}
 use Rattle.gf_lines.specs.Along.{HasNonzero}

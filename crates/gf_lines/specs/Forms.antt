@@ -1,12 +1,12 @@
 -- Remainders on lines: marks that divide a monomial, and polynomials that are taken in. Laws: proofs/FormLaws.antt, proofs/LineMarks.antt.
 -- Source: Cox, Little, O'Shea, Ideals, Varieties, and Algorithms, 2.3.
 use Rattle.std.specs.Prelude.{◌≡◌, ◌≢◌, ◌⊎◌, ℕ, ◌<◌, List, [], ◌∷◌, ◌++◌, length, Contains, ◌≤◌, get_or}
-use Rattle.gf_exponents.specs.Exponents.{Exponents, Divides}
-use Rattle.gf_exponents.specs.SixOrders.{MonomialOrder, below_of}
+use Rattle.gf_exponents_theory.specs.Exponents.{Exponents, Divides}
+use Rattle.gf_exponents_theory.specs.SixOrders.{MonomialOrder, below_of}
 use Rattle.gf_poly.specs.Polynomial.{Terms, HasVariables, KeepsVariables}
 use Rattle.gf_poly.specs.Marking.{MarkedPolynomial}
-use Rattle.gf_ideal.specs.Marks.{IsMarked}
-use Rattle.gf_ideal.specs.Reduction.{IsMonicForm, HasOneMonomial}
+use Rattle.gf_ideal_theory.specs.Marks.{IsMarked}
+use Rattle.gf_ideal_theory.specs.Reduction.{IsMonicForm, HasOneMonomial}
 use Rattle.gf_division.specs.Remainders.{IsRemainder}
 use Rattle.gf_lines.specs.declared.lines.Line.{Line}
 

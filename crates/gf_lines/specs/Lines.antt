@@ -2,17 +2,17 @@
 -- coefficient. Laws: proofs/MoveLaws.antt, proofs/LineLaws.antt.
 use Rattle.std.specs.Prelude.{◌≡◌, ℕ, List, [], ◌∷◌, ◌++◌, map, length, Contains, ℤ, pos, ◌+ℤ◌, ◌-ℤ◌, ◌*ℤ◌, ◌<ℤ◌, ◌<◌, unsigned_abs, get_or, IfSome}
 use Rattle.gf_frac.specs.Fraction.{Fraction, ◌+ℚ◌, ◌*ℚ◌, ◌/ℚ◌, neg_ℚ, one_ℚ}
-use Rattle.gf_exponents.specs.Exponents.{Exponents, entry, Divides}
-use Rattle.gf_exponents.specs.Orders.{negated_row_of}
-use Rattle.gf_exponents.specs.SixOrders.{MonomialOrder}
+use Rattle.gf_exponents_theory.specs.Exponents.{Exponents, entry, Divides}
+use Rattle.gf_exponents_theory.specs.Orders.{negated_row_of}
+use Rattle.gf_exponents_theory.specs.SixOrders.{MonomialOrder}
 use Rattle.gf_poly.specs.declared.Term.{Term}
 use Rattle.gf_poly.specs.Polynomial.{Terms, coefficient, SamePolynomial, KeepsVariables, times}
 use Rattle.gf_poly.specs.Marking.{MarkedPolynomial, HaveVariables, Each}
-use Rattle.gf_ideal.specs.Membership.{HasMonomial}
-use Rattle.gf_ideal.specs.OrderTable.{AreMultipleApart}
-use Rattle.gf_ideal.specs.Reduction.{IsDivisible, IsMonicForm, Reached}
-use Rattle.gf_ideal.specs.Settled.{IsAt}
-use Rattle.gf_initial.specs.Parts.{IsPartAlong}
+use Rattle.gf_ideal_theory.specs.Membership.{HasMonomial}
+use Rattle.gf_ideal_theory.specs.OrderTable.{AreMultipleApart}
+use Rattle.gf_ideal_theory.specs.Reduction.{IsDivisible, IsMonicForm, Reached}
+use Rattle.gf_ideal_theory.specs.Settled.{IsAt}
+use Rattle.gf_initial_theory.specs.Parts.{IsPartAlong}
 use Rattle.gf_lines.specs.declared.lines.Point.{Point}
 use Rattle.gf_lines.specs.declared.lines.Line.{Line}
 use Rattle.gf_lines.specs.declared.lines.Part.{Part}

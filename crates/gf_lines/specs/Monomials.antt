@@ -1,10 +1,10 @@
 -- Lists whose members at the front are monomials, of which a program keeps the exponents alone. Laws: proofs/MonomialLaws.antt.
 use Rattle.std.specs.Prelude.{◌≡◌, ℕ, ◌<◌, Bool, true, false, List, [], ◌∷◌, ◌++◌, length, map, get_or}
 use Rattle.gf_frac.specs.Fraction.{one_ℚ}
-use Rattle.gf_exponents.specs.Exponents.{Exponents, Divides}
+use Rattle.gf_exponents_theory.specs.Exponents.{Exponents, Divides}
 use Rattle.gf_poly.specs.Marking.{MarkedPolynomial}
-use Rattle.gf_ideal.specs.Membership.{HasMonomial}
-use Rattle.gf_ideal.specs.Settled.{IsAt}
+use Rattle.gf_ideal_theory.specs.Membership.{HasMonomial}
+use Rattle.gf_ideal_theory.specs.Settled.{IsAt}
 
 -- the monomial x, its coefficient 1, as a member
 abbrev pub monomial_member : Exponents → MarkedPolynomial

@@ -1,12 +1,12 @@
 -- The parts of the members along a vector, as a program keeps them: of a part that is one term alone the place of its member and the
 -- mark, of another one the terms. Laws: proofs/SplitLaws.antt.
 use Rattle.std.specs.Prelude.{◌≡◌, ℕ, List, [], ◌∷◌, ◌++◌, length, ℤ, true}
-use Rattle.gf_exponents.specs.Exponents.{Exponents, same}
+use Rattle.gf_exponents_theory.specs.Exponents.{Exponents, same}
 use Rattle.gf_poly.specs.Polynomial.{Terms}
 use Rattle.gf_poly.specs.Marking.{MarkedPolynomial}
-use Rattle.gf_ideal.specs.Settled.{IsAt}
-use Rattle.gf_ideal.specs.Membership.{HasMonomial}
-use Rattle.gf_ideal.specs.OrderTable.{AreMultipleApart}
+use Rattle.gf_ideal_theory.specs.Settled.{IsAt}
+use Rattle.gf_ideal_theory.specs.Membership.{HasMonomial}
+use Rattle.gf_ideal_theory.specs.OrderTable.{AreMultipleApart}
 use Rattle.gf_lines.specs.declared.along.Split.{Split}
 use Rattle.gf_lines.specs.declared.lines.Part.{Part}
 use Rattle.gf_lines.specs.Lines.{IsPartOf, terms_of_part, AreSpots, AreFalling}

@@ -3,7 +3,7 @@
 ghost use Rattle.gf_lines.specs.Along.{AreAlong, AreSmall, HasNonzero, IsAlong};
 ghost use Rattle.gf_lines.specs.Lines.{AreFalling, AreSpots, ArePartsOnLines, IsDistance, IsPartOf, IsTermAdded, line_terms, terms_of_parts};
 ghost use Rattle.gf_lines.specs.Splits.{AreSplit, IsSplitOn, IsAlone};
-ghost use Rattle.gf_ideal.specs.OrderTable.{AreMultipleApart};
+ghost use Rattle.gf_ideal_theory.specs.OrderTable.{AreMultipleApart};
 ghost use Rattle.gf_poly.specs.Marking.{HaveVariables};
 ghost use Rattle.gf_poly.specs.Polynomial.{HasVariables};
 ghost use Rattle.std.specs.Prelude.{IfNone, IfOk, IfSome, IsTrue, [], false, get_or, length, map, pos, true, unsigned_abs, ℤ, ◌*ℤ◌, ◌++◌, ◌-ℤ◌, ◌<◌, ◌==◌, ◌^◌, ◌∷◌, ◌≡◌, ◌≢◌, ◌≤◌};

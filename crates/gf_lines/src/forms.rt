@@ -5,7 +5,7 @@ ghost use Rattle.gf_lines.specs.Along.{AreSmall};
 ghost use Rattle.gf_lines.specs.Lines.{AreFalling, AreLinesOf, AreSpots, HasLineBelow, IsGround, IsLineAlong, IsMonomialFor, IsPartOnLine, KeepsFurther, KeepsWork, NoLineBelow, NoneDividesTo, facet_order, line_members, line_terms, moved, terms_of_part};
 ghost use Rattle.gf_lines.specs.Monomials.{with_monomials};
 ghost use Rattle.gf_lines.specs.Forms.{HasLineFrom, NoLineFrom, HasCover, IsTakenIn};
-ghost use Rattle.gf_ideal.specs.Reduction.{IsDivisible, IsIrreducible};
+ghost use Rattle.gf_ideal_theory.specs.Reduction.{IsDivisible, IsIrreducible};
 ghost use Rattle.gf_poly.specs.Marking.{Each, HaveVariables};
 ghost use Rattle.std.specs.Prelude.{Contains, IfNone, IfSome, IsTrue, [], false, length, pos, ◌++◌, ◌<ℤ◌, ◌∷◌, ◌≡◌};
 

@@ -1,10 +1,10 @@
 -- The tree of the numbers is finite.
 use Rattle.std.proofs.Common.{◌≡◌, ℕ, ◌/◌, ◌%◌, ◌<◌, ◌⊎◌, List, [], ◌∷◌, length, arith, inl, inr, sym, ◌∙◌, zero, suc}
 use Rattle.std.proofs.lemmas.Bool.{cases_order}
-use Rattle.gf_walk.specs.Listing.{Among}
-use Rattle.gf_walk.specs.Path.{IsRoot}
-use Rattle.gf_walk.specs.Whole.{Parent, IsFinite}
-use Rattle.gf_walk.proofs.FinitenessLaws.{finite_tree}
+use Rattle.gf_reverse_search.specs.Listing.{Among}
+use Rattle.gf_reverse_search.specs.Path.{IsRoot}
+use Rattle.gf_reverse_search.specs.Whole.{Parent, IsFinite}
+use Rattle.gf_reverse_search.proofs.FinitenessLaws.{finite_tree}
 use Rattle.gf_number_trees.specs.Numbers.{IsNumber, IsHalf, numbers_strict, numbers_tree, numbers_nodes}
 
 -- a number is below its half

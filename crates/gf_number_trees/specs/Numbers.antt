@@ -1,9 +1,9 @@
 -- The tree of the numbers from 1 to a limit, where 2 u and 2 u + 1 are below u.
 use Rattle.std.proofs.Common.{◌≡◌, ℕ, ◌+◌, ◌*◌, ◌<◌, ◌≤◌, ◌⊎◌, arith, inl, inr, sym, ◌∙◌, List, [], ◌∷◌, zero, suc, refl, subst}
 use Rattle.std.specs.List.{Contains}
-use Rattle.gf_walk.specs.Tree.{HasLabels}
+use Rattle.gf_reverse_search.specs.Tree.{HasLabels}
 use Rattle.std.proofs.lemmas.Bool.{cases_order}
-use Rattle.gf_walk.specs.Path.{IsStrictOrder, IsTree}
+use Rattle.gf_reverse_search.specs.Path.{IsStrictOrder, IsTree}
 use Rattle.gf_number_trees.specs.declared.numbers.NumberError.{NumberError}
 use Rattle.gf_number_trees.specs.declared.numbers.NumberError.TheVariants.{Memory, Chosen}
 

@@ -6,11 +6,11 @@ use Rattle.std.proofs.Common.{◌≡◌, ◌⊎◌, ℕ, ◌-◌, ◌<◌, ◌�
 use Rattle.std.proofs.lemmas.Bool.{cases_lt}
 use Rattle.std.proofs.lemmas.Cmp.{ranked}
 use Rattle.std.proofs.lemmas.Int.{ints}
-use Rattle.gf_exponents.specs.Exponents.{Exponents, entry, weight, whole_weight}
-use Rattle.gf_exponents.specs.Orders.{gains, negated_row_of}
-use Rattle.gf_exponents.specs.SixOrders.{MonomialOrder}
-use Rattle.gf_exponents.proofs.ExponentsLaws.{entry-get_or}
-use Rattle.gf_exponents.proofs.WholeWeightLaws.{natural-weight, negated-less, negated-alike}
+use Rattle.gf_exponents_theory.specs.Exponents.{Exponents, entry, weight, whole_weight}
+use Rattle.gf_exponents_theory.specs.Orders.{gains, negated_row_of}
+use Rattle.gf_exponents_theory.specs.SixOrders.{MonomialOrder}
+use Rattle.gf_exponents_theory.proofs.ExponentsLaws.{entry-get_or}
+use Rattle.gf_exponents_theory.proofs.WholeWeightLaws.{natural-weight, negated-less, negated-alike}
 use Rattle.gf_order.specs.Comparisons.{IsOutcome, BreaksTie}
 use Rattle.gf_order.specs.Weights.{CompareSo}
 

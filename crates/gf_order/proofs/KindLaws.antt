@@ -1,10 +1,10 @@
 -- The entries of a kept order's weight, and what it compares first.
 use Rattle.std.proofs.Common.{◌≡◌, ℕ, List, length, ℤ, pos, ◌-ℤ◌, arith, sym, ap, subst, ◌∙◌}
 use Rattle.std.proofs.lemmas.Int.{ints}
-use Rattle.gf_exponents.specs.Exponents.{Exponents, weight, whole_weight}
-use Rattle.gf_exponents.specs.Orders.{gains, losses}
-use Rattle.gf_exponents.specs.SixOrders.{MonomialOrder}
-use Rattle.gf_exponents.proofs.WholeWeightLaws.{weight_split, natural-weight, length-gains, length-losses}
+use Rattle.gf_exponents_theory.specs.Exponents.{Exponents, weight, whole_weight}
+use Rattle.gf_exponents_theory.specs.Orders.{gains, losses}
+use Rattle.gf_exponents_theory.specs.SixOrders.{MonomialOrder}
+use Rattle.gf_exponents_theory.proofs.WholeWeightLaws.{weight_split, natural-weight, length-gains, length-losses}
 use Rattle.gf_order.specs.declared.order.Kind.{Kind}
 use Rattle.gf_order.specs.declared.order.Kind.TheVariants.{Weighted, WeightedRevlex, Facet}
 use Rattle.gf_order.specs.Comparisons.{HasEntries, level_of}

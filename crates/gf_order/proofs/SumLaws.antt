@@ -1,9 +1,9 @@
 -- The difference of two weights, one entry further.
 use Rattle.std.proofs.Common.{◌≡◌, ℕ, ◌+◌, ◌*◌, ◌^◌, ◌<◌, ◌≤◌, List, length, get_or, drop, ℤ, pos, ◌+ℤ◌, ◌-ℤ◌, ◌*ℤ◌, unsigned_abs, arith}
 use Rattle.std.proofs.lemmas.Int.{ints}
-use Rattle.gf_int.proofs.RingLaws.{*ℤ--ℤ}
+use Rattle.gf_int_theory.proofs.RingLaws.{*ℤ--ℤ}
 use Rattle.gf_vec.proofs.WeightLaws.{weight-drop}
-use Rattle.gf_exponents.specs.Exponents.{Exponents, whole_weight}
+use Rattle.gf_exponents_theory.specs.Exponents.{Exponents, whole_weight}
 
 -- what is added so far, and what is left to add
 pub record Added (w : List ℤ) (x y : Exponents) (i : ℕ) (sum : ℤ) : Type 0 where

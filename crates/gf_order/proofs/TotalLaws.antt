@@ -3,10 +3,10 @@ use Rattle.std.specs.Ordering.{ordering_reverse}
 use Rattle.std.specs.declared.cmp.Ordering.{Ordering}
 use Rattle.std.specs.declared.cmp.Ordering.TheVariants.{Less, Equal, Greater}
 use Rattle.std.proofs.Common.{◌≡◌, length, refl, sym, ap, inl, inr}
-use Rattle.gf_exponents.specs.Exponents.{Exponents, plus}
-use Rattle.gf_exponents.specs.SixOrders.{MonomialOrder, below_of}
-use Rattle.gf_exponents.proofs.ExponentsLaws.{same-refl, same_of, entries_same, same_lists}
-use Rattle.gf_exponents.proofs.SixOrdersLaws.{order-is}
+use Rattle.gf_exponents_theory.specs.Exponents.{Exponents, plus}
+use Rattle.gf_exponents_theory.specs.SixOrders.{MonomialOrder, below_of}
+use Rattle.gf_exponents_theory.proofs.ExponentsLaws.{same-refl, same_of, entries_same, same_lists}
+use Rattle.gf_exponents_theory.proofs.SixOrdersLaws.{order-is}
 use Rattle.gf_order.specs.Comparisons.{IsOutcome}
 use Rattle.gf_order.specs.Laws.{ComparisonsAreTotal}
 

@@ -3,8 +3,8 @@ use Rattle.std.specs.Prelude.{◌≡◌, ℕ, Bool, true, false, length, ℤ, po
 use Rattle.std.specs.Ordering.{MatchOrdering}
 use Rattle.std.specs.declared.cmp.Ordering.{Ordering}
 use Rattle.std.specs.declared.cmp.Ordering.TheVariants.{Less, Greater}
-use Rattle.gf_exponents.specs.Exponents.{Exponents, degree, weight}
-use Rattle.gf_exponents.specs.SixOrders.{MonomialOrder, below_of}
+use Rattle.gf_exponents_theory.specs.Exponents.{Exponents, degree, weight}
+use Rattle.gf_exponents_theory.specs.SixOrders.{MonomialOrder, below_of}
 
 -- less where x is below y, equal where they are the same list, greater where y is below x
 abbrev pub IsOutcome : MonomialOrder → Exponents → Exponents → Ordering → Type 0

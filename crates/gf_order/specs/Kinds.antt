@@ -1,7 +1,7 @@
 -- The orders as the program keeps them.
 use Rattle.std.specs.Prelude.{All, pos, ◌≤ℤ◌}
-use Rattle.gf_exponents.specs.Orders.{gains, negated_row_of}
-use Rattle.gf_exponents.specs.SixOrders.{MonomialOrder}
+use Rattle.gf_exponents_theory.specs.Orders.{gains, negated_row_of}
+use Rattle.gf_exponents_theory.specs.SixOrders.{MonomialOrder}
 use Rattle.gf_order.specs.declared.order.Kind.{Kind}
 use Rattle.gf_order.specs.declared.order.Kind.TheVariants.{Lex, Deglex, Revlex, Weighted, WeightedRevlex, Facet}
 use Rattle.gf_order.specs.Weights.{AreBounded}

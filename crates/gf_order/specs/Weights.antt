@@ -2,7 +2,7 @@
 use Rattle.std.specs.Prelude.{◌≡◌, ℕ, ◌^◌, ◌<◌, ◌≤◌, List, length, get_or, All, ℤ, pos, unsigned_abs, ◌<ℤ◌, ◌≤ℤ◌}
 use Rattle.std.specs.Ordering.{MatchOrdering}
 use Rattle.std.specs.declared.cmp.Ordering.{Ordering}
-use Rattle.gf_exponents.specs.Exponents.{Exponents, whole_weight}
+use Rattle.gf_exponents_theory.specs.Exponents.{Exponents, whole_weight}
 
 -- each entry is within 2^63 in absolute value
 abbrev pub AreBounded : List ℤ → Type 0

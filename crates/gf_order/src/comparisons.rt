@@ -1,8 +1,8 @@
 //! Comparisons of two exponent lists of one length.
 ghost use Rattle.std.specs.Prelude.{◌≡◌, ◌≤◌, pos, ◌≤ℤ◌, All, length};
-ghost use Rattle.gf_exponents.specs.Exponents.{degree};
-ghost use Rattle.gf_exponents.specs.Orders.{gains, negated_row_of};
-ghost use Rattle.gf_exponents.specs.SixOrders.{MonomialOrder};
+ghost use Rattle.gf_exponents_theory.specs.Exponents.{degree};
+ghost use Rattle.gf_exponents_theory.specs.Orders.{gains, negated_row_of};
+ghost use Rattle.gf_exponents_theory.specs.SixOrders.{MonomialOrder};
 ghost use Rattle.gf_order.specs.Weights.{AreBounded};
 ghost use Rattle.gf_order.specs.Comparisons.{IsOutcome, BreaksTie};
 

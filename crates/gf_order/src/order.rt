@@ -1,7 +1,7 @@
 //! The orders.
 ghost use Rattle.std.specs.Prelude.{◌≡◌, ◌≤◌, ◌<◌, ◌^◌, ℕ, List, pos, ◌≤ℤ◌, All, IfOk, IfErr, IfSome, IsNone, length};
-ghost use Rattle.gf_exponents.specs.Orders.{IsTermOrder, gains, negated_row_of};
-ghost use Rattle.gf_exponents.specs.SixOrders.{MonomialOrder, below_of};
+ghost use Rattle.gf_exponents_theory.specs.Orders.{IsTermOrder, gains, negated_row_of};
+ghost use Rattle.gf_exponents_theory.specs.SixOrders.{MonomialOrder, below_of};
 ghost use Rattle.gf_order.specs.Weights.{AreBounded, IsFirstBelow};
 ghost use Rattle.gf_order.specs.Comparisons.{IsOutcome, HasEntries, level_of, ends_by_revlex, is_weight_before_lex};
 
@@ -36,7 +36,7 @@ pub struct Order {
 }
 
 impl Model for Order {
-    ghost use Rattle.gf_exponents.specs.SixOrders.{MonomialOrder};
+    ghost use Rattle.gf_exponents_theory.specs.SixOrders.{MonomialOrder};
 
     ghost Value = { MonomialOrder };
 

@@ -2,7 +2,7 @@
 //!
 //! An entry within `2^63` times a difference of exponents of 32 bits is within `2^95`, and 64 of them are within `2^101`.
 ghost use Rattle.std.specs.Prelude.{◌≡◌, ◌≤◌, ◌-ℤ◌, ◌≤ℤ◌, All, MatchOption, length};
-ghost use Rattle.gf_exponents.specs.Exponents.{whole_weight};
+ghost use Rattle.gf_exponents_theory.specs.Exponents.{whole_weight};
 ghost use Rattle.gf_order.specs.Weights.{AreBounded, IsFirstBelow, CompareSo};
 
 use gf_vec::share;

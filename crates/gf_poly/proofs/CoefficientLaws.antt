@@ -8,9 +8,9 @@ use Rattle.std.proofs.Common.{arith, refl, sym, ap, subst, ◌∙◌, inl, inr, 
 use Rattle.std.proofs.lemmas.List.{drop_more}
 use Rattle.gf_frac.specs.Fraction.{Fraction, ◌+ℚ◌, neg_ℚ, zero_ℚ}
 use Rattle.gf_frac.proofs.FractionLaws.{+ℚ_assoc, +ℚ_comm, +ℚ-zero, zero-+ℚ, +ℚ-neg_ℚ}
-use Rattle.gf_exponents.specs.Exponents.{Exponents, same}
-use Rattle.gf_exponents.specs.Orders.{deglex}
-use Rattle.gf_exponents.proofs.ExponentsLaws.{same-refl, entries_same}
+use Rattle.gf_exponents_theory.specs.Exponents.{Exponents, same}
+use Rattle.gf_exponents_theory.specs.Orders.{deglex}
+use Rattle.gf_exponents_theory.proofs.ExponentsLaws.{same-refl, entries_same}
 use Rattle.gf_poly.specs.declared.Term.{Term}
 use Rattle.gf_poly.specs.Polynomial.{Terms, coefficient, SamePolynomial, IsAbove, IsDescending, HasVariables}
 use Rattle.gf_poly.proofs.MonomialLaws.{same_lists}

@@ -9,8 +9,8 @@ use Rattle.std.proofs.Common.{arith, sym, ap, ◌∙◌, inl, inr}
 use Rattle.std.proofs.lemmas.Cmp.{nat_cmp_total, nat_list_cmp_total, on_total, then_total}
 use Rattle.std.proofs.lemmas.Map.Lookups.{exact_bytes}
 use Rattle.gf_frac.specs.Fraction.{zero_ℚ}
-use Rattle.gf_exponents.specs.Exponents.{Exponents, degree}
-use Rattle.gf_exponents.specs.Orders.{deglex}
+use Rattle.gf_exponents_theory.specs.Exponents.{Exponents, degree}
+use Rattle.gf_exponents_theory.specs.Orders.{deglex}
 use Rattle.gf_poly.specs.declared.Term.{Term}
 use Rattle.gf_poly.specs.Polynomial.{Terms, IsAbove, IsDescending, HasVariables}
 

@@ -3,7 +3,7 @@ use Rattle.std.specs.Prelude.{◌≡◌, ℕ, ◌+◌, ◌<◌, ◌≤◌, ◌^�
 use Rattle.std.proofs.Common.{arith, sym, subst, ap, ◌∙◌, get_or}
 use Rattle.std.proofs.lemmas.List.{length-append, take_more, take_all, take_more_set}
 use Rattle.std.proofs.lemmas.List.Elements.{All-push}
-use Rattle.gf_exponents.specs.Exponents.{Exponents}
+use Rattle.gf_exponents_theory.specs.Exponents.{Exponents}
 use Rattle.gf_poly.specs.declared.TheConstants.{ROOM}
 use Rattle.gf_poly.specs.Monomial.{IsMonomial}
 

@@ -12,8 +12,8 @@ use Rattle.std.proofs.lemmas.Int.{ints}
 use Rattle.std.proofs.lemmas.List.{take_more, take_all, append-nil}
 use Rattle.gf_frac.specs.Fraction.{◌+ℚ◌, zero_ℚ}
 use Rattle.gf_frac.proofs.FractionLaws.{zero-+ℚ, zero_or_not}
-use Rattle.gf_exponents.specs.Exponents.{Exponents, same, whole_weight}
-use Rattle.gf_exponents.proofs.WholeWeightLaws.{whole_weight-same}
+use Rattle.gf_exponents_theory.specs.Exponents.{Exponents, same, whole_weight}
+use Rattle.gf_exponents_theory.proofs.WholeWeightLaws.{whole_weight-same}
 use Rattle.gf_poly.specs.declared.Term.{Term}
 use Rattle.gf_poly.specs.Polynomial.{Terms, coefficient, SamePolynomial, IsAbove, IsDescending, HasVariables, KeepsVariables}
 use Rattle.gf_poly.specs.InitialForms.{IsOfGreatestWeight, IsInitialForm}

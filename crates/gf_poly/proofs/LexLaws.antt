@@ -7,9 +7,9 @@ use Rattle.std.specs.declared.cmp.Ordering.TheVariants.{Less, Equal, Greater}
 use Rattle.std.proofs.Common.{arith, ap, sym, subst, ◌∙◌, inl, inr, get_or}
 use Rattle.std.proofs.lemmas.Bool.{cases_lt}
 use Rattle.std.proofs.lemmas.Nat.Bits.{same_from_bits_below}
-use Rattle.gf_exponents.specs.Exponents.{Exponents, entry}
-use Rattle.gf_exponents.specs.Orders.{lex}
-use Rattle.gf_exponents.proofs.ExponentsLaws.{entry-get_or, entry-past, same_lists}
+use Rattle.gf_exponents_theory.specs.Exponents.{Exponents, entry}
+use Rattle.gf_exponents_theory.specs.Orders.{lex}
+use Rattle.gf_exponents_theory.proofs.ExponentsLaws.{entry-get_or, entry-past, same_lists}
 use Rattle.gf_poly.specs.declared.TheConstants.{ROOM}
 use Rattle.gf_poly.specs.Monomial.{IsPlaced, IsWordOf}
 

@@ -10,7 +10,7 @@ use Rattle.std.proofs.Common.{arith, refl, sym, ap, subst, ◌∙◌, inl, inr, 
 use Rattle.std.proofs.lemmas.List.Sorted.{ranks_by}
 use Rattle.gf_frac.specs.Fraction.{Fraction, ◌*ℚ◌, reciprocal_ℚ, zero_ℚ, one_ℚ}
 use Rattle.gf_frac.proofs.FractionLaws.{reciprocal_ℚ-*ℚ, zero-*ℚ, zero-not-one}
-use Rattle.gf_exponents.specs.Orders.{lex}
+use Rattle.gf_exponents_theory.specs.Orders.{lex}
 use Rattle.gf_poly.specs.declared.error.PolyError.{PolyError}
 use Rattle.gf_poly.specs.declared.Term.{Term}
 use Rattle.gf_poly.specs.declared.products.Scaling.TheVariants.{Over}

@@ -8,8 +8,8 @@ use Rattle.gf_frac.specs.Fraction.{Fraction, ◌+ℚ◌, neg_ℚ, zero_ℚ}
 use Rattle.gf_frac.specs.Fits.{Fits}
 use Rattle.gf_frac.specs.declared.refusal.Overflow.{Overflow}
 use Rattle.gf_frac.proofs.FractionLaws.{+ℚ_assoc, +ℚ_comm, +ℚ-zero, zero-+ℚ, +ℚ-middle, +ℚ-neg_ℚ, neg_ℚ-+ℚ, neg_ℚ-neg_ℚ}
-use Rattle.gf_exponents.specs.Exponents.{Exponents, same}
-use Rattle.gf_exponents.specs.Orders.{deglex}
+use Rattle.gf_exponents_theory.specs.Exponents.{Exponents, same}
+use Rattle.gf_exponents_theory.specs.Orders.{deglex}
 use Rattle.gf_poly.specs.declared.Term.{Term}
 use Rattle.gf_poly.specs.declared.merge.Sign.{Sign}
 use Rattle.gf_poly.specs.declared.merge.Sign.TheVariants.{Plus, Minus}

@@ -7,12 +7,12 @@ use Rattle.std.proofs.lemmas.Bool.{cases_lt}
 use Rattle.std.proofs.lemmas.List.{get_or-set_same, get_or-set_other, length-set, take_all}
 use Rattle.std.proofs.lemmas.List.Elements.{All-get_or, All-from_get_or}
 use Rattle.std.proofs.lemmas.Grind.{get_or-set_at}
-use Rattle.gf_exponents.specs.Exponents.{Exponents, entry, plus, minus, join, degree, Divides}
+use Rattle.gf_exponents_theory.specs.Exponents.{Exponents, entry, plus, minus, join, degree, Divides}
 use Rattle.gf_poly.specs.declared.TheConstants.{ROOM}
 use Rattle.gf_poly.specs.Monomial.{IsMonomial, ProductFits}
-pub use Rattle.gf_exponents.proofs.ExponentsLaws.{entry-get_or, same_lists}
-use Rattle.gf_exponents.proofs.WeightLaws.{degree-plus}
-use Rattle.gf_exponents.proofs.ExponentsLaws.{entry-past, entry-plus, entry-minus, entries_same, same_by_entries}
+pub use Rattle.gf_exponents_theory.proofs.ExponentsLaws.{entry-get_or, same_lists}
+use Rattle.gf_exponents_theory.proofs.WeightLaws.{degree-plus}
+use Rattle.gf_exponents_theory.proofs.ExponentsLaws.{entry-past, entry-plus, entry-minus, entries_same, same_by_entries}
 
 -- ---- entries
 -- the first n entries of all are x

@@ -4,8 +4,8 @@ use Rattle.std.proofs.Common.{◌≡◌, ◌≢◌, ◌<◌, ◌∙◌, ◌+◌,
 use Rattle.std.proofs.Math.Seq.{take-suc}
 use Rattle.std.specs.declared.cmp.Ordering.TheVariants.{Greater}
 use Rattle.gf_frac.specs.Fraction.{zero_ℚ}
-use Rattle.gf_exponents.specs.Exponents.{Exponents}
-use Rattle.gf_exponents.specs.Orders.{deglex}
+use Rattle.gf_exponents_theory.specs.Exponents.{Exponents}
+use Rattle.gf_exponents_theory.specs.Orders.{deglex}
 use Rattle.gf_poly.specs.declared.Term.{Term}
 use Rattle.gf_poly.specs.Polynomial.{Terms, IsAbove, IsDescending}
 use Rattle.gf_poly.proofs.DescendingLaws.{greater_trans, IsAbove-push}

@@ -7,8 +7,8 @@ use Rattle.std.proofs.Math.Seq.{take-set-lt}
 use Rattle.std.proofs.lemmas.Bool.{cases_lt}
 use Rattle.std.proofs.lemmas.List.{get_or-take, length-set, length-take, length-replicate, take-replicate}
 use Rattle.std.proofs.lemmas.List.Elements.{All-replicate}
-use Rattle.gf_exponents.specs.Exponents.{Exponents, entry, plus, minus, join, Divides}
-use Rattle.gf_exponents.proofs.ExponentsLaws.{entry-get_or, entry-past, entry-plus, entry-minus, entry-join}
+use Rattle.gf_exponents_theory.specs.Exponents.{Exponents, entry, plus, minus, join, Divides}
+use Rattle.gf_exponents_theory.proofs.ExponentsLaws.{entry-get_or, entry-past, entry-plus, entry-minus, entry-join}
 use Rattle.gf_poly.specs.declared.TheConstants.{ROOM}
 use Rattle.gf_poly.specs.Monomial.{IsMonomial, IsPlaced, ProductFits}
 use Rattle.gf_poly.proofs.MonomialLaws.{ArePlacedUpTo, divides_by_entries, entries_by_divides, entry-ones, entry-raised, entry-set_other, length-plus, length-minus, length-join, limit_by_entries, entry-limit, limit-raised, same_or_not, taken_is}

@@ -5,8 +5,8 @@ use Rattle.std.specs.Prelude.{◌≡◌, Bool, true, false, if◌then◌else◌,
 use Rattle.std.proofs.Common.{refl, sym, ap, ◌∙◌, inl, inr}
 use Rattle.gf_frac.specs.Fraction.{Fraction, ◌+ℚ◌, ◌*ℚ◌, zero_ℚ, one_ℚ}
 use Rattle.gf_frac.proofs.FractionLaws.{+ℚ_assoc, zero-+ℚ, *ℚ-zero, *ℚ-+ℚ, *ℚ_assoc, *ℚ_comm, *ℚ-one}
-use Rattle.gf_exponents.specs.Exponents.{Exponents, same, plus, NoMultiple}
-use Rattle.gf_exponents.proofs.ExponentsLaws.{same-plus, same_along, multiple_or_not, plus_assoc}
+use Rattle.gf_exponents_theory.specs.Exponents.{Exponents, same, plus, NoMultiple}
+use Rattle.gf_exponents_theory.proofs.ExponentsLaws.{same-plus, same_along, multiple_or_not, plus_assoc}
 use Rattle.gf_poly.specs.Polynomial.{Terms, coefficient, SamePolynomial, times, times_term}
 
 -- ---- sums

@@ -12,9 +12,9 @@ use Rattle.std.proofs.Common.{arith, refl, sym, ap, subst, ◌∙◌, inl, inr, 
 use Rattle.std.proofs.lemmas.List.{drop_all}
 use Rattle.gf_frac.specs.Fraction.{Fraction, ◌*ℚ◌, reciprocal_ℚ, zero_ℚ, one_ℚ}
 use Rattle.gf_frac.proofs.FractionLaws.{zero-*ℚ, zero_of_*ℚ, zero_or_not, *ℚ_comm}
-use Rattle.gf_exponents.specs.Exponents.{Exponents, plus, degree}
-use Rattle.gf_exponents.specs.Orders.{deglex}
-use Rattle.gf_exponents.proofs.WeightLaws.{degree-plus}
+use Rattle.gf_exponents_theory.specs.Exponents.{Exponents, plus, degree}
+use Rattle.gf_exponents_theory.specs.Orders.{deglex}
+use Rattle.gf_exponents_theory.proofs.WeightLaws.{degree-plus}
 use Rattle.gf_poly.specs.declared.Term.{Term}
 use Rattle.gf_poly.specs.Polynomial.{Terms, coefficient, times, times_term, SamePolynomial, IsAbove, IsDescending, HasVariables, KeepsVariables}
 use Rattle.gf_poly.specs.Sums.{PushesNonzero}

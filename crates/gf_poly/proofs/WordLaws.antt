@@ -14,9 +14,9 @@ use Rattle.std.proofs.lemmas.Nat.{shr_split, div_below, or_lt, xor_lt, and_le_l,
 use Rattle.std.proofs.Math.Nat.{pow-suc, mod-le}
 use Rattle.std.proofs.Math.Pow.{pow-lt}
 use Rattle.std.proofs.lemmas.Nat.Bits.{bit_at-zero, bit_at_and, bit_at_or, bit_at_set_same, bit_at_set_other, bit_at_above, bit_at_xor, same_from_bits_below}
-use Rattle.gf_exponents.specs.Exponents.{Exponents, entry, plus, join, Divides}
-use Rattle.gf_exponents.specs.Orders.{lex}
-use Rattle.gf_exponents.proofs.ExponentsLaws.{entry-past, entry-plus, entry-join}
+use Rattle.gf_exponents_theory.specs.Exponents.{Exponents, entry, plus, join, Divides}
+use Rattle.gf_exponents_theory.specs.Orders.{lex}
+use Rattle.gf_exponents_theory.proofs.ExponentsLaws.{entry-past, entry-plus, entry-join}
 use Rattle.gf_poly.specs.declared.TheConstants.{ROOM}
 use Rattle.gf_poly.specs.Monomial.{IsWordOf}
 use Rattle.gf_poly.proofs.MonomialLaws.{same_or_not, entry-take_more, entry-take_last, entries_by_divides, entry-ones, entry-raised, entry-set_other}

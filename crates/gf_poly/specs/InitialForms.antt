@@ -2,7 +2,7 @@
 -- Laws: proofs/InitialFormLaws.antt. Source: Sturmfels, Gröbner Bases and Convex Polytopes, 1.
 use Rattle.std.specs.Prelude.{◌≡◌, ◌≢◌, ℤ, List, ◌<ℤ◌, ◌≤ℤ◌}
 use Rattle.gf_frac.specs.Fraction.{zero_ℚ}
-use Rattle.gf_exponents.specs.Exponents.{Exponents, whole_weight}
+use Rattle.gf_exponents_theory.specs.Exponents.{Exponents, whole_weight}
 use Rattle.gf_poly.specs.Polynomial.{Terms, coefficient}
 
 -- no monomial of f weighs more than x

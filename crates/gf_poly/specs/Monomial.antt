@@ -4,7 +4,7 @@
 use Rattle.std.specs.Prelude.{◌≡◌, ℕ, ◌+◌, ◌<◌, ◌≤◌, ◌^◌, length, take, All, min}
 use Rattle.std.specs.Int.{bit_at}
 use Rattle.smallvec.specs.SmallVec.{SmallVec}
-use Rattle.gf_exponents.specs.Exponents.{Exponents, entry, degree}
+use Rattle.gf_exponents_theory.specs.Exponents.{Exponents, entry, degree}
 use Rattle.gf_poly.specs.declared.TheConstants.{ROOM}
 use Rattle.gf_poly.specs.declared.monomial.ExponentOverflow.{ExponentOverflow}
 

@@ -6,8 +6,8 @@ use Rattle.gf_frac.specs.Fraction.{Fraction, ◌*ℚ◌, reciprocal_ℚ, zero_�
 use Rattle.gf_frac.specs.Fits.{FitsMul, FitsDiv}
 use Rattle.gf_frac.specs.declared.refusal.Overflow.{Overflow}
 use Rattle.gf_frac.specs.declared.refusal.Op.TheVariants.{Mul, Div}
-use Rattle.gf_exponents.specs.Exponents.{Exponents}
-use Rattle.gf_exponents.specs.Orders.{deglex}
+use Rattle.gf_exponents_theory.specs.Exponents.{Exponents}
+use Rattle.gf_exponents_theory.specs.Orders.{deglex}
 use Rattle.gf_poly.specs.declared.Term.{Term}
 use Rattle.gf_poly.specs.declared.error.PolyError.{PolyError}
 use Rattle.gf_poly.specs.Refusals.{ByKind}

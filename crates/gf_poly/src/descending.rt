@@ -3,7 +3,7 @@
 ghost use Rattle.std.specs.Prelude.{◌≡◌, ◌≢◌, ◌↔◌, IsTrue};
 ghost use Rattle.std.specs.declared.cmp.Ordering.TheVariants.{Greater};
 ghost use Rattle.gf_frac.specs.Fraction.{zero_ℚ};
-ghost use Rattle.gf_exponents.specs.Orders.{deglex};
+ghost use Rattle.gf_exponents_theory.specs.Orders.{deglex};
 ghost use Rattle.gf_poly.specs.Polynomial.{IsDescending};
 
 use super::Term;

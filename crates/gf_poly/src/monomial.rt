@@ -2,8 +2,8 @@
 //! that go over all places are unrolled, so that they take a few wide instructions.
 
 ghost use Rattle.std.specs.Prelude.{◌≡◌, ◌+◌, ◌≤◌, ◌<◌, ◌^◌, ◌↔◌, length, take, replicate, slice_index, slice_set, bit_and, bit_xor, All, IfOk, IfErr, OnOk, OnErr, IsOk, IsTrue};
-ghost use Rattle.gf_exponents.specs.Exponents.{plus, minus, join, Divides, degree as total_degree};
-ghost use Rattle.gf_exponents.specs.Orders.{lex, deglex};
+ghost use Rattle.gf_exponents_theory.specs.Exponents.{plus, minus, join, Divides, degree as total_degree};
+ghost use Rattle.gf_exponents_theory.specs.Orders.{lex, deglex};
 ghost use Rattle.gf_poly.specs.Monomial.{IsMonomial, IsPlaced, IsWordOf, ProductFits, IsFirstOverflow};
 
 use super::ROOM;
@@ -26,7 +26,7 @@ pub struct Mono {
 
 impl Model for Mono {
     ghost use Rattle.std.specs.Prelude.{take};
-    ghost use Rattle.gf_exponents.specs.Exponents.{Exponents};
+    ghost use Rattle.gf_exponents_theory.specs.Exponents.{Exponents};
     ghost use Rattle.gf_poly.specs.Monomial.{IsMono};
 
     ghost Value = { Exponents };

@@ -2,12 +2,12 @@
 use Rattle.std.proofs.Common.{◌≡◌, ℕ, suc, ◌+◌, ◌<◌, ◌≤◌, List, [], ◌∷◌, ◌++◌, length, take, drop, get_or, ℤ, Contains, arith, refl, sym, ap, ◌∙◌, subst, inl, inr, append-nil, length-append}
 use Rattle.std.proofs.lemmas.List.{take_at, take_more, take_all, drop_at, append_assoc, length-take-le}
 use Rattle.std.proofs.lemmas.List.Elements.{All-append, All-contains}
-use Rattle.gf_int.specs.Content.{IsPrimitive}
+use Rattle.gf_int_theory.specs.Content.{IsPrimitive}
 use Rattle.gf_gordan.specs.Alternative.{AreRows}
 use Rattle.gf_gordan.specs.declared.error.ConeOverflow.{ConeOverflow}
-use Rattle.gf_duality.specs.Generators.{IsDescribed}
-use Rattle.gf_duality.specs.Rays.{IsRays}
-use Rattle.gf_duality.proofs.Determined.{described_of}
+use Rattle.gf_duality_theory.specs.Generators.{IsDescribed}
+use Rattle.gf_duality_theory.specs.Rays.{IsRays}
+use Rattle.gf_duality_theory.proofs.Determined.{described_of}
 use Rattle.gf_rays.specs.declared.ray.Ray.{Ray}
 use Rattle.gf_rays.specs.Cones.{RowsAndRays, IsComplete}
 use Rattle.gf_rays.specs.Further.{IsTaken, IsFurtherState, begun, taken, IsFurtherRowStep, IsEndStep, AreMarkedRays, IsFurtherStep, taking, ending}

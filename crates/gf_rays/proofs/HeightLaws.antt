@@ -9,10 +9,10 @@ use Rattle.std.proofs.lemmas.List.Elements.{All-contains, Contains-get_or}
 use Rattle.std.proofs.lemmas.List.Quantifiers.{position-Some}
 use Rattle.std.proofs.lemmas.Option.{none-some, same_Some}
 use Rattle.std.proofs.lemmas.List.Sorted.{Contains-permutation, IsPermutation-sym}
-use Rattle.gf_int.proofs.ListLaws.{Contains-here, all_by}
-use Rattle.gf_duality.proofs.ListLaws.{none_in, in_tail, in_cons, place, less, at, more}
-use Rattle.gf_fans.specs.Heights.{IsWithinPart, IsNextBelow}
-use Rattle.gf_fans.proofs.Ordered.{by_lengths, within_short, within_all, same_numbers, still_apart, decide_same}
+use Rattle.gf_int_theory.proofs.ListLaws.{Contains-here, all_by}
+use Rattle.gf_duality_theory.proofs.ListLaws.{none_in, in_tail, in_cons, place, less, at, more}
+use Rattle.gf_fans_theory.specs.Heights.{IsWithinPart, IsNextBelow}
+use Rattle.gf_fans_theory.proofs.Ordered.{by_lengths, within_short, within_all, same_numbers, still_apart, decide_same}
 use Rattle.gf_rays.specs.declared.ray.Ray.{Ray}
 use Rattle.gf_rays.specs.FlagFaces.{IsNarrowed, AreFlagFaces, AreSortedParts, IsFlatPart, IsPartAtFlag, later_place, IsLastAtFlags}
 

@@ -4,9 +4,9 @@ use Rattle.std.proofs.lemmas.Int.{ints}
 use Rattle.std.proofs.lemmas.List.{get_or_append_left, get_or_default, length-append, take_more}
 use Rattle.std.proofs.lemmas.List.Elements.{All-push, Contains-push}
 use Rattle.std.proofs.Math.Seq.{get_or-append_seam}
-use Rattle.gf_int.proofs.ListLaws.{Contains-last}
+use Rattle.gf_int_theory.proofs.ListLaws.{Contains-last}
 use Rattle.gf_vec.specs.Vector.{dot}
-use Rattle.gf_duality.proofs.ListLaws.{first_in, place, less, at, more}
+use Rattle.gf_duality_theory.proofs.ListLaws.{first_in, place, less, at, more}
 use Rattle.gf_rays.specs.declared.ray.Ray.{Ray}
 use Rattle.gf_rays.specs.Splitting.{IsRayKept, IsSplit, AreValues}
 use Rattle.gf_rays.proofs.SplitLoops.{value_of, values_long}

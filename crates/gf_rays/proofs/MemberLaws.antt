@@ -6,9 +6,9 @@ use Rattle.std.proofs.lemmas.Bool.{eqb-true}
 use Rattle.std.proofs.lemmas.List.{get_or_default, take_more}
 use Rattle.std.proofs.lemmas.List.Elements.{All-contains, Contains-push}
 use Rattle.std.proofs.lemmas.Nat.Bits.{bit_at-lt}
-use Rattle.gf_int.proofs.ListLaws.{Contains-last, all_by}
-use Rattle.gf_duality.proofs.ListLaws.{first_in, place, less, at, more}
-use Rattle.gf_fans.specs.Heights.{IsWithinPart, IsNextBelow}
+use Rattle.gf_int_theory.proofs.ListLaws.{Contains-last, all_by}
+use Rattle.gf_duality_theory.proofs.ListLaws.{first_in, place, less, at, more}
+use Rattle.gf_fans_theory.specs.Heights.{IsWithinPart, IsNextBelow}
 use Rattle.gf_rays.specs.Flags.{IsBelow, IsRoomFor, bit_of, flags_of}
 use Rattle.gf_rays.specs.FlagFaces.{AreInside, AreFlagsAt, ArePartFlags, IsLastBelow}
 use Rattle.gf_rays.proofs.FlagLaws.{flags_long, flag_is}

@@ -3,9 +3,9 @@ use Rattle.std.proofs.Common.{◌≡◌, ℕ, suc, ◌+◌, ◌<◌, ◌≤◌, 
 use Rattle.std.proofs.lemmas.List.{take_more, take_all}
 use Rattle.gf_gordan.specs.Alternative.{AreRows}
 use Rattle.gf_gordan.specs.declared.error.ConeOverflow.{ConeOverflow}
-use Rattle.gf_duality.specs.Rays.{IsZeroOn}
-use Rattle.gf_duality.specs.Elimination.{IsEliminationStep}
-use Rattle.gf_duality.proofs.ListLaws.{none_in, first_in}
+use Rattle.gf_duality_theory.specs.Rays.{IsZeroOn}
+use Rattle.gf_duality_theory.specs.Elimination.{IsEliminationStep}
+use Rattle.gf_duality_theory.proofs.ListLaws.{none_in, first_in}
 use Rattle.gf_rays.specs.declared.ray.Ray.{Ray}
 use Rattle.gf_rays.specs.FlatRows.{AreFlatRows, AreFlatFirst, none as first_none, taken as first_taken, left as first_left}
 use Rattle.gf_rays.specs.Leveling.{IsRowStep}
@@ -19,7 +19,7 @@ use Rattle.gf_rays.proofs.StepLaws.{length-take-within}
 use Rattle.gf_rays.proofs.StraightLaws.{parts_at}
 use Rattle.gf_rays.proofs.ImpliedLaws.{flat_zero, zero_flat}
 use Rattle.std.proofs.lemmas.List.Elements.{Contains-push}
-use Rattle.gf_int.proofs.ListLaws.{Contains-last}
+use Rattle.gf_int_theory.proofs.ListLaws.{Contains-last}
 
 -- each reached state is one
 pub reached_state : (n : ℕ) (es hs lin : List (List ℤ)) (rays : List Ray) → AreRows n es → IsReachedState n es hs lin rays → IsConeState n hs es lin rays

@@ -6,9 +6,9 @@ use Rattle.std.proofs.lemmas.List.{get_or_default, get_or_append_left}
 use Rattle.std.proofs.lemmas.List.Edits.{length-remove}
 use Rattle.std.proofs.lemmas.Slice.Zip.{AllZip-long}
 use Rattle.std.proofs.lemmas.List.Elements.{All-contains, Contains-append_cases, Contains-append_left, Contains-push}
-use Rattle.gf_int.specs.Content.{scaled}
-use Rattle.gf_int.proofs.SignLaws.{zero-cancel, 0<-cancel, zero_product, mul_positive}
-use Rattle.gf_int.proofs.ListLaws.{Contains-last, all_by}
+use Rattle.gf_int_theory.specs.Content.{scaled}
+use Rattle.gf_int_theory.proofs.SignLaws.{zero-cancel, 0<-cancel, zero_product, mul_positive}
+use Rattle.gf_int_theory.proofs.ListLaws.{Contains-last, all_by}
 use Rattle.gf_vec.specs.declared.error.VecOp.{VecOp}
 use Rattle.gf_vec.specs.declared.error.VecOp.TheVariants.{Add, Sub, Mul}
 use Rattle.gf_vec.specs.Vector.{dot, vector_sum, zeros, values, entry_at, opposite}
@@ -20,13 +20,13 @@ use Rattle.gf_gordan.specs.Elimination.{row_at, size_at, signed_at}
 use Rattle.gf_gordan.specs.Sizes.{HaveEntriesUpTo}
 use Rattle.gf_gordan.specs.Steps.{IsDotStep}
 use Rattle.gf_gordan.specs.declared.error.ConeOverflow.{ConeOverflow}
-use Rattle.gf_duality.specs.Combining.{IsMixStep, IsCombining, pair}
-use Rattle.gf_duality.specs.Generators.{unit_vectors}
-use Rattle.gf_duality.specs.Rays.{IsZeroOn}
-use Rattle.gf_duality.specs.Elimination.{IsTurned, IsEliminated, begun as eliminated_begun, skipped, turned, IsEliminationStep, IsNormalised, IsNullSpace, IsNullStep, eliminating, reducing, columns}
-use Rattle.gf_duality.specs.Straightening.{IsLeveled, IsStraightened, done as straight_done, next as straight_next, IsOrthogonalized, start, added, gone, IsOrthogonalizing}
-use Rattle.gf_duality.proofs.ListLaws.{none_in, first_in, zip_from, of_rest, place, less, at, more}
-use Rattle.gf_duality.proofs.Echelon.{turn_in}
+use Rattle.gf_duality_theory.specs.Combining.{IsMixStep, IsCombining, pair}
+use Rattle.gf_duality_theory.specs.Generators.{unit_vectors}
+use Rattle.gf_duality_theory.specs.Rays.{IsZeroOn}
+use Rattle.gf_duality_theory.specs.Elimination.{IsTurned, IsEliminated, begun as eliminated_begun, skipped, turned, IsEliminationStep, IsNormalised, IsNullSpace, IsNullStep, eliminating, reducing, columns}
+use Rattle.gf_duality_theory.specs.Straightening.{IsLeveled, IsStraightened, done as straight_done, next as straight_next, IsOrthogonalized, start, added, gone, IsOrthogonalizing}
+use Rattle.gf_duality_theory.proofs.ListLaws.{none_in, first_in, zip_from, of_rest, place, less, at, more}
+use Rattle.gf_duality_theory.proofs.Echelon.{turn_in}
 use Rattle.gf_rays.specs.declared.ray.Ray.{Ray}
 use Rattle.gf_rays.specs.Leveling.{IsLine, IsLinedBy, IsLeveledRay, IsLeveling, IsRowStep, lineal, splitting, leveling}
 use Rattle.gf_rays.specs.Limits.{turned_bound, next_bound, reached_bound, IsPointed, IsUnitRow, BeginWithUnits, SmallSystemsStayWithinLimits, PartsOfOrthantsStayWithinLimits, TwoRowsOfThreeVariables}
@@ -38,8 +38,8 @@ use Rattle.gf_rays.proofs.PruneLaws.{of_pruned}
 use Rattle.gf_rays.proofs.ReachedLaws.{reached_state, chosen_in}
 use Rattle.gf_gordan.proofs.SizeLaws.{UpTo, sum_up, neg_up, difference_up, product_up, up_weaker, up_times, up_sum, up_divided, up_zeros, less_of, dot_up}
 use Rattle.gf_rays.proofs.SplitLaws.{vector_in, of_vector}
-use Rattle.gf_duality.proofs.NullSpace.{right_columns}
-use Rattle.gf_duality.proofs.EchelonUnique.{no_widths}
+use Rattle.gf_duality_theory.proofs.NullSpace.{right_columns}
+use Rattle.gf_duality_theory.proofs.EchelonUnique.{no_widths}
 use Rattle.gf_gordan.proofs.ReducedSizes.{signed_up}
 use Rattle.gf_gordan.proofs.StepSizes.{no_wide, no_dot}
 

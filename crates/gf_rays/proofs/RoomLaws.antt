@@ -12,14 +12,14 @@ use Rattle.gf_gordan.specs.Alternative.{AreRows}
 use Rattle.gf_gordan.specs.Sizes.{HaveEntriesUpTo}
 use Rattle.gf_gordan.specs.declared.error.ConeOverflow.{ConeOverflow}
 use Rattle.gf_gordan.proofs.SizeLaws.{UpTo, neg_up, up_weaker, up_times, up_sum, up_divided, up_append, up_cons, up_none, up_drop, less_of, dot_up}
-use Rattle.gf_duality.specs.Combining.{pair}
-use Rattle.gf_duality.specs.Generators.{unit_vectors}
-use Rattle.gf_duality.specs.Rays.{IsRays, IsZeroOn}
-use Rattle.gf_duality.specs.Elimination.{IsEliminated, IsNormalised, IsNullSpace, IsNullStep, eliminating, reducing, with_values, columns}
-use Rattle.gf_duality.specs.Straightening.{IsLeveled, IsStraightened, done as straight_done, next as straight_next, IsOrthogonalized, start, added, gone, IsStraightening, IsOrthogonalizing}
-use Rattle.gf_duality.proofs.ListLaws.{none_in, first_in, zip_from, place, less, at, more}
-use Rattle.gf_duality.proofs.Orthogonal.{basis as orthogonal_basis, straightened, head_in}
-use Rattle.gf_fans.proofs.PartNumbers.{of_map}
+use Rattle.gf_duality_theory.specs.Combining.{pair}
+use Rattle.gf_duality_theory.specs.Generators.{unit_vectors}
+use Rattle.gf_duality_theory.specs.Rays.{IsRays, IsZeroOn}
+use Rattle.gf_duality_theory.specs.Elimination.{IsEliminated, IsNormalised, IsNullSpace, IsNullStep, eliminating, reducing, with_values, columns}
+use Rattle.gf_duality_theory.specs.Straightening.{IsLeveled, IsStraightened, done as straight_done, next as straight_next, IsOrthogonalized, start, added, gone, IsStraightening, IsOrthogonalizing}
+use Rattle.gf_duality_theory.proofs.ListLaws.{none_in, first_in, zip_from, place, less, at, more}
+use Rattle.gf_duality_theory.proofs.Orthogonal.{basis as orthogonal_basis, straightened, head_in}
+use Rattle.gf_fans_theory.proofs.PartNumbers.{of_map}
 use Rattle.gf_rays.specs.declared.ray.Ray.{Ray}
 use Rattle.gf_rays.specs.Further.{IsTaken, by_split, by_line, IsFurtherState, begun as begun_further, taken, IsEndStep, lineality as end_lineality, straight as end_straight, echelon as end_echelon, implied as end_implied, AreMarkedRays, IsFurtherStep, taking as taking_further, ending}
 use Rattle.gf_rays.specs.Leveling.{IsLine, IsLinedBy}
@@ -34,8 +34,8 @@ use Rattle.gf_rays.proofs.ReachedLaws.{reached_state, chosen_in}
 use Rattle.gf_rays.proofs.SplitLaws.{vector_in, of_vector}
 use Rattle.gf_rays.proofs.ReachedSizes.{AreUpTo, BothUpTo, mono, turned_step, next_step, no_combining, not_sub, eliminated_up, elimination_counts, no_elimination, begin_rows, normal_up, unitary_eliminated, unitary_up, units_unitary, entry_up, sized_last, snoc_long, split_up, lined_up, no_row_step, room_below, middle_in, front_in}
 use Rattle.gf_gordan.proofs.StepSizes.{no_dot}
-use Rattle.gf_int.proofs.SignLaws.{mul_positive}
-use Rattle.gf_int.proofs.ListLaws.{Contains-last, all_by}
+use Rattle.gf_int_theory.proofs.SignLaws.{mul_positive}
+use Rattle.gf_int_theory.proofs.ListLaws.{Contains-last, all_by}
 
 -- ---- along vectors, to be orthogonal to them
 

@@ -2,17 +2,17 @@
 use Rattle.std.proofs.Common.{◌≡◌, ℕ, ◌*◌, ◌<◌, List, [], ◌∷◌, length, ℤ, pos, ◌*ℤ◌, ◌<ℤ◌, neg_ℤ, unsigned_abs, ◌⊎◌, inl, inr, arith, sym, refl, ap, ap₂, ◌∙◌, subst}
 use Rattle.std.proofs.lemmas.Int.{ints}
 use Rattle.std.proofs.lemmas.Bool.{cases_eq}
-use Rattle.gf_int.specs.Content.{AllZero, scaled, quotients}
-use Rattle.gf_int.proofs.ContentLaws.{IsContent-exists}
-use Rattle.gf_int.proofs.RingLaws.{dn, ◌⊗◌}
-use Rattle.gf_int.proofs.SignLaws.{mul_positive}
+use Rattle.gf_int_theory.specs.Content.{AllZero, scaled, quotients}
+use Rattle.gf_int_theory.proofs.ContentLaws.{IsContent-exists}
+use Rattle.gf_int_theory.proofs.RingLaws.{dn, ◌⊗◌}
+use Rattle.gf_int_theory.proofs.SignLaws.{mul_positive}
 use Rattle.gf_vec.specs.Vector.{vector_sum, entry_at}
 use Rattle.gf_vec.specs.Primitive.{IsDivided, IsPrimitivePart}
 use Rattle.gf_vec.proofs.DividedLaws.{IsDivided-quotients}
 use Rattle.gf_vec.proofs.PrimitiveLaws.{times_cancel, primitive_of, primitive_same}
 use Rattle.gf_vec.proofs.VectorIdentities.{vv, ◌⊞◌, ◌⊡◌, vsame}
 use Rattle.gf_gordan.specs.Elimination.{signed_at}
-use Rattle.gf_duality.specs.Elimination.{IsTurned}
+use Rattle.gf_duality_theory.specs.Elimination.{IsTurned}
 
 zero_or : (xs : List ℤ) → AllZero xs ⊎ (AllZero xs → ⊥)
 zero_or [] = inl tt

@@ -3,9 +3,9 @@ use Rattle.std.specs.Prelude.{◌≡◌, ℕ, zero, suc, ◌+◌, ◌*◌, ◌^�
 use Rattle.gf_vec.specs.Vector.{dot, zeros}
 use Rattle.gf_gordan.specs.Alternative.{AreRows}
 use Rattle.gf_gordan.specs.Sizes.{HaveEntriesUpTo}
-use Rattle.gf_duality.specs.Generators.{unit_vectors}
-use Rattle.gf_duality.specs.Faces.{Rows}
-use Rattle.gf_duality.specs.Rays.{IsRays}
+use Rattle.gf_duality_theory.specs.Generators.{unit_vectors}
+use Rattle.gf_duality_theory.specs.Faces.{Rows}
+use Rattle.gf_duality_theory.specs.Rays.{IsRays}
 use Rattle.gf_rays.specs.Cones.{RowsAndRays, rows_of, AreRaysWithinLimits}
 use Rattle.gf_rays.specs.Further.{AreFurtherWithinLimits}
 

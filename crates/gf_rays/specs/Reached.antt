@@ -2,9 +2,9 @@
 use Rattle.std.specs.Prelude.{◌≡◌, ℕ, ◌+◌, ◌<◌, List, [], ◌∷◌, ◌++◌, ℤ, pos, length, All, Contains, remove}
 use Rattle.gf_vec.specs.Vector.{dot}
 use Rattle.gf_gordan.specs.declared.error.ConeOverflow.{ConeOverflow}
-use Rattle.gf_duality.specs.Rays.{IsZeroOn}
-use Rattle.gf_duality.specs.Elimination.{IsNullSpace, IsNullStep, IsEliminationStep}
-use Rattle.gf_duality.specs.Straightening.{IsOrthogonalized, IsStraightening, IsOrthogonalizing}
+use Rattle.gf_duality_theory.specs.Rays.{IsZeroOn}
+use Rattle.gf_duality_theory.specs.Elimination.{IsNullSpace, IsNullStep, IsEliminationStep}
+use Rattle.gf_duality_theory.specs.Straightening.{IsOrthogonalized, IsStraightening, IsOrthogonalizing}
 use Rattle.gf_rays.specs.declared.ray.Ray.{Ray}
 use Rattle.gf_rays.specs.MarkedRays.{IsInside, IsPruned}
 use Rattle.gf_rays.specs.Splitting.{IsSplit}

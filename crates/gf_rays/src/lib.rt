@@ -1,7 +1,7 @@
 //! The rays and the lineality space of a cone that is given by inequalities and equations, and what is read from them.
 //!
 //! One inequality after another is taken in (the double description of Motzkin, Raiffa, Thompson and Thrall). Read
-//! `gf_duality/specs/Rays.antt` first, then `specs/Cones.antt`.
+//! `gf_duality_theory/specs/Rays.antt` first, then `specs/Cones.antt`.
 #![tactic(auto)]
 
 mod combine;

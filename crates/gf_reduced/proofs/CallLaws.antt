@@ -5,11 +5,11 @@ use Rattle.std.proofs.Common.{refl, sym, ap, ◌∙◌, subst}
 use Rattle.gf_poly.specs.Polynomial.{Terms, coefficient, IsDescending, HasVariables}
 use Rattle.gf_poly.proofs.CoefficientLaws.{descending_unique}
 use Rattle.gf_poly.specs.Marking.{MarkedPolynomial, MarkedPolynomials, Each, HaveVariables, HasMarkedTerm, IsArranged, polys}
-use Rattle.gf_ideal.specs.Marks.{IsRealisable}
-use Rattle.gf_ideal.specs.Membership.{IsMember}
-use Rattle.gf_ideal.specs.Bases.{IsBasis}
-use Rattle.gf_ideal.proofs.ListedTerms.{variables_by_terms}
-use Rattle.gf_ideal.proofs.LawsOfBasesHold.{membership_is_decided}
+use Rattle.gf_ideal_theory.specs.Marks.{IsRealisable}
+use Rattle.gf_ideal_theory.specs.Membership.{IsMember}
+use Rattle.gf_ideal_theory.specs.Bases.{IsBasis}
+use Rattle.gf_ideal_theory.proofs.ListedTerms.{variables_by_terms}
+use Rattle.gf_ideal_theory.proofs.LawsOfBasesHold.{membership_is_decided}
 use Rattle.gf_division.specs.NormalForms.{HasSomeWeight}
 use Rattle.gf_division.specs.Remainders.{IsRemainder}
 use Rattle.gf_reduced.specs.Forms.{monic_of, monic_set}

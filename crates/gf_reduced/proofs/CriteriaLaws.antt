@@ -8,17 +8,17 @@ use Rattle.std.proofs.lemmas.List.{get_or_default}
 use Rattle.std.proofs.lemmas.Slice.Eq.{slice_eq-Decides}
 use Rattle.std.proofs.lemmas.Bool.Decides.{Decides-eqb}
 use lib.Pointwise.{pointwise}
-use Rattle.gf_exponents.specs.Exponents.{Exponents, entry, plus, join, Divides, AreCoprime}
-use Rattle.gf_exponents.specs.Orders.{lighter}
-use Rattle.gf_exponents.proofs.ExponentsLaws.{entry-plus, entry-join, same_by_entries, entries_same}
-use Rattle.gf_exponents.proofs.OrderLaws.{lighter-strict}
+use Rattle.gf_exponents_theory.specs.Exponents.{Exponents, entry, plus, join, Divides, AreCoprime}
+use Rattle.gf_exponents_theory.specs.Orders.{lighter}
+use Rattle.gf_exponents_theory.proofs.ExponentsLaws.{entry-plus, entry-join, same_by_entries, entries_same}
+use Rattle.gf_exponents_theory.proofs.OrderLaws.{lighter-strict}
 use Rattle.gf_poly.specs.Marking.{MarkedPolynomial, HaveVariables, HasMarkedTerm, polys}
-use Rattle.gf_ideal.specs.Membership.{AreInVariables}
-use Rattle.gf_ideal.specs.Marks.{AreMarked, IsRealisable}
-use Rattle.gf_ideal.specs.Settled.{IsAt, IsSettledPair, ArePairsSettled}
-use Rattle.gf_ideal.proofs.CriteriaLaws.{pair_by_steps, pair_by_product, pair_by_chain, pair_turned}
-use Rattle.gf_ideal.proofs.LawsOfBasesHold.{buchbergers_criterion}
-use Rattle.gf_ideal.proofs.NormalFormLaws.{normal_form-reached}
+use Rattle.gf_ideal_theory.specs.Membership.{AreInVariables}
+use Rattle.gf_ideal_theory.specs.Marks.{AreMarked, IsRealisable}
+use Rattle.gf_ideal_theory.specs.Settled.{IsAt, IsSettledPair, ArePairsSettled}
+use Rattle.gf_ideal_theory.proofs.CriteriaLaws.{pair_by_steps, pair_by_product, pair_by_chain, pair_turned}
+use Rattle.gf_ideal_theory.proofs.LawsOfBasesHold.{buchbergers_criterion}
+use Rattle.gf_ideal_theory.proofs.NormalFormLaws.{normal_form-reached}
 use Rattle.gf_division.proofs.ReducerLaws.{members_equal, member_contained, member_length}
 use Rattle.gf_division.proofs.SPolynomialLaws.{join_length, divides_left}
 use Rattle.gf_reduced.specs.Forms.{monic_of}

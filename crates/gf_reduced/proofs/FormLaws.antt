@@ -6,7 +6,7 @@ use Rattle.std.proofs.Common.{arith, refl, sym, ap, ◌∙◌, subst, get_or, ta
 use Rattle.std.proofs.lemmas.List.{take_all}
 use Rattle.gf_frac.specs.Fraction.{Fraction, ◌*ℚ◌, reciprocal_ℚ, zero_ℚ}
 use Rattle.gf_frac.proofs.FractionLaws.{*ℚ_assoc, *ℚ-reciprocal_ℚ, one-*ℚ}
-use Rattle.gf_exponents.proofs.ExponentsLaws.{same-refl}
+use Rattle.gf_exponents_theory.proofs.ExponentsLaws.{same-refl}
 use Rattle.gf_poly.specs.declared.error.PolyError.{PolyError}
 use Rattle.gf_poly.specs.declared.error.PolyError.TheVariants as errors
 use Rattle.gf_poly.specs.Polynomial.{Terms, coefficient, times, HasVariables}
@@ -16,16 +16,16 @@ use Rattle.gf_poly.proofs.CoefficientLaws.{descending_unique, term_coefficient, 
 use Rattle.gf_poly.proofs.PolynomialLaws.{coefficient-times}
 use Rattle.gf_poly.proofs.ProductLaws.{IsDescending-scaled, KeepsVariables-scaled, IsScaled-products, HasVariables-scale}
 use Rattle.gf_poly.proofs.MarkingLaws.{nonzero_reciprocal}
-use Rattle.gf_exponents.specs.Orders.{lighter}
-use Rattle.gf_int.proofs.ListLaws.{Contains-here}
-use Rattle.gf_ideal.specs.Membership.{HasMonomial}
-use Rattle.gf_ideal.specs.Marks.{AreMarked, IsRealisedBy, IsRealisable}
-use Rattle.gf_ideal.specs.Reduction.{IsMonicForm, AreMonicForms}
-use Rattle.gf_ideal.specs.Bases.{IsCanonical}
-use Rattle.gf_ideal.proofs.KeptForms.{marked_there, canonical_marked}
-use Rattle.gf_ideal.proofs.GeneratorLaws.{monic-from}
-use Rattle.gf_ideal.proofs.ListLaws.{Contains-cases, Contains-there}
-use Rattle.gf_ideal.proofs.MarkWeights.{monic_realised}
+use Rattle.gf_exponents_theory.specs.Orders.{lighter}
+use Rattle.gf_int_theory.proofs.ListLaws.{Contains-here}
+use Rattle.gf_ideal_theory.specs.Membership.{HasMonomial}
+use Rattle.gf_ideal_theory.specs.Marks.{AreMarked, IsRealisedBy, IsRealisable}
+use Rattle.gf_ideal_theory.specs.Reduction.{IsMonicForm, AreMonicForms}
+use Rattle.gf_ideal_theory.specs.Bases.{IsCanonical}
+use Rattle.gf_ideal_theory.proofs.KeptForms.{marked_there, canonical_marked}
+use Rattle.gf_ideal_theory.proofs.GeneratorLaws.{monic-from}
+use Rattle.gf_ideal_theory.proofs.ListLaws.{Contains-cases, Contains-there}
+use Rattle.gf_ideal_theory.proofs.MarkWeights.{monic_realised}
 use Rattle.gf_division.proofs.ReducerLaws.{member_at, member_contained}
 use Rattle.gf_reduced.specs.Forms.{monic_of, IsFormRefusal}
 

@@ -3,26 +3,26 @@
 use Rattle.std.specs.Prelude.{◌≡◌, ◌≢◌, ℕ, true, List, [], map, Contains, IsPermutation}
 use Rattle.std.proofs.Common.{sym, subst}
 use Rattle.std.proofs.lemmas.List.Sorted.{Contains-permutation}
-use Rattle.gf_exponents.specs.Exponents.{Exponents, same, plus}
-use Rattle.gf_exponents.specs.Orders.{lighter}
+use Rattle.gf_exponents_theory.specs.Exponents.{Exponents, same, plus}
+use Rattle.gf_exponents_theory.specs.Orders.{lighter}
 use Rattle.gf_poly.specs.Polynomial.{Terms, HasVariables}
 use Rattle.gf_poly.specs.Marking.{MarkedPolynomial, MarkedPolynomials, HaveVariables, polys, IsArranged}
 use Rattle.gf_poly.proofs.CoefficientLaws.{descending_unique}
-use Rattle.gf_ideal.specs.Membership.{HasMonomial, IsMember, AreInVariables, AreSameIdeal, IsInVariables}
-use Rattle.gf_ideal.specs.Marks.{IsRealisable}
-use Rattle.gf_ideal.specs.Reduction.{IsDivisible, IsSPolynomial}
-use Rattle.gf_ideal.specs.Bases.{IsBasis, IsGroebnerBasis}
-use Rattle.gf_ideal.specs.Settled.{IsAt}
-use Rattle.gf_ideal.proofs.MembershipLaws.{member-generator, same_ideal}
-use Rattle.gf_ideal.proofs.PieceLaws.{Contains-polys, Contains-marked}
-use Rattle.gf_ideal.proofs.ListLaws.{contained_each}
-use Rattle.gf_ideal.proofs.ListedTerms.{variables_by_terms}
-use Rattle.gf_ideal.proofs.StepLaws.{member-s_polynomial}
-use Rattle.gf_ideal.proofs.NormalFormLaws.{normal_form-reached}
-use Rattle.gf_ideal.proofs.GeneratorLaws.{monic_list}
-use Rattle.gf_ideal.proofs.MarkWeights.{mark-there}
-use Rattle.gf_ideal.proofs.BasisLaws.{remainder_zero, basis_of_groebner, basis_along}
-use Rattle.gf_ideal.proofs.ArrangementLaws.{basis-arranged, members_from}
+use Rattle.gf_ideal_theory.specs.Membership.{HasMonomial, IsMember, AreInVariables, AreSameIdeal, IsInVariables}
+use Rattle.gf_ideal_theory.specs.Marks.{IsRealisable}
+use Rattle.gf_ideal_theory.specs.Reduction.{IsDivisible, IsSPolynomial}
+use Rattle.gf_ideal_theory.specs.Bases.{IsBasis, IsGroebnerBasis}
+use Rattle.gf_ideal_theory.specs.Settled.{IsAt}
+use Rattle.gf_ideal_theory.proofs.MembershipLaws.{member-generator, same_ideal}
+use Rattle.gf_ideal_theory.proofs.PieceLaws.{Contains-polys, Contains-marked}
+use Rattle.gf_ideal_theory.proofs.ListLaws.{contained_each}
+use Rattle.gf_ideal_theory.proofs.ListedTerms.{variables_by_terms}
+use Rattle.gf_ideal_theory.proofs.StepLaws.{member-s_polynomial}
+use Rattle.gf_ideal_theory.proofs.NormalFormLaws.{normal_form-reached}
+use Rattle.gf_ideal_theory.proofs.GeneratorLaws.{monic_list}
+use Rattle.gf_ideal_theory.proofs.MarkWeights.{mark-there}
+use Rattle.gf_ideal_theory.proofs.BasisLaws.{remainder_zero, basis_of_groebner, basis_along}
+use Rattle.gf_ideal_theory.proofs.ArrangementLaws.{basis-arranged, members_from}
 use Rattle.gf_division.specs.NormalForms.{HasSomeWeight}
 use Rattle.gf_division.proofs.ReducerLaws.{members_equal, member_contained}
 use Rattle.gf_reduced.specs.Forms.{monic_of, monic_set}

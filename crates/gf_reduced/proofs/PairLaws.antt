@@ -8,8 +8,8 @@ use Rattle.gf_poly.specs.declared.error.PolyError.{PolyError}
 use Rattle.gf_poly.specs.declared.error.PolyError.TheVariants as errors
 use Rattle.gf_poly.specs.Polynomial.{Terms, coefficient, IsDescending, KeepsVariables}
 use Rattle.gf_poly.specs.Marking.{MarkedPolynomial, HaveVariables}
-use Rattle.gf_ideal.specs.NormalForms.{IsNormalForm}
-use Rattle.gf_ideal.specs.Settled.{IsAt}
+use Rattle.gf_ideal_theory.specs.NormalForms.{IsNormalForm}
+use Rattle.gf_ideal_theory.specs.Settled.{IsAt}
 use Rattle.gf_division.specs.NormalForms.{HasSomeWeight, HaveSameVariables}
 use Rattle.gf_division.specs.SPolynomials.{ArePairOf, KeepsPairVariables, IsSPolynomialOf, IsPairRefusal}
 use Rattle.gf_division.specs.Steps.{IsReductionRefusal}

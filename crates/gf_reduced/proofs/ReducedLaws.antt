@@ -3,20 +3,20 @@
 use Rattle.std.specs.Prelude.{◌≡◌, ◌≢◌, ℕ, suc, Bool, true, false, if◌then◌else◌, List, [], ◌∷◌, map, Contains}
 use Rattle.std.proofs.Common.{arith, refl, sym, subst, inl, inr}
 use Rattle.std.proofs.lemmas.List.Sorted.{Contains-permutation, IsPermutation-sym}
-use Rattle.gf_exponents.specs.Exponents.{Exponents, same, plus, NoMultiple}
-use Rattle.gf_exponents.proofs.ExponentsLaws.{same_trans, same_flip}
+use Rattle.gf_exponents_theory.specs.Exponents.{Exponents, same, plus, NoMultiple}
+use Rattle.gf_exponents_theory.proofs.ExponentsLaws.{same_trans, same_flip}
 use Rattle.gf_poly.specs.declared.Term.{Term}
 use Rattle.gf_poly.specs.Polynomial.{Terms, HasVariables}
 use Rattle.gf_poly.specs.Marking.{MarkedPolynomial, MarkedPolynomials, Each, HaveVariables, HasMarkedTerm, IsArranged}
-use Rattle.gf_ideal.specs.Membership.{HasMonomial}
-use Rattle.gf_ideal.specs.Reduction.{IsDivisible}
-use Rattle.gf_ideal.specs.Bases.{AreApart, HasReducedTails, IsCanonical, AreArranged}
-use Rattle.gf_ideal.specs.Settled.{IsAt}
-use Rattle.gf_ideal.proofs.ListLaws.{each_contained, contained_each}
-use Rattle.gf_ideal.proofs.ListedTerms.{by_terms}
-use Rattle.gf_ideal.proofs.KeptForms.{arranged_list}
-use Rattle.gf_ideal.proofs.StepLaws.{monic-monomials}
-use Rattle.gf_ideal.proofs.ArrangementLaws.{apart-arranged}
+use Rattle.gf_ideal_theory.specs.Membership.{HasMonomial}
+use Rattle.gf_ideal_theory.specs.Reduction.{IsDivisible}
+use Rattle.gf_ideal_theory.specs.Bases.{AreApart, HasReducedTails, IsCanonical, AreArranged}
+use Rattle.gf_ideal_theory.specs.Settled.{IsAt}
+use Rattle.gf_ideal_theory.proofs.ListLaws.{each_contained, contained_each}
+use Rattle.gf_ideal_theory.proofs.ListedTerms.{by_terms}
+use Rattle.gf_ideal_theory.proofs.KeptForms.{arranged_list}
+use Rattle.gf_ideal_theory.proofs.StepLaws.{monic-monomials}
+use Rattle.gf_ideal_theory.proofs.ArrangementLaws.{apart-arranged}
 use Rattle.gf_division.proofs.RuleLaws.{no_multiple}
 use Rattle.gf_reduced.specs.Forms.{monic_of, monic_set}
 use Rattle.gf_reduced.specs.Markings.{IsMarkedGroebnerBasis, IsBasisOf, IsReducedBasisOf}

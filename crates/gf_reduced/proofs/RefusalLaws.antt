@@ -11,14 +11,14 @@ use Rattle.gf_poly.specs.Marking.{MarkedPolynomial, MarkedPolynomials, Each, Hav
 use Rattle.gf_gordan.specs.declared.error.GordanError.{GordanError}
 use Rattle.gf_gordan.specs.declared.error.GordanError.TheVariants as gordan_errors
 use Rattle.gf_gordan.specs.Steps.{Failed}
-use Rattle.gf_ideal.specs.Marks.{IsRealisable}
+use Rattle.gf_ideal_theory.specs.Marks.{IsRealisable}
 use Rattle.gf_division.specs.Steps.{IsReductionRefusal}
 use Rattle.gf_reduced.specs.declared.error.CheckError.{CheckError}
 use Rattle.gf_reduced.specs.declared.error.CheckError.TheVariants as check_errors
 use Rattle.gf_reduced.specs.Forms.{monic_of, IsFormRefusal}
 use Rattle.gf_reduced.specs.Markings.{IsMarkingStep, IsMarkedGroebnerBasis, IsRealisableBeside}
 use Rattle.gf_reduced.specs.Terms.{printed_monomials, IsOffending, NoneOffends, IsFirstOffending, AreReduced}
-use Rattle.gf_exponents.specs.Exponents.{Exponents}
+use Rattle.gf_exponents_theory.specs.Exponents.{Exponents}
 use Rattle.gf_reduced.specs.Refusals.{check_of_gordan, of_poly, IsPairsRefusal, IsPairsFault, IsTermsFault, IsSetWeightRefusal, IsTestCause, IsTestRefusal, IsRequireCause, IsPairedRefusal, IsReducedBasisRefusal, IsReducedRefusal, IsSystemWithinLimits, AreChecksWithinLimits, IsReductionWithinLimits, IsWeightRefusalBeside, IsReducedRefusalBeside, AreChecksWithinLimitsBeside}
 use Rattle.gf_reduced.proofs.GroebnerLaws.{failing_refutes}
 use Rattle.gf_reduced.proofs.WeightLaws.{realised_beside, weight_refused_alone}

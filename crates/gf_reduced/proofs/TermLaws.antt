@@ -4,15 +4,15 @@
 use Rattle.std.specs.Prelude.{◌≡◌, ◌≢◌, ◌⊎◌, ℕ, ◌+◌, ◌<◌, ◌≤◌, Bool, true, false, if◌then◌else◌, List, [], ◌∷◌, ◌++◌, length, take, drop}
 use Rattle.std.proofs.Common.{refl, sym, ap, ◌∙◌, subst, inl, inr, get_or}
 use Rattle.std.proofs.lemmas.List.{take_all, take-append-drop, drop_more}
-use Rattle.gf_exponents.specs.Exponents.{Exponents, same, Divides}
-use Rattle.gf_exponents.proofs.ExponentsLaws.{same-refl}
+use Rattle.gf_exponents_theory.specs.Exponents.{Exponents, same, Divides}
+use Rattle.gf_exponents_theory.proofs.ExponentsLaws.{same-refl}
 use Rattle.gf_poly.specs.declared.Term.{Term}
 use Rattle.gf_poly.specs.Polynomial.{Terms, HasVariables}
 use Rattle.gf_poly.specs.Marking.{MarkedPolynomial, HaveVariables, HasMarkedTerm}
 use Rattle.gf_poly.proofs.CoefficientLaws.{term_length}
 use Rattle.gf_poly.proofs.InitialFormLaws.{take-next}
-use Rattle.gf_ideal.specs.Settled.{IsAt}
-use Rattle.gf_ideal.proofs.ListLaws.{Each-++}
+use Rattle.gf_ideal_theory.specs.Settled.{IsAt}
+use Rattle.gf_ideal_theory.proofs.ListLaws.{Each-++}
 use Rattle.gf_division.proofs.ReducerLaws.{members_equal, member_contained, member_variables, member_length}
 use Rattle.gf_reduced.specs.Terms.{all_but, printed_monomials, IsOffending, NoneOffends, IsFirstOffendingOf, HasNoOffence, IsDividedAt}
 

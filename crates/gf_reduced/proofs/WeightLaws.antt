@@ -1,11 +1,11 @@
 -- What an elimination of the system of a marking answers: a solution is a positive weight that gives the marks, and multipliers
--- show that there is none. The system's laws stand in gf_facets.
+-- show that there is none. The system's laws stand in gf_facets_theory.
 -- To cite: realised_beside, realisable_beside, rows_beside, answer_beside, step_beside; answer_alone, inconsistent_alone, answers_alone, weight_refused_alone; found_beside,
 -- refused_beside, step_refused_beside; step_refused, found_gives, found_realisable, found_inconsistent, weight_yes, weight_no. The rest are steps.
 use Rattle.std.specs.Prelude.{◌≡◌, ◌↔◌, ℕ, ◌+◌, true, false, List, [], ◌∷◌, ◌++◌, length, ℤ, pos, ◌<ℤ◌, Contains, IsTrue, Result, Ok, Err, IfOk}
 use Rattle.std.proofs.Common.{arith, refl, sym, subst}
 use Rattle.std.proofs.lemmas.List.Elements.{All-nil, All-append, All-contains, Contains-append_left, Contains-append_right}
-use Rattle.gf_int.proofs.ListLaws.{all_by}
+use Rattle.gf_int_theory.proofs.ListLaws.{all_by}
 use Rattle.gf_vec.specs.Vector.{dot}
 use Rattle.gf_gordan.specs.Alternative.{AreRows, IsSolution, IsFarkas, GordansAlternative}
 use Rattle.gf_gordan.specs.Answers.{IsAlternative}
@@ -16,14 +16,14 @@ use Rattle.gf_gordan.specs.Steps.{Failed}
 use Rattle.gf_gordan.specs.declared.error.GordanError.{GordanError}
 use Rattle.gf_gordan.specs.declared.error.GordanError.TheVariants.{Cone, Memory}
 use Rattle.gf_poly.specs.Marking.{MarkedPolynomial, MarkedPolynomials, Each, HaveVariables, HasMarkedTerm}
-use Rattle.gf_ideal.specs.Marks.{IsRealisable}
-use Rattle.gf_facets.specs.Rows.{rows_of_polynomials}
-use Rattle.gf_facets.specs.Systems.{units, system_of}
-use Rattle.gf_facets.specs.Regions.{IsInRegion}
-use Rattle.gf_facets.specs.Facets.{IsInOpenCone}
-use Rattle.gf_facets.specs.MarkedBases.{AreCanonical}
-use Rattle.gf_facets.proofs.ConeLaws.{rows_open, open_by_rows}
-use Rattle.gf_facets.proofs.SystemLaws.{region_rows_wide, rows_of_region, region_of_rows, canonical_all, marked_system_wide, whole_of, whole-in_region, open_of_weight, realisable_of_solution}
+use Rattle.gf_ideal_theory.specs.Marks.{IsRealisable}
+use Rattle.gf_facets_theory.specs.Rows.{rows_of_polynomials}
+use Rattle.gf_facets_theory.specs.Systems.{units, system_of}
+use Rattle.gf_facets_theory.specs.Regions.{IsInRegion}
+use Rattle.gf_facets_theory.specs.Facets.{IsInOpenCone}
+use Rattle.gf_facets_theory.specs.MarkedBases.{AreCanonical}
+use Rattle.gf_facets_theory.proofs.ConeLaws.{rows_open, open_by_rows}
+use Rattle.gf_facets_theory.proofs.SystemLaws.{region_rows_wide, rows_of_region, region_of_rows, canonical_all, marked_system_wide, whole_of, whole-in_region, open_of_weight, realisable_of_solution}
 use Rattle.gf_reduced.specs.Markings.{GivesMarks, IsInconsistent, IsWeightAnswer, IsMarkingStep, cut_by, system_beside, IsRealisableBeside, IsInconsistentBeside, IsAnswerBeside, IsStepBeside}
 use Rattle.gf_reduced.specs.Refusals.{check_of_gordan, IsSetWeightRefusal, IsWeightRefusalBeside}
 use Rattle.gf_reduced.specs.declared.error.CheckError.{CheckError}

@@ -2,10 +2,10 @@
 -- Laws: proofs/CriteriaLaws.antt.
 -- Source: Cox, Little, O'Shea, Ideals, Varieties, and Algorithms, 2.9; Becker, Weispfenning, Gröbner Bases, 5.5 (Buchberger's criteria).
 use Rattle.std.specs.Prelude.{◌≢◌, ◌⊎◌, ℕ, ◌<◌, List, [], length}
-use Rattle.gf_exponents.specs.Exponents.{Exponents, Divides, AreCoprime, join}
+use Rattle.gf_exponents_theory.specs.Exponents.{Exponents, Divides, AreCoprime, join}
 use Rattle.gf_poly.specs.Polynomial.{Terms}
 use Rattle.gf_poly.specs.Marking.{MarkedPolynomial}
-use Rattle.gf_ideal.specs.Settled.{IsAt}
+use Rattle.gf_ideal_theory.specs.Settled.{IsAt}
 use Rattle.gf_reduced.specs.Pairs.{IsRemainderAt, Vanishes}
 
 -- the mark of a member with an index below i divides x

@@ -3,7 +3,7 @@
 -- Laws: proofs/WeightLaws.antt, proofs/GroebnerLaws.antt.
 -- Source: Fukuda, Jensen, Thomas, Computing Gröbner fans, 2; Sturmfels, Gröbner Bases and Convex Polytopes, 2 and 3.
 use Rattle.std.specs.Prelude.{◌≡◌, ℕ, List, [], ◌++◌, ℤ, pos, ◌<ℤ◌, length, All, Contains}
-use Rattle.gf_exponents.specs.Exponents.{Exponents}
+use Rattle.gf_exponents_theory.specs.Exponents.{Exponents}
 use Rattle.gf_poly.specs.Polynomial.{Terms}
 use Rattle.gf_poly.specs.Marking.{MarkedPolynomial, MarkedPolynomials, polys}
 use Rattle.gf_gordan.specs.declared.answer.Answer.{Answer}
@@ -11,15 +11,15 @@ use Rattle.gf_gordan.specs.declared.answer.Answer.TheVariants.{Point, Farkas}
 use Rattle.gf_gordan.specs.declared.error.ConeOverflow.{ConeOverflow}
 use Rattle.gf_gordan.specs.Alternative.{IsFarkas}
 use Rattle.gf_gordan.specs.Equations.{IsStepOn}
-use Rattle.gf_ideal.specs.Membership.{IsMember, AreSameIdeal}
-use Rattle.gf_ideal.specs.Marks.{IsPositive, IsRealisedBy, IsRealisable}
-use Rattle.gf_ideal.specs.Reduction.{IsDivisible}
-use Rattle.gf_ideal.specs.Bases.{IsHeaviest, IsBasis}
-use Rattle.gf_facets.specs.Rows.{rows_of_polynomials}
-use Rattle.gf_facets.specs.Systems.{units, system_of}
-use Rattle.gf_facets.specs.Regions.{Region, IsInRegion}
-use Rattle.gf_facets.specs.Facets.{IsInOpenCone}
-use Rattle.gf_facets.specs.MarkedBases.{IsMarkedReducedBasis}
+use Rattle.gf_ideal_theory.specs.Membership.{IsMember, AreSameIdeal}
+use Rattle.gf_ideal_theory.specs.Marks.{IsPositive, IsRealisedBy, IsRealisable}
+use Rattle.gf_ideal_theory.specs.Reduction.{IsDivisible}
+use Rattle.gf_ideal_theory.specs.Bases.{IsHeaviest, IsBasis}
+use Rattle.gf_facets_theory.specs.Rows.{rows_of_polynomials}
+use Rattle.gf_facets_theory.specs.Systems.{units, system_of}
+use Rattle.gf_facets_theory.specs.Regions.{Region, IsInRegion}
+use Rattle.gf_facets_theory.specs.Facets.{IsInOpenCone}
+use Rattle.gf_facets_theory.specs.MarkedBases.{IsMarkedReducedBasis}
 
 -- ---- weights
 

@@ -4,9 +4,9 @@
 use Rattle.std.specs.Prelude.{◌≢◌, ℕ, ◌<◌, List, [], length}
 use Rattle.gf_poly.specs.Polynomial.{Terms, IsDescending, HasVariables}
 use Rattle.gf_poly.specs.Marking.{MarkedPolynomial, HaveVariables}
-use Rattle.gf_ideal.specs.Reduction.{IsSPolynomial}
-use Rattle.gf_ideal.specs.NormalForms.{IsNormalForm}
-use Rattle.gf_ideal.specs.Settled.{IsAt}
+use Rattle.gf_ideal_theory.specs.Reduction.{IsSPolynomial}
+use Rattle.gf_ideal_theory.specs.NormalForms.{IsNormalForm}
+use Rattle.gf_ideal_theory.specs.Settled.{IsAt}
 
 -- all members have the same number of variables
 pub record MembersShareVariables (bs : List MarkedPolynomial) : Type 0 where

@@ -7,8 +7,8 @@ use Rattle.gf_poly.specs.Marking.{MarkedPolynomial, MarkedPolynomials}
 use Rattle.gf_gordan.specs.declared.error.ConeOverflow.{ConeOverflow}
 use Rattle.gf_gordan.specs.declared.error.GordanError.{GordanError}
 use Rattle.gf_gordan.specs.declared.error.GordanError.TheVariants as gordan_errors
-use Rattle.gf_ideal.specs.Marks.{IsRealisable}
-use Rattle.gf_ideal.specs.Reduction.{IsSPolynomial}
+use Rattle.gf_ideal_theory.specs.Marks.{IsRealisable}
+use Rattle.gf_ideal_theory.specs.Reduction.{IsSPolynomial}
 use Rattle.gf_division.specs.SPolynomials.{IsPairRefusal}
 use Rattle.gf_division.specs.Steps.{IsReductionRefusal}
 use Rattle.gf_reduced.specs.declared.error.CheckError.{CheckError}

@@ -1,10 +1,10 @@
 -- Terms that keep a marked set from being the reduced basis: those that a mark divides. Laws: proofs/TermLaws.antt.
 -- Source: Cox, Little, O'Shea, Ideals, Varieties, and Algorithms, 2.7.
 use Rattle.std.specs.Prelude.{◌≡◌, ◌≢◌, ◌⊎◌, ℕ, ◌<◌, Bool, false, if◌then◌else◌, List, [], ◌∷◌, ◌++◌}
-use Rattle.gf_exponents.specs.Exponents.{Exponents, same, Divides}
+use Rattle.gf_exponents_theory.specs.Exponents.{Exponents, same, Divides}
 use Rattle.gf_poly.specs.Polynomial.{Terms}
 use Rattle.gf_poly.specs.Marking.{MarkedPolynomial, Each}
-use Rattle.gf_ideal.specs.Settled.{IsAt}
+use Rattle.gf_ideal_theory.specs.Settled.{IsAt}
 
 -- the monomials of the terms other than h, in their order
 abbrev pub all_but : Exponents → Terms → List Exponents

@@ -1,6 +1,6 @@
 //! The test of a monic set by the pairs that no criterion settles.
 ghost use Rattle.std.specs.Prelude.{◌≡◌, ◌≤◌, ◌<◌, false, length, IfOk, IfErr, IsTrue};
-ghost use Rattle.gf_exponents.specs.Exponents.{AreCoprime};
+ghost use Rattle.gf_exponents_theory.specs.Exponents.{AreCoprime};
 ghost use Rattle.gf_poly.specs.Marking.{HaveVariables};
 ghost use Rattle.gf_division.specs.NormalForms.{HasSomeWeight};
 ghost use Rattle.gf_reduced.specs.Pairs.{MembersShareVariables};

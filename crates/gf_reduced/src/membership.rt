@@ -3,8 +3,8 @@ ghost use Rattle.std.specs.Prelude.{◌≡◌, ◌↔◌, IfOk, IfErr, IsTrue};
 ghost use Rattle.gf_poly.specs.declared.error.PolyError.TheVariants.{Memory};
 ghost use Rattle.gf_poly.specs.Polynomial.{HasVariables};
 ghost use Rattle.gf_poly.specs.Marking.{polys};
-ghost use Rattle.gf_ideal.specs.Membership.{IsMember};
-ghost use Rattle.gf_ideal.specs.Bases.{IsBasis};
+ghost use Rattle.gf_ideal_theory.specs.Membership.{IsMember};
+ghost use Rattle.gf_ideal_theory.specs.Bases.{IsBasis};
 ghost use Rattle.gf_division.specs.Steps.{IsReductionRefusal};
 ghost use Rattle.gf_reduced.specs.Refusals.{IsReductionWithinLimits};
 

@@ -1,6 +1,6 @@
 //! Terms that keep a marked set from being reduced: those that are divisible by a mark.
 ghost use Rattle.std.specs.Prelude.{◌≡◌, ◌≢◌, ◌⊎◌, ◌<◌, true, false, length, IsTrue, IfSome, IfNone};
-ghost use Rattle.gf_exponents.specs.Exponents.{same};
+ghost use Rattle.gf_exponents_theory.specs.Exponents.{same};
 ghost use Rattle.gf_poly.specs.Marking.{HaveVariables};
 ghost use Rattle.gf_reduced.specs.Terms.{IsDividedAt, IsNotDividedBy, IsFirstOffendingOf, HasNoOffence, IsFirstOffending, AreReduced};
 ghost use Rattle.gf_reduced.specs.Pairs.{MembersShareVariables};

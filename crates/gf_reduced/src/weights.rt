@@ -3,7 +3,7 @@ ghost use Rattle.std.specs.Prelude.{◌≡◌, ◌↔◌, [], IfOk, IfErr, IsTru
 ghost use Rattle.gf_gordan.specs.Alternative.{AreRows};
 ghost use Rattle.gf_gordan.specs.Steps.{Failed};
 ghost use Rattle.gf_poly.specs.Marking.{Each, HasMarkedTerm};
-ghost use Rattle.gf_ideal.specs.Marks.{IsRealisable};
+ghost use Rattle.gf_ideal_theory.specs.Marks.{IsRealisable};
 ghost use Rattle.gf_reduced.specs.Markings.{GivesMarks, IsWeightAnswer, IsMarkingStep, system_beside, IsRealisableBeside, IsAnswerBeside, IsStepBeside};
 ghost use Rattle.gf_reduced.specs.Refusals.{IsSetWeightRefusal, IsSystemWithinLimits, IsWeightRefusalBeside};
 ghost use Rattle.gf_reduced.specs.declared.error.CheckError.TheVariants.{Memory};

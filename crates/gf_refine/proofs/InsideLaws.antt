@@ -2,16 +2,16 @@
 use Rattle.std.proofs.Common.{◌≡◌, ℕ, ◌+◌, ◌<◌, ◌≤ℤ◌, List, [], ◌∷◌, ◌++◌, length, take, get_or, ℤ, pos, sym, ap, ◌∙◌, subst, inl, inr, All}
 use Rattle.std.proofs.lemmas.List.{take_more}
 use Rattle.std.proofs.lemmas.List.Elements.{All-contains}
-use Rattle.gf_int.proofs.ListLaws.{Contains-last, all_by}
+use Rattle.gf_int_theory.proofs.ListLaws.{Contains-last, all_by}
 use Rattle.gf_vec.specs.Vector.{dot}
-use Rattle.gf_duality.specs.Faces.{Rows, IsFaceOf}
-use Rattle.gf_duality.specs.Rays.{IsRays}
-use Rattle.gf_duality.proofs.Determined.{described_of}
-use Rattle.gf_duality.proofs.ListLaws.{none_in}
-use Rattle.gf_duality.proofs.Made.{Made-dot, Made-dot_zero}
-use Rattle.gf_fans.specs.Fans.{meet, MeetInFaces}
-use Rattle.gf_fans.proofs.FanLaws.{is_in, up_in, zero_in, both_in, face_same}
-use Rattle.gf_fans.proofs.Meeting.{left_in, right_in}
+use Rattle.gf_duality_theory.specs.Faces.{Rows, IsFaceOf}
+use Rattle.gf_duality_theory.specs.Rays.{IsRays}
+use Rattle.gf_duality_theory.proofs.Determined.{described_of}
+use Rattle.gf_duality_theory.proofs.ListLaws.{none_in}
+use Rattle.gf_duality_theory.proofs.Made.{Made-dot, Made-dot_zero}
+use Rattle.gf_fans_theory.specs.Fans.{meet, MeetInFaces}
+use Rattle.gf_fans_theory.proofs.FanLaws.{is_in, up_in, zero_in, both_in, face_same}
+use Rattle.gf_fans_theory.proofs.Meeting.{left_in, right_in}
 use Rattle.gf_rays.specs.Cones.{RowsAndRays, rows_of}
 use Rattle.gf_refine.specs.Inside.{LiesInside, AreUpOn, AreZeroOn}
 

@@ -1,8 +1,8 @@
 -- Where bounds on the rows of two fans have room, no operation of finding their common refinement leaves the range.
 use Rattle.std.proofs.Common.{◌∙◌, ◌+◌, [], length, length-append, subst, inl, inr}
-use Rattle.gf_duality.specs.Faces.{Rows}
+use Rattle.gf_duality_theory.specs.Faces.{Rows}
 use Rattle.gf_rays.specs.Reached.{IsRaysStep}
-use Rattle.gf_fans.specs.Fans.{meet}
+use Rattle.gf_fans_theory.specs.Fans.{meet}
 use Rattle.gf_rays.specs.Cones.{rows_of}
 use Rattle.gf_fan.specs.FaceSystems.{IsFaceSystem}
 use Rattle.gf_fan.proofs.LimitLaws.{small_meet, small_face, face_long, no_system_step, no_none_step}

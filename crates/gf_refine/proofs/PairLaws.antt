@@ -5,11 +5,11 @@ use Rattle.std.proofs.Math.Seq.{get_or-append_seam}
 use Rattle.std.proofs.lemmas.List.{get_or_default}
 use Rattle.std.proofs.lemmas.List.Elements.{Contains-push}
 use Rattle.std.proofs.lemmas.Nat.{div-mul-add, mod-mul-add}
-use Rattle.gf_int.proofs.ListLaws.{Contains-last}
-use Rattle.gf_duality.specs.Faces.{Rows}
-use Rattle.gf_duality.proofs.ListLaws.{none_in, first_in, place, less, at, more}
+use Rattle.gf_int_theory.proofs.ListLaws.{Contains-last}
+use Rattle.gf_duality_theory.specs.Faces.{Rows}
+use Rattle.gf_duality_theory.proofs.ListLaws.{none_in, first_in, place, less, at, more}
 use Rattle.gf_fan.specs.declared.cones.FanCone.{FanCone}
-use Rattle.gf_fans.specs.Fans.{meet}
+use Rattle.gf_fans_theory.specs.Fans.{meet}
 use Rattle.gf_refine.specs.Inside.{LiesInside, cone_at, meet_at, IsHolder, AreHolders, IsMet, AreMetPairs}
 use Rattle.gf_refine.proofs.InsideLaws.{first_wider, second_wider}
 use Rattle.gf_refine.proofs.MeetLaws.{pair_below, pair_places}

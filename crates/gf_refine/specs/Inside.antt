@@ -1,8 +1,8 @@
 -- Cones inside one another, by vectors and by what generates them; pairs of maximal cones whose meets have all of them inside.
 use Rattle.std.specs.Prelude.{◌≡◌, ◌≤ℤ◌, ℕ, ◌*◌, ◌/◌, ◌%◌, ◌<◌, List, ℤ, pos, Option, Some, None, Contains, length, IfSome, MatchOption, slice_index_or}
 use Rattle.gf_vec.specs.Vector.{dot}
-use Rattle.gf_duality.specs.Faces.{Rows, IsInCone}
-use Rattle.gf_fans.specs.Fans.{meet}
+use Rattle.gf_duality_theory.specs.Faces.{Rows, IsInCone}
+use Rattle.gf_fans_theory.specs.Fans.{meet}
 use Rattle.gf_rays.specs.Cones.{rows_of}
 use Rattle.gf_fan.specs.declared.cones.FanCone.{FanCone}
 use Rattle.gf_fan.specs.MaximalCones.{no_cone}

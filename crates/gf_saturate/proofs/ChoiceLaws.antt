@@ -6,26 +6,26 @@ use Rattle.std.proofs.Common.{Contains, length, get_or, min, arith, sym, ap, ◌
 use Rattle.std.proofs.lemmas.Bool.{cases_lt}
 use Rattle.gf_frac.specs.Fraction.{Fraction, ◌+ℚ◌, ◌*ℚ◌, neg_ℚ, zero_ℚ, one_ℚ, reciprocal_ℚ}
 use Rattle.gf_frac.proofs.FractionLaws.{+ℚ_comm, *ℚ_assoc, *ℚ_comm, one-*ℚ, reciprocal_ℚ-*ℚ, +ℚ-middle}
-use Rattle.gf_exponents.specs.Exponents.{Exponents, entry, same, plus, minus, join, degree, IsInRing}
-use Rattle.gf_exponents.proofs.ExponentsLaws.{same_by_entries, entries_same, entry-plus, entry-join, entry-minus, entry-get_or, entry-past}
-use Rattle.gf_exponents.proofs.ExponentsLaws.{plus_assoc, plus_comm}
+use Rattle.gf_exponents_theory.specs.Exponents.{Exponents, entry, same, plus, minus, join, degree, IsInRing}
+use Rattle.gf_exponents_theory.proofs.ExponentsLaws.{same_by_entries, entries_same, entry-plus, entry-join, entry-minus, entry-get_or, entry-past}
+use Rattle.gf_exponents_theory.proofs.ExponentsLaws.{plus_assoc, plus_comm}
 use Rattle.gf_poly.specs.declared.Term.{Term}
 use Rattle.gf_poly.specs.Polynomial.{Terms, HasVariables, IsDescending, coefficient, SamePolynomial, times}
 use Rattle.gf_poly.proofs.MonomialLaws.{length-join}
 use Rattle.gf_poly.proofs.ProductLaws.{HasVariables-at}
 use Rattle.gf_poly.proofs.PolynomialLaws.{coefficient-++, coefficient-factor, times-plain}
-use Rattle.gf_ideal.specs.Membership.{AreInVariables, Spans}
-use Rattle.gf_ideal.proofs.Identities.{turned}
-use Rattle.gf_ideal.proofs.RingLaws.{in_ring_of, entry-degree}
-use Rattle.gf_ideal.proofs.SettledLaws.{twice}
-use Rattle.gf_ideal.proofs.SpanLaws.{Spans-equal, Spans-zero, Spans-generator, Spans-++, Spans-times, Spans-difference}
-use Rattle.gf_ideal.proofs.MembershipLaws.{variables-times, spans_of_member, member_of_spans}
+use Rattle.gf_ideal_theory.specs.Membership.{AreInVariables, Spans}
+use Rattle.gf_ideal_theory.proofs.Identities.{turned}
+use Rattle.gf_ideal_theory.proofs.RingLaws.{in_ring_of, entry-degree}
+use Rattle.gf_ideal_theory.proofs.SettledLaws.{twice}
+use Rattle.gf_ideal_theory.proofs.SpanLaws.{Spans-equal, Spans-zero, Spans-generator, Spans-++, Spans-times, Spans-difference}
+use Rattle.gf_ideal_theory.proofs.MembershipLaws.{variables-times, spans_of_member, member_of_spans}
 use Rattle.gf_buchberger.specs.Jobs.{HaveRingVariables}
 use Rattle.gf_buchberger.proofs.JobLaws.{ring_variables}
-use Rattle.gf_saturation.specs.Saturations.{powered, product_power, IsSaturatedBy}
-use Rattle.gf_saturation.proofs.SubstitutionLaws.{entry-product_power, ring-product_power, ring-powered}
-use Rattle.gf_saturation.proofs.SaturationLaws.{variables_of_saturated, powered-plus, saturated_same, saturated_product}
-use Rattle.gf_quotients.proofs.TakenLaws.{powered-sum, powered-up, powered-none, powered-least, spans_more}
+use Rattle.gf_saturation_theory.specs.Saturations.{powered, product_power, IsSaturatedBy}
+use Rattle.gf_saturation_theory.proofs.SubstitutionLaws.{entry-product_power, ring-product_power, ring-powered}
+use Rattle.gf_saturation_theory.proofs.SaturationLaws.{variables_of_saturated, powered-plus, saturated_same, saturated_product}
+use Rattle.gf_quotients_theory.proofs.TakenLaws.{powered-sum, powered-up, powered-none, powered-least, spans_more}
 use Rattle.gf_saturate.specs.Graded.{AreInside, IsFollowed, IsEnoughFor, IsChoice}
 
 -- ---- variables, place by place

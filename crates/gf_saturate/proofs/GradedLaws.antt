@@ -8,40 +8,40 @@ use Rattle.std.proofs.lemmas.Bool.{cases_lt}
 use Rattle.std.proofs.lemmas.Int.{ints}
 use Rattle.std.proofs.lemmas.List.{take_more, take_all}
 use Rattle.std.proofs.lemmas.List.Elements.{All-push, All-weaker}
-use Rattle.gf_int.specs.Range.{InRange}
+use Rattle.gf_int_theory.specs.Range.{InRange}
 use Rattle.gf_frac.specs.Fraction.{one_ℚ}
-use Rattle.gf_exponents.specs.Exponents.{Exponents, entry, same, plus, minus, IsInRing}
-use Rattle.gf_exponents.specs.Orders.{gains, IsWeightedRevlexBelow}
-use Rattle.gf_exponents.specs.SixOrders.{MonomialOrder}
-use Rattle.gf_exponents.proofs.ExponentsLaws.{same_by_entries, entry-plus, entry-minus}
-use Rattle.gf_exponents.proofs.OrderLaws.{weighted_revlex-order}
-use Rattle.gf_exponents.proofs.WholeWeightLaws.{length-gains, positive-gains}
-use Rattle.gf_int.proofs.ListLaws.{Contains-here}
+use Rattle.gf_exponents_theory.specs.Exponents.{Exponents, entry, same, plus, minus, IsInRing}
+use Rattle.gf_exponents_theory.specs.Orders.{gains, IsWeightedRevlexBelow}
+use Rattle.gf_exponents_theory.specs.SixOrders.{MonomialOrder}
+use Rattle.gf_exponents_theory.proofs.ExponentsLaws.{same_by_entries, entry-plus, entry-minus}
+use Rattle.gf_exponents_theory.proofs.OrderLaws.{weighted_revlex-order}
+use Rattle.gf_exponents_theory.proofs.WholeWeightLaws.{length-gains, positive-gains}
+use Rattle.gf_int_theory.proofs.ListLaws.{Contains-here}
 use Rattle.gf_poly.specs.Monomial.{IsMonomial}
 use Rattle.gf_poly.specs.Polynomial.{Terms, HasVariables, coefficient, times}
 use Rattle.gf_poly.specs.Marking.{MarkedPolynomial, MarkedPolynomials}
 use Rattle.gf_order.specs.Weights.{AreBounded}
 use Rattle.gf_order.specs.Comparisons.{HasEntries}
 use Rattle.gf_gordan.specs.Alternative.{AreRows}
-use Rattle.gf_ideal.specs.Marks.{IsPositive}
-use Rattle.gf_ideal.specs.MonomialOrders.{IsHomogeneous}
-use Rattle.gf_ideal.specs.Bases.{IsBasis}
-use Rattle.gf_ideal.proofs.Identities.{one_not_zero}
-use Rattle.gf_ideal.proofs.ListLaws.{Contains-there, Contains-cases}
-use Rattle.gf_ideal.proofs.RingLaws.{in_ring_of}
-use Rattle.gf_ideal.proofs.BasisLaws.{basis_of_groebner_for}
-use Rattle.gf_ideal.proofs.LawsHold.{marks_have_weights}
-use Rattle.gf_ideal.proofs.MembershipLaws.{variables_of_member}
+use Rattle.gf_ideal_theory.specs.Marks.{IsPositive}
+use Rattle.gf_ideal_theory.specs.MonomialOrders.{IsHomogeneous}
+use Rattle.gf_ideal_theory.specs.Bases.{IsBasis}
+use Rattle.gf_ideal_theory.proofs.Identities.{one_not_zero}
+use Rattle.gf_ideal_theory.proofs.ListLaws.{Contains-there, Contains-cases}
+use Rattle.gf_ideal_theory.proofs.RingLaws.{in_ring_of}
+use Rattle.gf_ideal_theory.proofs.BasisLaws.{basis_of_groebner_for}
+use Rattle.gf_ideal_theory.proofs.LawsHold.{marks_have_weights}
+use Rattle.gf_ideal_theory.proofs.MembershipLaws.{variables_of_member}
 use Rattle.gf_buchberger.specs.Jobs.{HaveRingVariables, IsSuited}
 use Rattle.gf_buchberger.specs.Bases.{IsArrangedBasis}
 use Rattle.gf_buchberger.proofs.JobLaws.{ring_variables, orders_that_suit}
-use Rattle.gf_saturation.specs.Saturations.{product_power, next_variable}
-use Rattle.gf_saturation.proofs.SubstitutionLaws.{entry-product_power, ring-product_power, next-here, next-below, ring-next}
-use Rattle.gf_saturation.proofs.SaturationLaws.{saturated_same}
-use Rattle.gf_quotients.specs.Quotients.{AreStripped}
-use Rattle.gf_quotients.specs.Quotients as quotients
-use Rattle.gf_quotients.specs.Ways.{IsOnTheWay}
-use Rattle.gf_quotients.proofs.LawsHold.{ways_are_kept, steps_saturate}
+use Rattle.gf_saturation_theory.specs.Saturations.{product_power, next_variable}
+use Rattle.gf_saturation_theory.proofs.SubstitutionLaws.{entry-product_power, ring-product_power, next-here, next-below, ring-next}
+use Rattle.gf_saturation_theory.proofs.SaturationLaws.{saturated_same}
+use Rattle.gf_quotients_theory.specs.Quotients.{AreStripped}
+use Rattle.gf_quotients_theory.specs.Quotients as quotients
+use Rattle.gf_quotients_theory.specs.Ways.{IsOnTheWay}
+use Rattle.gf_quotients_theory.proofs.LawsHold.{ways_are_kept, steps_saturate}
 use Rattle.gf_saturate.specs.Graded.{IsChoice, IsByWeights, IsWeightedBasis, AreToDivide}
 use Rattle.gf_saturate.specs.Graded.{IsDividedMember, AreDividedMembers, IsDividedStep, GenerateSaturation}
 use Rattle.gf_saturate.specs.Saturating.{IsSaturation}

@@ -3,9 +3,9 @@
 use Rattle.std.proofs.Common.{◌≡◌, ◌⊎◌, ℕ, zero, suc, ◌+◌, ◌<◌, ◌≤◌, ◌==◌, false, List, [], ◌∷◌, ◌++◌, Contains, length, take, get_or, arith, refl, sym, ap, ◌∙◌, subst, inl, inr}
 use Rattle.std.proofs.lemmas.Bool.Decides.{nat_tests}
 use Rattle.std.proofs.lemmas.List.{take_more, take_all}
-use Rattle.gf_exponents.specs.Exponents.{Exponents, entry, join}
-use Rattle.gf_exponents.proofs.ExponentsLaws.{entry-join}
-use Rattle.gf_int.proofs.ListLaws.{Contains-last}
+use Rattle.gf_exponents_theory.specs.Exponents.{Exponents, entry, join}
+use Rattle.gf_exponents_theory.proofs.ExponentsLaws.{entry-join}
+use Rattle.gf_int_theory.proofs.ListLaws.{Contains-last}
 use Rattle.gf_poly.specs.Marking.{MarkedPolynomial}
 use Rattle.gf_saturate.specs.Marks.{CoverHeads, CoverFreeHeads}
 

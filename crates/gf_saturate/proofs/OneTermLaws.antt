@@ -3,21 +3,21 @@
 use Rattle.std.specs.Prelude.{IsTrue}
 use Rattle.std.proofs.Common.{◌≡◌, ◌↔◌, ◌==◌, ℕ, Bool, true, false, List, [], ◌∷◌, Contains, length, arith, subst}
 use Rattle.std.proofs.lemmas.Bool.Decides.{nat_tests}
-use Rattle.gf_exponents.specs.Exponents.{Exponents, same}
-use Rattle.gf_exponents.proofs.ExponentsLaws.{same-refl, same_flip, same_trans, eq_by}
-use Rattle.gf_int.proofs.ListLaws.{Contains-here}
+use Rattle.gf_exponents_theory.specs.Exponents.{Exponents, same}
+use Rattle.gf_exponents_theory.proofs.ExponentsLaws.{same-refl, same_flip, same_trans, eq_by}
+use Rattle.gf_int_theory.proofs.ListLaws.{Contains-here}
 use Rattle.gf_poly.specs.declared.Term.{Term}
 use Rattle.gf_poly.specs.Polynomial.{Terms, IsDescending, HasVariables}
 use Rattle.gf_poly.specs.Marking.{MarkedPolynomials, polys}
-use Rattle.gf_ideal.specs.Membership.{AreInVariables, IsInVariables}
-use Rattle.gf_ideal.proofs.KeptForms.{term_there}
-use Rattle.gf_ideal.proofs.ListedTerms.{by_terms, variables_by_terms}
-use Rattle.gf_ideal.proofs.MembershipLaws.{member-generator}
-use Rattle.gf_ideal.proofs.PieceLaws.{Contains-marked}
+use Rattle.gf_ideal_theory.specs.Membership.{AreInVariables, IsInVariables}
+use Rattle.gf_ideal_theory.proofs.KeptForms.{term_there}
+use Rattle.gf_ideal_theory.proofs.ListedTerms.{by_terms, variables_by_terms}
+use Rattle.gf_ideal_theory.proofs.MembershipLaws.{member-generator}
+use Rattle.gf_ideal_theory.proofs.PieceLaws.{Contains-marked}
 use Rattle.gf_buchberger.specs.Jobs.{HaveRingVariables}
 use Rattle.gf_buchberger.proofs.JobLaws.{ring_variables}
-use Rattle.gf_saturation.specs.Saturations.{IsOfOneTerm, HasOneTermMember, one_polynomial}
-use Rattle.gf_saturation.proofs.LawsHold.{monomials_are_told}
+use Rattle.gf_saturation_theory.specs.Saturations.{IsOfOneTerm, HasOneTermMember, one_polynomial}
+use Rattle.gf_saturation_theory.proofs.LawsHold.{monomials_are_told}
 use Rattle.gf_saturate.specs.Saturating.{IsSaturation}
 use Rattle.gf_saturate.specs.OneTerm.{HasUnitMark}
 

@@ -1,7 +1,7 @@
 -- A list that is searched place by place. To cite: found_here, not_yet, nowhere.
 use Rattle.std.proofs.Common.{◌≡◌, ◌⊎◌, ℕ, ◌+◌, ◌<◌, ◌≤◌, List, [], ◌∷◌, ◌++◌, Contains, length, take, get_or, sym, ap, ◌∙◌, subst, inl, inr}
 use Rattle.std.proofs.lemmas.List.{take_more, take_all}
-use Rattle.gf_int.proofs.ListLaws.{Contains-last}
+use Rattle.gf_int_theory.proofs.ListLaws.{Contains-last}
 
 -- some member is so
 abbrev pub HasSuch : {A : Type 0} → (A → Type 0) → List A → Type 0

@@ -5,33 +5,33 @@ use Rattle.std.proofs.Common.{◌≡◌, ◌⊎◌, ◌≢◌, ℕ, zero, suc, �
 use Rattle.std.proofs.lemmas.Bool.{cases_lt}
 use Rattle.gf_frac.specs.Fraction.{◌+ℚ◌, ◌*ℚ◌, neg_ℚ, zero_ℚ, one_ℚ}
 use Rattle.gf_frac.proofs.FractionLaws.{zero-+ℚ, one-*ℚ}
-use Rattle.gf_exponents.specs.Exponents.{Exponents, entry, same, plus, minus, IsInRing}
-use Rattle.gf_exponents.specs.Orders.{IsWeightedBelow}
-use Rattle.gf_exponents.proofs.ExponentsLaws.{same_flip, same_trans, same_by_entries, entries_same, entry-plus, entry-minus}
-use Rattle.gf_exponents.proofs.OrderLaws.{weighted-order}
+use Rattle.gf_exponents_theory.specs.Exponents.{Exponents, entry, same, plus, minus, IsInRing}
+use Rattle.gf_exponents_theory.specs.Orders.{IsWeightedBelow}
+use Rattle.gf_exponents_theory.proofs.ExponentsLaws.{same_flip, same_trans, same_by_entries, entries_same, entry-plus, entry-minus}
+use Rattle.gf_exponents_theory.proofs.OrderLaws.{weighted-order}
 use Rattle.gf_poly.specs.Polynomial.{Terms, coefficient, SamePolynomial, times}
 use Rattle.gf_poly.specs.Marking.{MarkedPolynomial}
 use Rattle.gf_poly.proofs.PolynomialLaws.{coefficient-++, coefficient-times, coefficient-factor, SamePolynomial-times, times-++, times-plain}
-use Rattle.gf_ideal.specs.Membership.{IsInVariables, AreInVariables, IsMember, Spans}
-use Rattle.gf_ideal.specs.Marks.{Piece, value}
-use Rattle.gf_ideal.specs.Reduction.{IsDivisible, IsIrreducible}
-use Rattle.gf_ideal.specs.Bases.{IsBasis, IsReducedBasisFor}
-use Rattle.gf_ideal.proofs.Identities.{away}
-use Rattle.gf_ideal.proofs.ListLaws.{Each-weaker}
-use Rattle.gf_ideal.proofs.RingLaws.{ring-along, ring-left, ring-plus}
-use Rattle.gf_ideal.proofs.TermLaws.{found}
-use Rattle.gf_ideal.proofs.ListedTerms.{by_terms}
-use Rattle.gf_ideal.proofs.SpanLaws.{Spans-equal, Spans-++, Spans-times}
-use Rattle.gf_ideal.proofs.MembershipLaws.{variables-times, variables_of_member, spans_of_member, member_of_spans}
-use Rattle.gf_ideal.proofs.PieceLaws.{spans_value}
-use Rattle.gf_ideal.proofs.StepLaws.{IsClosed, IsPieceIn, IsWithin, closed-ring}
-use Rattle.gf_ideal.proofs.DivisionLaws.{Divided, divided, irreducible_terms}
-use Rattle.gf_ideal.proofs.BasisLaws.{basis_of_groebner_for}
-use Rattle.gf_ideal.proofs.LawsHold.{marks_have_weights}
-use Rattle.gf_saturation.specs.Saturations.{powered, next_variable, last_weight, AreLeftOver}
-use Rattle.gf_saturation.proofs.SubstitutionLaws.{next-below, ring-next, ring-powered}
-use Rattle.gf_saturation.proofs.SaturationLaws.{variables_of_saturated}
-use Rattle.gf_saturation.proofs.EliminationLaws.{free_by_head, left_over_variables, member_of_left_over, left_over_of_member}
+use Rattle.gf_ideal_theory.specs.Membership.{IsInVariables, AreInVariables, IsMember, Spans}
+use Rattle.gf_ideal_theory.specs.Marks.{Piece, value}
+use Rattle.gf_ideal_theory.specs.Reduction.{IsDivisible, IsIrreducible}
+use Rattle.gf_ideal_theory.specs.Bases.{IsBasis, IsReducedBasisFor}
+use Rattle.gf_ideal_theory.proofs.Identities.{away}
+use Rattle.gf_ideal_theory.proofs.ListLaws.{Each-weaker}
+use Rattle.gf_ideal_theory.proofs.RingLaws.{ring-along, ring-left, ring-plus}
+use Rattle.gf_ideal_theory.proofs.TermLaws.{found}
+use Rattle.gf_ideal_theory.proofs.ListedTerms.{by_terms}
+use Rattle.gf_ideal_theory.proofs.SpanLaws.{Spans-equal, Spans-++, Spans-times}
+use Rattle.gf_ideal_theory.proofs.MembershipLaws.{variables-times, variables_of_member, spans_of_member, member_of_spans}
+use Rattle.gf_ideal_theory.proofs.PieceLaws.{spans_value}
+use Rattle.gf_ideal_theory.proofs.StepLaws.{IsClosed, IsPieceIn, IsWithin, closed-ring}
+use Rattle.gf_ideal_theory.proofs.DivisionLaws.{Divided, divided, irreducible_terms}
+use Rattle.gf_ideal_theory.proofs.BasisLaws.{basis_of_groebner_for}
+use Rattle.gf_ideal_theory.proofs.LawsHold.{marks_have_weights}
+use Rattle.gf_saturation_theory.specs.Saturations.{powered, next_variable, last_weight, AreLeftOver}
+use Rattle.gf_saturation_theory.proofs.SubstitutionLaws.{next-below, ring-next, ring-powered}
+use Rattle.gf_saturation_theory.proofs.SaturationLaws.{variables_of_saturated}
+use Rattle.gf_saturation_theory.proofs.EliminationLaws.{free_by_head, left_over_variables, member_of_left_over, left_over_of_member}
 use Rattle.gf_saturate.specs.Saturating.{AddsNothing}
 
 -- ---- a monomial that keeps irreducible polynomials irreducible

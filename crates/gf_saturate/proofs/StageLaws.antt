@@ -2,30 +2,30 @@
 -- To cite: given_stage, reduced_stage, left_stage, way_next, saturation_of, if_memory. The rest are steps.
 use Rattle.std.specs.Prelude.{IfErr, IfSome, Option, None, Some}
 use Rattle.std.proofs.Common.{◌≡◌, ◌⊎◌, ◌↔◌, ℕ, zero, suc, ◌+◌, ◌<◌, ◌≤◌, true, List, [], Contains, length, arith, refl, sym, ap, subst, inl, inr, Result, Ok, Err}
-use Rattle.gf_exponents.specs.Exponents.{Exponents, entry, same}
-use Rattle.gf_exponents.specs.Orders.{IsDeglexBelow}
-use Rattle.gf_exponents.specs.SixOrders.{MonomialOrder}
-use Rattle.gf_exponents.proofs.ExponentsLaws.{same_by_entries, same_flip}
+use Rattle.gf_exponents_theory.specs.Exponents.{Exponents, entry, same}
+use Rattle.gf_exponents_theory.specs.Orders.{IsDeglexBelow}
+use Rattle.gf_exponents_theory.specs.SixOrders.{MonomialOrder}
+use Rattle.gf_exponents_theory.proofs.ExponentsLaws.{same_by_entries, same_flip}
 use Rattle.gf_frac.specs.Fraction.{one_ℚ}
 use Rattle.gf_poly.specs.Polynomial.{Terms, HasVariables, coefficient, times}
 use Rattle.gf_poly.proofs.PolynomialLaws.{times-plain}
 use Rattle.gf_poly.proofs.MonomialLaws.{entry-ones}
 use Rattle.gf_poly.specs.Marking.{MarkedPolynomial, MarkedPolynomials, polys}
-use Rattle.gf_ideal.specs.Membership.{IsMember}
-use Rattle.gf_ideal.specs.Bases.{IsBasis, IsReducedBasisFor}
-use Rattle.gf_ideal.proofs.MembershipLaws.{member-equal, member-generator}
-use Rattle.gf_ideal.proofs.PieceLaws.{Contains-marked, Contains-polys}
-use Rattle.gf_ideal.proofs.RingLaws.{in_ring_of}
+use Rattle.gf_ideal_theory.specs.Membership.{IsMember}
+use Rattle.gf_ideal_theory.specs.Bases.{IsBasis, IsReducedBasisFor}
+use Rattle.gf_ideal_theory.proofs.MembershipLaws.{member-equal, member-generator}
+use Rattle.gf_ideal_theory.proofs.PieceLaws.{Contains-marked, Contains-polys}
+use Rattle.gf_ideal_theory.proofs.RingLaws.{in_ring_of}
 use Rattle.gf_buchberger.specs.Jobs.{HaveRingVariables}
 use Rattle.gf_buchberger.specs.declared.bases.BasisError.{BasisError}
 use Rattle.gf_buchberger.specs.Bases.{IsArrangedBasis, IsWantOfMemory}
 use Rattle.gf_buchberger.proofs.BasesOfRuns.{if_within}
 use Rattle.gf_buchberger.proofs.JobLaws.{ring_variables}
-use Rattle.gf_saturation.specs.Saturations.{product_power, next_variable, IsSaturatedBy, AreLeftOver}
-use Rattle.gf_saturation.proofs.SaturationLaws.{extended_variables, saturated_same, saturated_product}
-use Rattle.gf_saturation.proofs.OneByOneLaws.{saturated_none, saturated_next}
-use Rattle.gf_saturation.proofs.EliminationLaws.{deglex_basis, member_of_basis, basis_of_member}
-use Rattle.gf_saturation.proofs.LawsHold.{saturations_are_worked_out}
+use Rattle.gf_saturation_theory.specs.Saturations.{product_power, next_variable, IsSaturatedBy, AreLeftOver}
+use Rattle.gf_saturation_theory.proofs.SaturationLaws.{extended_variables, saturated_same, saturated_product}
+use Rattle.gf_saturation_theory.proofs.OneByOneLaws.{saturated_none, saturated_next}
+use Rattle.gf_saturation_theory.proofs.EliminationLaws.{deglex_basis, member_of_basis, basis_of_member}
+use Rattle.gf_saturation_theory.proofs.LawsHold.{saturations_are_worked_out}
 use Rattle.gf_saturate.specs.declared.stages.Stage.{Stage}
 use Rattle.gf_saturate.specs.Widening.{extended_list, left_over, variable_at}
 use Rattle.gf_saturate.specs.Marks.{CoverHeads, CoverFreeHeads}

@@ -7,26 +7,26 @@ use Rattle.std.proofs.lemmas.Bool.Decides.{nat_tests}
 use Rattle.std.proofs.lemmas.List.{take_more, take_more_set, take-replicate, length-replicate}
 use Rattle.std.proofs.lemmas.List.Elements.{All-push, All-replicate}
 use Rattle.gf_frac.specs.Fraction.{◌+ℚ◌, zero_ℚ, one_ℚ, neg_ℚ}
-use Rattle.gf_exponents.specs.Exponents.{Exponents, entry, same, plus}
-use Rattle.gf_exponents.specs.Orders.{IsWeightedBelow, gains}
-use Rattle.gf_exponents.specs.SixOrders.{MonomialOrder}
-use Rattle.gf_exponents.proofs.ExponentsLaws.{same-sym, same_along, same_by_entries, eq_by, entry-plus}
-use Rattle.gf_int.proofs.ListLaws.{Contains-here, Contains-last}
+use Rattle.gf_exponents_theory.specs.Exponents.{Exponents, entry, same, plus}
+use Rattle.gf_exponents_theory.specs.Orders.{IsWeightedBelow, gains}
+use Rattle.gf_exponents_theory.specs.SixOrders.{MonomialOrder}
+use Rattle.gf_exponents_theory.proofs.ExponentsLaws.{same-sym, same_along, same_by_entries, eq_by, entry-plus}
+use Rattle.gf_int_theory.proofs.ListLaws.{Contains-here, Contains-last}
 use Rattle.gf_poly.specs.declared.Term.{Term}
 use Rattle.gf_poly.specs.Polynomial.{Terms, coefficient, SamePolynomial, HasVariables}
 use Rattle.gf_poly.specs.Marking.{MarkedPolynomial, MarkedPolynomials, Each}
 use Rattle.gf_poly.proofs.MonomialLaws.{entry-ones}
-use Rattle.gf_ideal.specs.Membership.{IsInVariables}
-use Rattle.gf_ideal.specs.Bases.{IsReducedBasisFor}
-use Rattle.gf_ideal.proofs.ListLaws.{Contains-there, Contains-cases, each_contained}
-use Rattle.gf_ideal.proofs.ListedTerms.{variables_by_terms}
-use Rattle.gf_ideal.proofs.KeptForms.{term_there}
+use Rattle.gf_ideal_theory.specs.Membership.{IsInVariables}
+use Rattle.gf_ideal_theory.specs.Bases.{IsReducedBasisFor}
+use Rattle.gf_ideal_theory.proofs.ListLaws.{Contains-there, Contains-cases, each_contained}
+use Rattle.gf_ideal_theory.proofs.ListedTerms.{variables_by_terms}
+use Rattle.gf_ideal_theory.proofs.KeptForms.{term_there}
 use Rattle.gf_order.specs.Weights.{AreBounded}
 use Rattle.gf_buchberger.specs.Jobs.{HaveRingVariables}
 use Rattle.gf_buchberger.specs.Bases.{IsArrangedBasis, IsBasisRefusal}
 use Rattle.gf_buchberger.specs.declared.bases.BasisError.{BasisError}
-use Rattle.gf_saturation.specs.Saturations.{next_variable, rabinowitsch, AreExtended, AreLeftOver, last_weight}
-use Rattle.gf_saturation.proofs.EliminationLaws.{free_by_head, bound_by_head}
+use Rattle.gf_saturation_theory.specs.Saturations.{next_variable, rabinowitsch, AreExtended, AreLeftOver, last_weight}
+use Rattle.gf_saturation_theory.proofs.EliminationLaws.{free_by_head, bound_by_head}
 use Rattle.gf_saturate.specs.Saturating.{IsToEliminate, step_order}
 use Rattle.gf_saturate.specs.Widening.{widened_term, narrowed_term, rabinowitsch_terms, extended_list, left_over}
 use Rattle.gf_saturate.proofs.WideningLaws.{same-widened, variables-widened, variables-narrowed, narrowed-back}

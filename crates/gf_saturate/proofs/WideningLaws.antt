@@ -8,15 +8,15 @@ use Rattle.std.specs.declared.cmp.Ordering.TheVariants.{Less, Equal, Greater}
 use Rattle.std.proofs.lemmas.Cmp.{ranked}
 use Rattle.std.proofs.Common.{arith, refl, sym, ap, ◌∙◌, set, length-append}
 use Rattle.std.proofs.lemmas.List.{take-replicate, length-replicate}
-use Rattle.gf_exponents.specs.Exponents.{Exponents, entry, same, degree}
-use Rattle.gf_exponents.specs.Orders.{deglex, lex}
+use Rattle.gf_exponents_theory.specs.Exponents.{Exponents, entry, same, degree}
+use Rattle.gf_exponents_theory.specs.Orders.{deglex, lex}
 use Rattle.gf_poly.specs.declared.Term.{Term}
 use Rattle.gf_poly.specs.Polynomial.{Terms, coefficient, SamePolynomial, IsAbove, IsDescending, HasVariables}
-use Rattle.gf_exponents.proofs.ExponentsLaws.{same-sym, same_along, same_by_entries}
+use Rattle.gf_exponents_theory.proofs.ExponentsLaws.{same-sym, same_along, same_by_entries}
 use Rattle.gf_frac.specs.Fraction.{Fraction, ◌+ℚ◌, zero_ℚ, one_ℚ, neg_ℚ}
 use Rattle.gf_poly.specs.Marking.{Each}
 use Rattle.gf_frac.proofs.FractionLaws.{+ℚ-neg_ℚ, +ℚ-zero}
-use Rattle.gf_ideal.proofs.Identities.{one_not_zero}
+use Rattle.gf_ideal_theory.proofs.Identities.{one_not_zero}
 use Rattle.gf_poly.specs.Monomial.{IsMonomial}
 use Rattle.gf_poly.proofs.MonomialLaws.{limit_by_entries, entry-ones, degree-ones}
 use Rattle.gf_poly.specs.declared.TheConstants.{ROOM}

@@ -1,16 +1,16 @@
 -- Saturations by division: one basis for each variable that is chosen, and members without all that their terms share.
 -- Laws: proofs/GradedLaws.antt. Source: Sturmfels, Gröbner Bases and Convex Polytopes, 12.
 use Rattle.std.specs.Prelude.{◌≡◌, ◌↔◌, ℕ, ◌<◌, ◌≤◌, List, [], ◌∷◌, Contains, All, ℤ, pos, ◌≤ℤ◌, length}
-use Rattle.gf_exponents.specs.Exponents.{Exponents, entry, join}
-use Rattle.gf_exponents.specs.Orders.{gains}
-use Rattle.gf_exponents.specs.SixOrders.{MonomialOrder}
+use Rattle.gf_exponents_theory.specs.Exponents.{Exponents, entry, join}
+use Rattle.gf_exponents_theory.specs.Orders.{gains}
+use Rattle.gf_exponents_theory.specs.SixOrders.{MonomialOrder}
 use Rattle.gf_poly.specs.declared.Term.{Term}
 use Rattle.gf_poly.specs.Polynomial.{Terms, HasVariables}
 use Rattle.gf_poly.specs.Marking.{MarkedPolynomial, MarkedPolynomials}
-use Rattle.gf_ideal.specs.Membership.{IsMember}
+use Rattle.gf_ideal_theory.specs.Membership.{IsMember}
 use Rattle.gf_buchberger.specs.Jobs.{HaveRingVariables}
 use Rattle.gf_buchberger.specs.Bases.{IsArrangedBasis}
-use Rattle.gf_saturation.specs.Saturations.{IsSaturatedBy, IsSaturated}
+use Rattle.gf_saturation_theory.specs.Saturations.{IsSaturatedBy, IsSaturated}
 use Rattle.gf_dividing.specs.declared.Factors.{Factors}
 use Rattle.gf_dividing.specs.Dividing.{IsStripped}
 

@@ -1,6 +1,6 @@
 -- Which variables occur in the marks of a basis.
 use Rattle.std.specs.Prelude.{◌≡◌, ℕ, ◌<◌, List, Contains, length}
-use Rattle.gf_exponents.specs.Exponents.{Exponents, entry}
+use Rattle.gf_exponents_theory.specs.Exponents.{Exponents, entry}
 use Rattle.gf_poly.specs.Marking.{MarkedPolynomial}
 
 -- each mark has m variables

@@ -1,6 +1,6 @@
 -- Polynomials of one term as they are kept, and marks that are 1. Laws: proofs/OneTermLaws.antt.
 use Rattle.std.specs.Prelude.{◌≡◌, true, List, [], Contains, length}
-use Rattle.gf_exponents.specs.Exponents.{same}
+use Rattle.gf_exponents_theory.specs.Exponents.{same}
 use Rattle.gf_poly.specs.Polynomial.{Terms}
 use Rattle.gf_poly.specs.Marking.{MarkedPolynomial}
 

@@ -1,18 +1,18 @@
 -- What a saturation is answered with: the reduced basis by deglex, or why there is none.
 -- Laws: proofs/StageLaws.antt. Source: Cox, Little, O'Shea, Ideals, Varieties, and Algorithms, 3.1 and 4.4.
 use Rattle.std.specs.Prelude.{◌≡◌, ◌⊎◌, ◌↔◌, ℕ, zero, suc, ◌+◌, ◌<◌, List, Contains, length, IfSome}
-use Rattle.gf_exponents.specs.Exponents.{entry}
-use Rattle.gf_exponents.specs.Orders.{IsDeglexBelow, IsWeightedBelow}
-use Rattle.gf_exponents.specs.SixOrders.{MonomialOrder}
+use Rattle.gf_exponents_theory.specs.Exponents.{entry}
+use Rattle.gf_exponents_theory.specs.Orders.{IsDeglexBelow, IsWeightedBelow}
+use Rattle.gf_exponents_theory.specs.SixOrders.{MonomialOrder}
 use Rattle.gf_poly.specs.Polynomial.{Terms, HasVariables, IsDescending}
 use Rattle.gf_poly.specs.Marking.{MarkedPolynomial, MarkedPolynomials, polys}
-use Rattle.gf_ideal.specs.Marks.{AreMarked}
-use Rattle.gf_ideal.specs.Membership.{IsMember}
-use Rattle.gf_ideal.specs.Bases.{IsReducedBasisFor, AreArranged}
+use Rattle.gf_ideal_theory.specs.Marks.{AreMarked}
+use Rattle.gf_ideal_theory.specs.Membership.{IsMember}
+use Rattle.gf_ideal_theory.specs.Bases.{IsReducedBasisFor, AreArranged}
 use Rattle.gf_buchberger.specs.Jobs.{HaveRingVariables}
 use Rattle.gf_buchberger.specs.declared.bases.BasisError.{BasisError}
 use Rattle.gf_buchberger.specs.Bases.{IsArrangedBasis, IsBasisRefusal, AreRunsWithinLimits, IsWantOfMemory}
-use Rattle.gf_saturation.specs.Saturations.{IsSaturatedBy, IsSaturated, next_variable, last_weight}
+use Rattle.gf_saturation_theory.specs.Saturations.{IsSaturatedBy, IsSaturated, next_variable, last_weight}
 use Rattle.gf_saturate.specs.declared.stages.Stage.{Stage}
 use Rattle.gf_saturate.specs.Widening.{extended_list, left_over, variable_at}
 

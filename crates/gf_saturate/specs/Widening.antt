@@ -4,7 +4,7 @@ use Rattle.gf_frac.specs.Fraction.{neg_ℚ, one_ℚ}
 use Rattle.gf_poly.specs.declared.Term.{Term}
 use Rattle.gf_poly.specs.Polynomial.{Terms}
 use Rattle.gf_poly.specs.Marking.{MarkedPolynomial}
-use Rattle.gf_exponents.specs.Exponents.{Exponents, entry}
+use Rattle.gf_exponents_theory.specs.Exponents.{Exponents, entry}
 
 -- a last variable more, which doesn't occur
 abbrev pub widened_term : Term → Term

@@ -5,7 +5,7 @@
 ghost use Rattle.std.specs.Prelude.{◌≡◌, ◌<◌, ◌≤◌, IsTrue, length};
 ghost use Rattle.gf_poly.specs.Polynomial.{HasVariables, IsDescending};
 ghost use Rattle.gf_buchberger.specs.Jobs.{HaveRingVariables};
-ghost use Rattle.gf_saturation.specs.Saturations.{product_power};
+ghost use Rattle.gf_saturation_theory.specs.Saturations.{product_power};
 ghost use Rattle.gf_saturate.specs.Graded.{AreInside, IsFollowed, IsEnoughFor, IsChoice};
 
 use crate::graded::members_after;

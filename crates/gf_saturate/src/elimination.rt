@@ -1,11 +1,11 @@
 //! What the ideal of the extended generators has in the first variables.
 ghost use Rattle.std.specs.Prelude.{◌≡◌, ◌<◌, ◌+◌, ◌==◌, IfOk, length};
-ghost use Rattle.gf_exponents.specs.Exponents.{entry};
-ghost use Rattle.gf_exponents.specs.Orders.{gains};
-ghost use Rattle.gf_exponents.specs.SixOrders.{MonomialOrder};
+ghost use Rattle.gf_exponents_theory.specs.Exponents.{entry};
+ghost use Rattle.gf_exponents_theory.specs.Orders.{gains};
+ghost use Rattle.gf_exponents_theory.specs.SixOrders.{MonomialOrder};
 ghost use Rattle.gf_order.specs.Weights.{AreBounded};
 ghost use Rattle.gf_buchberger.specs.Jobs.{HaveRingVariables};
-ghost use Rattle.gf_saturation.specs.Saturations.{last_weight};
+ghost use Rattle.gf_saturation_theory.specs.Saturations.{last_weight};
 ghost use Rattle.gf_saturate.specs.Widening.{extended_list, left_over};
 ghost use Rattle.gf_saturate.specs.Saturating.{IsToEliminate};
 

@@ -3,7 +3,7 @@
 //! Each function answers nothing where a run of Buchberger's algorithm or the allocator refuses, or where a member can't be divided as far as
 //! it has to be: then the saturation is worked out by inverses.
 ghost use Rattle.std.specs.Prelude.{◌≡◌, ◌<◌, ◌≤◌, ◌^◌, unsigned_abs, IfOk, IfSome, length};
-ghost use Rattle.gf_exponents.specs.Exponents.{entry};
+ghost use Rattle.gf_exponents_theory.specs.Exponents.{entry};
 ghost use Rattle.gf_poly.specs.Polynomial.{HasVariables};
 ghost use Rattle.gf_order.specs.Weights.{AreBounded};
 ghost use Rattle.gf_buchberger.specs.Jobs.{HaveRingVariables};

@@ -2,7 +2,7 @@
 //!
 //! No clause says that what is found is one: the saturation doesn't rest on it.
 ghost use Rattle.std.specs.Prelude.{◌≡◌, ◌≤◌, ◌<◌, ◌-ℤ◌, pos, IfOk, All, length, slice_set};
-ghost use Rattle.gf_int.specs.Range.{InRange};
+ghost use Rattle.gf_int_theory.specs.Range.{InRange};
 ghost use Rattle.gf_vec.specs.Vector.{zeros};
 ghost use Rattle.gf_poly.specs.Polynomial.{HasVariables};
 ghost use Rattle.gf_gordan.specs.Alternative.{AreRows};

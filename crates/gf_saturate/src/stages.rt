@@ -1,11 +1,11 @@
 //! Where a saturation stands, and one step of it.
 ghost use Rattle.std.specs.Prelude.{◌≡◌, ◌<◌, ◌≤◌, ◌+◌, ℕ, IfOk, IfErr, length};
 ghost use Rattle.gf_poly.specs.Marking.{polys};
-ghost use Rattle.gf_exponents.specs.Exponents.{entry};
-ghost use Rattle.gf_exponents.specs.SixOrders.{MonomialOrder};
+ghost use Rattle.gf_exponents_theory.specs.Exponents.{entry};
+ghost use Rattle.gf_exponents_theory.specs.SixOrders.{MonomialOrder};
 ghost use Rattle.gf_buchberger.specs.Bases.{IsArrangedBasis};
 ghost use Rattle.gf_buchberger.specs.Jobs.{HaveRingVariables};
-ghost use Rattle.gf_saturation.specs.Saturations.{last_weight};
+ghost use Rattle.gf_saturation_theory.specs.Saturations.{last_weight};
 ghost use Rattle.gf_saturate.specs.Widening.{extended_list, variable_at};
 ghost use Rattle.gf_saturate.specs.Saturating.{IsVariableStep, IsVariableStepRefusal, IsOnTheWay, IsStage};
 

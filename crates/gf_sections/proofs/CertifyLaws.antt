@@ -3,16 +3,16 @@ use Rattle.std.proofs.Common.{◌≡◌, ℕ, ◌+◌, ◌++◌, Bool, true, fal
 use Rattle.std.specs.List.{AllZip}
 use Rattle.std.proofs.lemmas.List.{append-nil}
 use Rattle.std.proofs.lemmas.List.Elements.{All-contains}
-use Rattle.gf_int.proofs.ListLaws.{all_by}
+use Rattle.gf_int_theory.proofs.ListLaws.{all_by}
 use Rattle.gf_gordan.specs.declared.error.ConeOverflow.{ConeOverflow}
 use Rattle.gf_gordan.specs.declared.error.GordanError.{GordanError}
 use Rattle.gf_gordan.specs.declared.error.GordanError.TheVariants.{Cone, Memory}
 use Rattle.gf_gordan.specs.Alternative.{AreRows}
 use Rattle.gf_gordan.specs.Equations.{IsStepOn}
 use Rattle.gf_gordan.specs.Steps.{Failed}
-use Rattle.gf_duality.specs.Generators.{unit_vectors}
-use Rattle.gf_duality.specs.Rays.{IsRays, IsImplied, IsZeroOn}
-use Rattle.gf_duality.specs.Faces.{IsFacetRow, AreFacetRows, cone_of}
+use Rattle.gf_duality_theory.specs.Generators.{unit_vectors}
+use Rattle.gf_duality_theory.specs.Rays.{IsRays, IsImplied, IsZeroOn}
+use Rattle.gf_duality_theory.specs.Faces.{IsFacetRow, AreFacetRows, cone_of}
 use Rattle.gf_rays.specs.Reached.{IsRaysStep}
 use Rattle.gf_sections.specs.ConeRows.{AreAscending}
 use Rattle.gf_sections.specs.Flagged.{AreFlagsOf, flagged}

@@ -6,9 +6,9 @@ use Rattle.gf_vec.specs.Steps.{IsFirstWide}
 use Rattle.gf_vec.specs.declared.error.WideVector.{WideVector}
 use Rattle.gf_gordan.specs.declared.error.ConeOverflow.{ConeOverflow}
 use Rattle.gf_gordan.specs.Equations.{IsStepOn}
-use Rattle.gf_duality.specs.Generators.{unit_vectors}
-use Rattle.gf_duality.specs.Rays.{IsZeroOn}
-use Rattle.gf_duality.specs.Faces.{sum_of}
+use Rattle.gf_duality_theory.specs.Generators.{unit_vectors}
+use Rattle.gf_duality_theory.specs.Rays.{IsZeroOn}
+use Rattle.gf_duality_theory.specs.Faces.{sum_of}
 use Rattle.gf_rays.specs.Reached.{IsRaysStep}
 use Rattle.gf_rays.specs.Parts.{zeros_of}
 use Rattle.gf_rays.specs.Sums.{adding_steps}

@@ -8,7 +8,7 @@ use Rattle.std.specs.Prelude.{cond}
 use Rattle.std.proofs.lemmas.Cmp.{ranked}
 use Rattle.std.proofs.Common.{arith, refl, sym, ap, ◌∙◌}
 use Rattle.std.proofs.lemmas.List.{take_more, take_all, map-append}
-use Rattle.gf_exponents.proofs.ExponentsLaws.{eq_by}
+use Rattle.gf_exponents_theory.proofs.ExponentsLaws.{eq_by}
 use Rattle.gf_poly.specs.Marking.{MarkedPolynomial, MarkedPolynomials}
 use Rattle.gf_poly.proofs.CollectLaws.{nonempty_by_test}
 use Rattle.gf_small.specs.declared.counts.Counts.{Counts}

@@ -5,18 +5,18 @@ use Rattle.std.proofs.Common.{arith, sym, ap, subst, ◌∙◌, inl, inr, append
 use Rattle.std.proofs.lemmas.Int.{ints}
 use Rattle.std.proofs.lemmas.List.{take_more}
 use Rattle.std.proofs.lemmas.List.Elements.{All-contains, Contains-get_or}
-use Rattle.gf_exponents.specs.Exponents.{same, whole_weight}
-use Rattle.gf_exponents.proofs.WholeWeightLaws.{whole_weight-same}
+use Rattle.gf_exponents_theory.specs.Exponents.{same, whole_weight}
+use Rattle.gf_exponents_theory.proofs.WholeWeightLaws.{whole_weight-same}
 use Rattle.gf_vec.specs.Vector.{dot}
 use Rattle.gf_poly.specs.declared.Term.{Term}
 use Rattle.gf_poly.specs.Polynomial.{HasVariables}
 use Rattle.gf_poly.specs.Marking.{MarkedPolynomial, MarkedPolynomials, Each, HaveVariables, HasMarkedTerm}
 use Rattle.gf_poly.proofs.CoefficientLaws.{term_length}
-use Rattle.gf_ideal.proofs.ListLaws.{Each-++}
+use Rattle.gf_ideal_theory.proofs.ListLaws.{Each-++}
 use Rattle.gf_gordan.specs.Alternative.{AreRows}
-use Rattle.gf_duality.specs.Rays.{IsLineal, IsRays}
-use Rattle.gf_facets.specs.Rows.{rows_of_polynomials, differences}
-use Rattle.gf_facets.proofs.RowLaws.{row-in, row-from, IsTermRow, length-differences, dot-differences}
+use Rattle.gf_duality_theory.specs.Rays.{IsLineal, IsRays}
+use Rattle.gf_facets_theory.specs.Rows.{rows_of_polynomials, differences}
+use Rattle.gf_facets_theory.proofs.RowLaws.{row-in, row-from, IsTermRow, length-differences, dot-differences}
 use Rattle.gf_small.specs.HomogeneitySpace.{IsInSpace, IsBasisOfSpace, HasSpaceDimension}
 use Rattle.gf_small.specs.Statistics.{members_of}
 use Rattle.gf_poly.proofs.InitialFormLaws.{same_or_not}

@@ -10,9 +10,9 @@ use Rattle.std.proofs.lemmas.Cmp.{ranked}
 use Rattle.std.proofs.lemmas.List.{take_more, drop_more, map-append, same_from_push}
 use Rattle.std.proofs.lemmas.List.Elements.{All-push, All-contains, Contains-append_right, all_zip_more}
 use Rattle.gf_frac.specs.Fraction.{◌+ℚ◌, zero_ℚ}
-use Rattle.gf_exponents.specs.Exponents.{Exponents, same, degree}
-use Rattle.gf_exponents.specs.Orders.{deglex, lex}
-use Rattle.gf_exponents.proofs.ExponentsLaws.{entries_same, same_lists}
+use Rattle.gf_exponents_theory.specs.Exponents.{Exponents, same, degree}
+use Rattle.gf_exponents_theory.specs.Orders.{deglex, lex}
+use Rattle.gf_exponents_theory.proofs.ExponentsLaws.{entries_same, same_lists}
 use Rattle.gf_poly.specs.declared.Term.{Term}
 use Rattle.gf_poly.specs.declared.monomial.ExponentOverflow.{ExponentOverflow}
 use Rattle.gf_poly.specs.Polynomial.{Terms, coefficient, SamePolynomial, IsAbove, IsDescending, HasVariables, KeepsVariables}

@@ -9,15 +9,15 @@ use Rattle.std.proofs.lemmas.Int.{ints}
 use Rattle.std.proofs.lemmas.List.{take_more, take_all, map-append}
 use Rattle.std.proofs.lemmas.List.Elements.{All-head, All-tail, Contains-push_cases}
 use Rattle.gf_frac.specs.Fraction.{zero_ℚ}
-use Rattle.gf_exponents.specs.Exponents.{Exponents, whole_weight}
-use Rattle.gf_exponents.specs.Orders.{IsLexBelow, lex}
-use Rattle.gf_exponents.proofs.OrderLaws.{lex-compares, lex-strict}
+use Rattle.gf_exponents_theory.specs.Exponents.{Exponents, whole_weight}
+use Rattle.gf_exponents_theory.specs.Orders.{IsLexBelow, lex}
+use Rattle.gf_exponents_theory.proofs.OrderLaws.{lex-compares, lex-strict}
 use Rattle.gf_poly.specs.declared.Term.{Term}
 use Rattle.gf_poly.specs.Polynomial.{Terms, IsDescending, HasVariables}
 use Rattle.gf_poly.specs.Marking.{MarkedPolynomial, Each, HaveVariables, head_of, polys}
 use Rattle.gf_poly.proofs.MarkingLaws.{mark_at}
 use Rattle.gf_poly.proofs.CoefficientLaws.{term_length}
-use Rattle.gf_ideal.proofs.ListLaws.{Each-++}
+use Rattle.gf_ideal_theory.proofs.ListLaws.{Each-++}
 use Rattle.gf_division.proofs.TailLaws.{head_at}
 use Rattle.gf_small.specs.MarksByWeight.{IsBelowBy, IsMarkedByWeight}
 

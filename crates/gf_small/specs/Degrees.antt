@@ -1,6 +1,6 @@
 -- Total degrees of polynomials.
 use Rattle.std.specs.Prelude.{ℕ, List, [], ◌∷◌, max}
-use Rattle.gf_exponents.specs.Exponents.{degree}
+use Rattle.gf_exponents_theory.specs.Exponents.{degree}
 use Rattle.gf_poly.specs.Polynomial.{Terms}
 
 -- the greatest of these numbers; 0 if there are none

@@ -1,16 +1,16 @@
 -- The homogeneity space of polynomials: the vectors by which each of them is homogeneous.
 -- Laws: proofs/HomogeneitySpaceLaws.antt. Source: Fukuda, Jensen, Thomas, Computing Gröbner fans, 2.
 use Rattle.std.specs.Prelude.{◌≡◌, ◌↔◌, ℕ, List, [], ℤ, length, Contains}
-use Rattle.gf_exponents.specs.Exponents.{whole_weight}
+use Rattle.gf_exponents_theory.specs.Exponents.{whole_weight}
 use Rattle.gf_poly.specs.declared.Term.{Term}
 use Rattle.gf_poly.specs.Polynomial.{Terms}
 use Rattle.gf_poly.specs.Marking.{MarkedPolynomial}
 use Rattle.gf_gordan.specs.Alternative.{AreRows}
 use Rattle.gf_gordan.specs.declared.error.GordanError.{GordanError}
 use Rattle.gf_gordan.specs.Steps.{Failed}
-use Rattle.gf_duality.specs.Rays.{IsEchelon, Generated}
+use Rattle.gf_duality_theory.specs.Rays.{IsEchelon, Generated}
 use Rattle.gf_rays.specs.Reached.{IsRaysStep}
-use Rattle.gf_facets.specs.Rows.{rows_of_polynomials}
+use Rattle.gf_facets_theory.specs.Rows.{rows_of_polynomials}
 
 -- all terms of f have the same weight by w
 abbrev pub IsHomogeneousBy : List ℤ → Terms → Type 0

@@ -3,7 +3,7 @@
 -- Source: Cox, Little, O'Shea, Ideals, Varieties, and Algorithms, 8.2.
 use Rattle.std.specs.Prelude.{◌≡◌, ℕ, ◌+◌, ◌-◌, ◌^◌, ◌<◌, ◌≤◌, All, List, [], ◌∷◌, ◌++◌, map}
 use Rattle.std.specs.List.{AllZip}
-use Rattle.gf_exponents.specs.Exponents.{Exponents, degree}
+use Rattle.gf_exponents_theory.specs.Exponents.{Exponents, degree}
 use Rattle.gf_poly.specs.declared.Term.{Term}
 use Rattle.gf_poly.specs.declared.monomial.ExponentOverflow.{ExponentOverflow}
 use Rattle.gf_poly.specs.Polynomial.{Terms, SamePolynomial, IsDescending, HasVariables}

@@ -1,8 +1,8 @@
 -- The greatest term by a weight, ties by lex.
 -- Laws: proofs/MarksByWeightLaws.antt.
 use Rattle.std.specs.Prelude.{◌≡◌, ◌⊎◌, List, ℤ, ◌<ℤ◌, length, Contains}
-use Rattle.gf_exponents.specs.Exponents.{Exponents, whole_weight}
-use Rattle.gf_exponents.specs.Orders.{IsLexBelow}
+use Rattle.gf_exponents_theory.specs.Exponents.{Exponents, whole_weight}
+use Rattle.gf_exponents_theory.specs.Orders.{IsLexBelow}
 use Rattle.gf_poly.specs.declared.Term.{Term}
 use Rattle.gf_poly.specs.Polynomial.{Terms}
 use Rattle.gf_poly.specs.Marking.{MarkedPolynomial, MarkedPolynomials, HasMarkedTerm, Each, polys}

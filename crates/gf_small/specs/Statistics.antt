@@ -3,7 +3,7 @@ use Rattle.std.specs.Prelude.{◌≡◌, ℕ, All, List, [], map, flat_map, leng
 use Rattle.gf_poly.specs.Marking.{MarkedPolynomial, MarkedPolynomials}
 use Rattle.gf_gordan.specs.declared.error.GordanError.{GordanError}
 use Rattle.gf_rays.specs.Cones.{AreRaysWithinLimits}
-use Rattle.gf_facets.specs.Rows.{rows_of_polynomials}
+use Rattle.gf_facets_theory.specs.Rows.{rows_of_polynomials}
 use Rattle.gf_small.specs.declared.counts.Stats.{Stats}
 use Rattle.gf_small.specs.Degrees.{greatest}
 use Rattle.gf_small.specs.Counts.{least, degree_of_set, count_of_terms}

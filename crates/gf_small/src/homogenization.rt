@@ -1,6 +1,6 @@
 //! Homogenization by a new last variable.
 ghost use Rattle.std.specs.Prelude.{◌≡◌, ◌≤◌, ◌<◌, ◌+◌, ◌^◌, ◌++◌, ◌∷◌, [], ℕ, All, IfOk, IfErr, length, map, true, false};
-ghost use Rattle.gf_exponents.specs.Exponents.{Exponents, degree};
+ghost use Rattle.gf_exponents_theory.specs.Exponents.{Exponents, degree};
 ghost use Rattle.gf_poly.specs.Polynomial.{HasVariables, IsDescending, KeepsVariables, SamePolynomial};
 ghost use Rattle.gf_poly.specs.Collecting.{like};
 ghost use Rattle.gf_text.specs.RingText.{is_name, has};

@@ -1,6 +1,6 @@
 //! Marks by a weight.
 ghost use Rattle.std.specs.Prelude.{◌≡◌, ◌≢◌, ◌≤◌, ◌<◌, ◌^◌, ◌⊎◌, [], All, IfOk, length, unsigned_abs, Contains, true, false, ◌<ℤ◌};
-ghost use Rattle.gf_exponents.specs.Orders.{IsLexBelow};
+ghost use Rattle.gf_exponents_theory.specs.Orders.{IsLexBelow};
 ghost use Rattle.gf_poly.specs.declared.Term.{Term as AnyTerm};
 ghost use Rattle.gf_poly.specs.Polynomial.{HasVariables};
 ghost use Rattle.gf_poly.specs.Marking.{head_of};

@@ -3,7 +3,7 @@ ghost use Rattle.std.specs.Prelude.{◌≡◌, IfOk, IfErr};
 ghost use Rattle.gf_poly.specs.Marking.{Each, HaveVariables, HasMarkedTerm};
 ghost use Rattle.gf_gordan.specs.Alternative.{AreRows};
 ghost use Rattle.gf_gordan.specs.declared.error.GordanError.TheVariants.{Memory};
-ghost use Rattle.gf_facets.specs.Rows.{rows_of_polynomials};
+ghost use Rattle.gf_facets_theory.specs.Rows.{rows_of_polynomials};
 ghost use Rattle.gf_small.specs.HomogeneitySpace.{HasSpaceDimension};
 ghost use Rattle.gf_small.specs.Statistics.{members_of, AreSetsIn, AreStatistics, IsStatisticsCause, AreStatisticsWithinLimits};
 

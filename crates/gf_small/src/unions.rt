@@ -1,6 +1,6 @@
 //! The union of sets of polynomials.
 ghost use Rattle.std.specs.Prelude.{◌≡◌, ◌++◌, ◌∷◌, [], ℕ, List, All, IfOk, OnOk};
-ghost use Rattle.gf_int.specs.Range.{InRange};
+ghost use Rattle.gf_int_theory.specs.Range.{InRange};
 ghost use Rattle.gf_poly.specs.Polynomial.{IsDescending};
 ghost use Rattle.gf_text.specs.declared.written.Written.{Written as AnyWritten};
 ghost use Rattle.gf_text.specs.Sets.{AreIn};

@@ -4,27 +4,27 @@
 use Rattle.std.specs.Global.{Global}
 use Rattle.std.proofs.Common.{◌≡◌, ◌⊎◌, ℕ, suc, ◌+◌, ◌-◌, ◌*◌, ◌≤◌, List, [], ◌∷◌, ◌++◌, ℤ, length, map, Option, Some, None, Result, Ok, Err, arith, refl, sym, ap, subst, inl, inr, append-nil}
 use Rattle.gf_poly.specs.Marking.{MarkedPolynomials}
-use Rattle.gf_walk.specs.declared.mark.Mark.{Mark}
-use Rattle.gf_walk.specs.declared.mark.Mark.TheVariants.{Before, After, Listed, Finished}
-use Rattle.gf_walk.specs.declared.expand.Piece.{Piece}
-use Rattle.gf_walk.specs.declared.expand.Piece.TheVariants.{Ready, Under, Refused}
-use Rattle.gf_walk.specs.Path.{Leads, Precedes}
-use Rattle.gf_walk.specs.Left.{IsLeft}
-use Rattle.gf_walk.specs.Place.{Place}
-use Rattle.gf_walk.specs.Listing.{Among, Rises, LeadTo, Leaves, IsLeftAt, IsFirstOf}
-use Rattle.gf_walk.specs.Pieces.{PiecesLeave}
-use Rattle.gf_walk.proofs.FrontLaws.{precedes_on}
-use Rattle.gf_walk.proofs.SearchLaws.{listed_here}
-use Rattle.gf_walk.proofs.ListLaws.{gives, precedes_itself, precedes_trans}
+use Rattle.gf_reverse_search.specs.declared.mark.Mark.{Mark}
+use Rattle.gf_reverse_search.specs.declared.mark.Mark.TheVariants.{Before, After, Listed, Finished}
+use Rattle.gf_reverse_search.specs.declared.expand.Piece.{Piece}
+use Rattle.gf_reverse_search.specs.declared.expand.Piece.TheVariants.{Ready, Under, Refused}
+use Rattle.gf_reverse_search.specs.Path.{Leads, Precedes}
+use Rattle.gf_reverse_search.specs.Left.{IsLeft}
+use Rattle.gf_reverse_search.specs.Place.{Place}
+use Rattle.gf_reverse_search.specs.Listing.{Among, Rises, LeadTo, Leaves, IsLeftAt, IsFirstOf}
+use Rattle.gf_reverse_search.specs.Pieces.{PiecesLeave}
+use Rattle.gf_reverse_search.proofs.FrontLaws.{precedes_on}
+use Rattle.gf_reverse_search.proofs.SearchLaws.{listed_here}
+use Rattle.gf_reverse_search.proofs.ListLaws.{gives, precedes_itself, precedes_trans}
 use Rattle.gf_waves.specs.Frontier.{Frontier, AreRefusals, IsFrontRefused}
 use Rattle.gf_waves.specs.Wave.{IsCall}
-use Rattle.gf_facets.specs.LexPositive.{IsBefore}
-use Rattle.gf_facets.specs.Regions.{Region}
-use Rattle.gf_facets.proofs.VectorOrder.{before_strict}
-use Rattle.gf_reverse.specs.Upward.{Fan, IsNode, IsNodeIn, IsParent, fan_of}
-use Rattle.gf_reverse.specs.Lists.{IsPathOf}
-use Rattle.gf_reverse.proofs.TreeLaws.{SameFan, node_moved, count, upward_tree, upward_finite, above_node, down_node, own_fan, back_fan}
-use Rattle.gf_reverse.proofs.ListLaws.{own, path_exists, path_one, path_below, root_above, root_own}
+use Rattle.gf_facets_theory.specs.LexPositive.{IsBefore}
+use Rattle.gf_facets_theory.specs.Regions.{Region}
+use Rattle.gf_facets_theory.proofs.VectorOrder.{before_strict}
+use Rattle.gf_reverse_theory.specs.Upward.{Fan, IsNode, IsNodeIn, IsParent, fan_of}
+use Rattle.gf_reverse_theory.specs.Lists.{IsPathOf}
+use Rattle.gf_reverse_theory.proofs.TreeLaws.{SameFan, node_moved, count, upward_tree, upward_finite, above_node, down_node, own_fan, back_fan}
+use Rattle.gf_reverse_theory.proofs.ListLaws.{own, path_exists, path_one, path_below, root_above, root_own}
 use Rattle.gf_tree.specs.declared.tree.BasisTree.{BasisTree}
 use Rattle.gf_flip.specs.declared.error.TreeError.{TreeError}
 use Rattle.gf_flip.specs.declared.error.TreeError.TheVariants.{Memory}

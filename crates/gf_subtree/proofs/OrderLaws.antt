@@ -3,23 +3,23 @@
 -- To cite: AreSorted, sorted_right, IsInOrderAfter, call_order. The rest are steps.
 use Rattle.std.proofs.Common.{◌≡◌, ℕ, zero, suc, ◌+◌, ◌-◌, ◌*◌, min, replicate, List, [], ◌∷◌, ◌++◌, ◌⊎◌, length, refl, sym, ap, inl, inr, subst, ◌∙◌, append_assoc, append-nil, Option, Some, None, Ok, Err}
 use Rattle.std.specs.declared.result.Result.{Result}
-use Rattle.gf_walk.specs.declared.mark.Mark.{Mark}
-use Rattle.gf_walk.specs.declared.mark.Mark.TheVariants.{Before, Listed, After}
-use Rattle.gf_walk.specs.declared.expand.Piece.{Piece}
-use Rattle.gf_walk.specs.declared.expand.Piece.TheVariants.{Ready, Under, Refused}
-use Rattle.gf_walk.specs.Path.{IsStrictOrder, IsTree}
-use Rattle.gf_walk.specs.Place.{Place}
-use Rattle.gf_walk.specs.Listing.{Among, Leaves, IsLeftAt}
-use Rattle.gf_walk.specs.Pieces.{ArePiecesBelow, Follows, GoesDown, PiecesLeave}
-use Rattle.gf_walk.proofs.ListLaws.{gives}
-use Rattle.gf_walk.proofs.SearchLaws.{listed_here}
-use Rattle.gf_walk.proofs.PiecesLaws.{expansion_leaves}
+use Rattle.gf_reverse_search.specs.declared.mark.Mark.{Mark}
+use Rattle.gf_reverse_search.specs.declared.mark.Mark.TheVariants.{Before, Listed, After}
+use Rattle.gf_reverse_search.specs.declared.expand.Piece.{Piece}
+use Rattle.gf_reverse_search.specs.declared.expand.Piece.TheVariants.{Ready, Under, Refused}
+use Rattle.gf_reverse_search.specs.Path.{IsStrictOrder, IsTree}
+use Rattle.gf_reverse_search.specs.Place.{Place}
+use Rattle.gf_reverse_search.specs.Listing.{Among, Leaves, IsLeftAt}
+use Rattle.gf_reverse_search.specs.Pieces.{ArePiecesBelow, Follows, GoesDown, PiecesLeave}
+use Rattle.gf_reverse_search.proofs.ListLaws.{gives}
+use Rattle.gf_reverse_search.proofs.SearchLaws.{listed_here}
+use Rattle.gf_reverse_search.proofs.PiecesLaws.{expansion_leaves}
 use Rattle.gf_waves.specs.Frontier.{Frontier, due_at, room_at, times_at, first_job, behind_job}
 use Rattle.gf_waves.specs.Wave.{IsWaved, IsExpansion, ExpandsOn, IsAsked, IsGiven, IsReadied, IsCall}
 use Rattle.gf_waves.proofs.WaveLaws.{over_leaves}
 use Rattle.gf_subtree.specs.Rows.{AreAmong, LeaveInOrder}
 use Rattle.gf_subtree.proofs.RowLaws.{among_both, one_among, cut_among}
-use Rattle.gf_reverse.proofs.WeightListLaws.{among-right}
+use Rattle.gf_reverse_theory.proofs.WeightListLaws.{among-right}
 
 -- ---- nodes in order
 

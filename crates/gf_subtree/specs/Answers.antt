@@ -3,13 +3,13 @@ use Rattle.std.specs.Prelude.{◌≡◌, ◌⊎◌, ◌+◌, ◌≤◌, ℕ, suc
 use Rattle.std.specs.declared.result.Result.{Result}
 use Rattle.std.specs.declared.result.Result.TheVariants.{Err}
 use Rattle.gf_poly.specs.Marking.{MarkedPolynomials}
-use Rattle.gf_walk.specs.Listing.{Among}
-use Rattle.gf_walk.specs.Place.{Place}
-use Rattle.gf_walk.specs.declared.expand.Piece.TheVariants.{Under}
+use Rattle.gf_reverse_search.specs.Listing.{Among}
+use Rattle.gf_reverse_search.specs.Place.{Place}
+use Rattle.gf_reverse_search.specs.declared.expand.Piece.TheVariants.{Under}
 use Rattle.gf_waves.specs.Frontier.{IsFrontRefused}
 use Rattle.gf_waves.specs.Wave.{IsCall}
-use Rattle.gf_facets.specs.LexPositive.{IsBefore}
-use Rattle.gf_reverse.specs.Upward.{Fan, IsNodeIn, IsNode}
+use Rattle.gf_facets_theory.specs.LexPositive.{IsBefore}
+use Rattle.gf_reverse_theory.specs.Upward.{Fan, IsNodeIn, IsNode}
 use Rattle.gf_tree.specs.declared.tree.BasisTree.{BasisTree}
 use Rattle.gf_flip.specs.declared.error.TreeError.{TreeError}
 use Rattle.gf_flip.specs.declared.error.TreeError.TheVariants.{Memory}

@@ -4,19 +4,19 @@
 use Rattle.std.specs.Prelude.{◌≡◌, ◌⊎◌, ℕ, ◌+◌, ◌-◌, ◌*◌, ◌≤◌, List, [], ◌∷◌, ◌++◌, length, ℤ}
 use Rattle.std.specs.Global.{Global}
 use Rattle.gf_poly.specs.Marking.{MarkedPolynomials}
-use Rattle.gf_walk.specs.Place.{Place}
-use Rattle.gf_walk.specs.Path.{Precedes}
-use Rattle.gf_walk.specs.Listing.{Among, IsLeftAt, Rises}
-use Rattle.gf_walk.specs.Pieces.{PiecesLeave, RefusesAt}
-use Rattle.gf_walk.specs.declared.mark.Mark.TheVariants.{Listed}
-use Rattle.gf_walk.specs.declared.expand.Piece.{Piece}
-use Rattle.gf_walk.specs.declared.expand.Piece.TheVariants.{Ready, Under, Refused}
+use Rattle.gf_reverse_search.specs.Place.{Place}
+use Rattle.gf_reverse_search.specs.Path.{Precedes}
+use Rattle.gf_reverse_search.specs.Listing.{Among, IsLeftAt, Rises}
+use Rattle.gf_reverse_search.specs.Pieces.{PiecesLeave, RefusesAt}
+use Rattle.gf_reverse_search.specs.declared.mark.Mark.TheVariants.{Listed}
+use Rattle.gf_reverse_search.specs.declared.expand.Piece.{Piece}
+use Rattle.gf_reverse_search.specs.declared.expand.Piece.TheVariants.{Ready, Under, Refused}
 use Rattle.gf_waves.specs.Frontier.{Frontier, AreRefusals}
-use Rattle.gf_facets.specs.LexPositive.{IsBefore}
-use Rattle.gf_facets.specs.Regions.{Region}
-use Rattle.gf_reverse.specs.Upward.{Fan, IsNodeIn, IsParent, fan_of}
-use Rattle.gf_reverse.specs.Lists.{IsPathOf}
-use Rattle.gf_reverse.proofs.TreeLaws.{count}
+use Rattle.gf_facets_theory.specs.LexPositive.{IsBefore}
+use Rattle.gf_facets_theory.specs.Regions.{Region}
+use Rattle.gf_reverse_theory.specs.Upward.{Fan, IsNodeIn, IsParent, fan_of}
+use Rattle.gf_reverse_theory.specs.Lists.{IsPathOf}
+use Rattle.gf_reverse_theory.proofs.TreeLaws.{count}
 use Rattle.gf_tree.specs.declared.tree.BasisTree.{BasisTree}
 use Rattle.gf_flip.specs.declared.error.TreeError.{TreeError}
 use Rattle.gf_tree.specs.Refusals.{IsCallRefusal}

@@ -1,7 +1,7 @@
 //! The list of all bases of an ideal, worked off in waves.
 ghost use Rattle.std.specs.Prelude.{◌≡◌, ◌+◌, ◌*◌, ◌≤◌, length, List, IfOk, IfErr, OnErr, count_by};
 ghost use Rattle.gf_poly.specs.Marking.{MarkedPolynomials};
-ghost use Rattle.gf_reverse.specs.Upward.{IsNode};
+ghost use Rattle.gf_reverse_theory.specs.Upward.{IsNode};
 ghost use Rattle.gf_waves.specs.Frontier.{AreRefusals, is_ready, is_refused};
 ghost use Rattle.gf_waves.specs.Wave.{is_served};
 ghost use Rattle.gf_tree.specs.Refusals.{IsTreeRefusal, IsTreeWithinLimits};
@@ -12,8 +12,8 @@ ghost use Rattle.gf_subtree.specs.Answers.{IsResumedAs, IsRowAnswer, IsRowCall, 
 
 use gf_cone::Region;
 use gf_poly::MarkedSet;
+use gf_reverse_search::Depth;
 use gf_tree::{BasisTree, Node, TreeError, Walker};
-use gf_walk::Depth;
 use gf_waves::Gate;
 use std::alloc::{AllocError, Global};
 use std::marker::Model;

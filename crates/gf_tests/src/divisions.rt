@@ -1,13 +1,13 @@
 //! S-polynomials, steps, normal forms, divisions and autoreductions, of polynomials in three variables.
 ghost use Rattle.std.specs.Prelude.{◌≡◌, ◌⊎◌, ◌≤◌, ◌^◌, ◌*◌, true, length, IfErr, IsTrue};
-ghost use Rattle.gf_exponents.specs.Exponents.{same, weight as weight_by};
-ghost use Rattle.gf_exponents.specs.Orders.{lighter};
+ghost use Rattle.gf_exponents_theory.specs.Exponents.{same, weight as weight_by};
+ghost use Rattle.gf_exponents_theory.specs.Orders.{lighter};
 ghost use Rattle.gf_frac.specs.Fraction.{one_ℚ};
 ghost use Rattle.gf_poly.specs.declared.TheConstants.{ROOM};
 ghost use Rattle.gf_poly.specs.Polynomial.{HasVariables, coefficient};
 ghost use Rattle.gf_division.specs.Divisions.{IsDivisionRefusal};
 ghost use Rattle.gf_division.specs.MonicForms.{HasSomeVariables};
-ghost use Rattle.gf_ideal.specs.Marks.{HasPositiveWeight, IsMarked, IsPositive, IsRealisable, IsRealisedBy};
+ghost use Rattle.gf_ideal_theory.specs.Marks.{HasPositiveWeight, IsMarked, IsPositive, IsRealisable, IsRealisedBy};
 
 use gf_division::*;
 use gf_frac::Frac;

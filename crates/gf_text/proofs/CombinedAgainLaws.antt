@@ -9,9 +9,9 @@ use Rattle.std.proofs.lemmas.Bool.Decides.{eqb_tells, nat_tests}
 use Rattle.std.proofs.lemmas.Slice.Eq.{bytes_eq-Decides}
 use Rattle.gf_frac.specs.Fraction.{Fraction, over, over-parts, ◌+ℚ◌, zero_ℚ}
 use Rattle.gf_frac.proofs.FractionLaws.{over-neg, +ℚ_assoc, +ℚ-zero, zero-+ℚ}
-use Rattle.gf_exponents.specs.Exponents.{Exponents, same}
-use Rattle.gf_exponents.specs.Orders.{deglex}
-use Rattle.gf_exponents.proofs.ExponentsLaws.{same-refl}
+use Rattle.gf_exponents_theory.specs.Exponents.{Exponents, same}
+use Rattle.gf_exponents_theory.specs.Orders.{deglex}
+use Rattle.gf_exponents_theory.proofs.ExponentsLaws.{same-refl}
 use Rattle.gf_poly.specs.declared.Term.{Term}
 use Rattle.gf_poly.specs.Polynomial.{Terms, IsDescending, HasVariables, SamePolynomial, coefficient}
 use Rattle.gf_poly.specs.Collecting.{like, LikeSumsFit}

@@ -14,8 +14,8 @@ use Rattle.gf_frac.specs.Fraction.{◌+ℚ◌, zero_ℚ}
 use Rattle.gf_frac.proofs.FractionLaws.{zero-+ℚ}
 use Rattle.std.specs.declared.cmp.Ordering.{Ordering}
 use Rattle.std.specs.declared.cmp.Ordering.TheVariants.{Less, Equal, Greater}
-use Rattle.gf_exponents.specs.Exponents.{Exponents, same}
-use Rattle.gf_exponents.specs.Orders.{deglex}
+use Rattle.gf_exponents_theory.specs.Exponents.{Exponents, same}
+use Rattle.gf_exponents_theory.specs.Orders.{deglex}
 use Rattle.gf_poly.specs.declared.Term.{Term}
 use Rattle.gf_poly.specs.declared.monomial.ExponentOverflow.{ExponentOverflow}
 use Rattle.gf_poly.specs.Polynomial.{Terms, IsAbove, IsDescending, HasVariables, SamePolynomial, coefficient}

@@ -5,7 +5,7 @@ use Rattle.std.specs.List.{list_all}
 use Rattle.std.specs.Prelude.{Contains}
 use Rattle.std.specs.Int.RustNames.{unsigned_abs}
 use Rattle.gf_frac.specs.Fraction.{Fraction}
-use Rattle.gf_exponents.specs.Exponents.{Exponents}
+use Rattle.gf_exponents_theory.specs.Exponents.{Exponents}
 use Rattle.gf_poly.specs.declared.Term.{Term}
 use Rattle.gf_poly.specs.Polynomial.{Terms, HasVariables, coefficient}
 use Rattle.gf_poly.specs.Marking.{MarkedPolynomial}

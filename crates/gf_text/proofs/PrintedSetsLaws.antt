@@ -1,7 +1,7 @@
 -- The parts of printed polynomials and sets, one after another.
 -- To cite: marked_parts, other_test, members_parts. The rest are steps.
 use Rattle.std.proofs.Common.{◌≡◌, ◌<◌, ◌≤◌, ◌-◌, ℕ, zero, suc, List, [], ◌∷◌, ◌++◌, length, take, take_all, drop, get_or, flat_map, refl, sym, ap, ◌∙◌, arith, Bool, bytes_eq, if◌then◌else◌}
-use Rattle.gf_exponents.specs.Exponents.{Exponents}
+use Rattle.gf_exponents_theory.specs.Exponents.{Exponents}
 use Rattle.gf_poly.specs.declared.Term.{Term}
 use Rattle.gf_poly.specs.Polynomial.{Terms, IsDescending, HasVariables, coefficient}
 use Rattle.gf_poly.specs.Marking.{MarkedPolynomial, head_of}

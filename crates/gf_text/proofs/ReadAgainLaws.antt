@@ -6,7 +6,7 @@ use Rattle.gf_frac.specs.Fraction.{Fraction, ◌+ℚ◌, zero_ℚ}
 use Rattle.gf_frac.specs.Fits.{FitsAdd}
 use Rattle.gf_frac.specs.declared.refusal.Overflow.{Overflow}
 use Rattle.gf_frac.proofs.FractionLaws.{+ℚ_assoc, +ℚ-zero}
-use Rattle.gf_exponents.specs.Exponents.{Exponents}
+use Rattle.gf_exponents_theory.specs.Exponents.{Exponents}
 use Rattle.gf_poly.specs.declared.Term.{Term}
 use Rattle.gf_poly.specs.Polynomial.{Terms, HasVariables, coefficient}
 use Rattle.gf_poly.specs.Collecting.{sum_of_coefficients, SumsFit, SumsFitFrom, LikeSumsFit, IsLikeSumOverflow}

@@ -4,7 +4,7 @@
 -- Laws: proofs/CombiningLaws.antt.
 use Rattle.std.specs.Prelude.{◌≡◌, ◌≢◌, ℕ, pos, ◌+◌, ◌-◌, ◌^◌, ◌<◌, Bool, true, false, nat_lt, List, [], ◌∷◌, Option, Some, IfSome, MatchOption, Result, Ok, Err, slice_get, slice_index, slice_set, replicate, if◌then◌else◌}
 use Rattle.gf_frac.specs.Fraction.{Fraction, over, zero_ℚ, neg_ℚ}
-use Rattle.gf_exponents.specs.Exponents.{Exponents}
+use Rattle.gf_exponents_theory.specs.Exponents.{Exponents}
 use Rattle.gf_poly.specs.declared.Term.{Term}
 use Rattle.gf_poly.specs.declared.monomial.ExponentOverflow.{ExponentOverflow}
 use Rattle.gf_poly.specs.Polynomial.{Terms, coefficient, SamePolynomial, IsDescending, HasVariables, KeepsVariables}

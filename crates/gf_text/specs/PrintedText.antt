@@ -3,7 +3,7 @@
 -- Laws: proofs/PrintedTextLaws.antt.
 use Rattle.std.specs.Prelude.{ℕ, ℤ, pos, negsuc, Bool, true, false, ◌==◌, ◌&&◌, List, [], ◌∷◌, ◌++◌, codes, decimal, flat_map, if◌then◌else◌}
 use Rattle.std.specs.Int.RustNames.{unsigned_abs}
-use Rattle.gf_exponents.specs.Exponents.{Exponents}
+use Rattle.gf_exponents_theory.specs.Exponents.{Exponents}
 use Rattle.gf_frac.specs.Fraction.{Fraction}
 use Rattle.gf_poly.specs.Polynomial.{Terms}
 

@@ -1,5 +1,5 @@
 //! Fan files: what is read of one, why one isn't, and the text of one.
-use gf_fanfile::{
+use gf_fan_files::{
     FanFileError, FanParts, ListedCone, RayNumbers, read, read_file, write, write_parts,
 };
 use gf_text::{Printer, Reader, TextError};

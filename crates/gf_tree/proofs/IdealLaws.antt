@@ -1,30 +1,30 @@
 -- The bases of an ideal that is given by generators.
 -- To cite: start_of_ideal, start_in_region.
 use Rattle.std.proofs.Common.{ℕ, List, [], refl, sym, ◌∙◌, subst}
-use Rattle.gf_exponents.specs.Orders.{gains, IsWeightedBelow}
-use Rattle.gf_exponents.specs.SixOrders.{MonomialOrder, below_of}
-use Rattle.gf_exponents.proofs.SixOrdersLaws.{order-is}
-use Rattle.gf_ideal.specs.Membership.{AreInVariables}
-use Rattle.gf_ideal.specs.Marks.{AreMarked, HasPositiveWeight}
-use Rattle.gf_ideal.specs.MonomialOrders.{IsOfGrade}
-use Rattle.gf_ideal.proofs.BasisLaws.{basis_of_groebner_for}
-use Rattle.gf_ideal.proofs.ListedTerms.{variables_by_terms}
-use Rattle.gf_ideal.proofs.MarkWeights.{marked_positive, mark-there}
-use Rattle.gf_ideal.proofs.OrderWeights.{order-weights}
+use Rattle.gf_exponents_theory.specs.Orders.{gains, IsWeightedBelow}
+use Rattle.gf_exponents_theory.specs.SixOrders.{MonomialOrder, below_of}
+use Rattle.gf_exponents_theory.proofs.SixOrdersLaws.{order-is}
+use Rattle.gf_ideal_theory.specs.Membership.{AreInVariables}
+use Rattle.gf_ideal_theory.specs.Marks.{AreMarked, HasPositiveWeight}
+use Rattle.gf_ideal_theory.specs.MonomialOrders.{IsOfGrade}
+use Rattle.gf_ideal_theory.proofs.BasisLaws.{basis_of_groebner_for}
+use Rattle.gf_ideal_theory.proofs.ListedTerms.{variables_by_terms}
+use Rattle.gf_ideal_theory.proofs.MarkWeights.{marked_positive, mark-there}
+use Rattle.gf_ideal_theory.proofs.OrderWeights.{order-weights}
 use Rattle.gf_buchberger.proofs.JobLaws.{ring_variables}
-use Rattle.gf_facets.specs.Facets.{IsInClosedCone}
-use Rattle.gf_facets.specs.MarkedBases.{IsMarkedReducedBasis, IsBasisInRegion}
-use Rattle.gf_bases.proofs.RegionBases.{basis_at}
-use Rattle.gf_bases.proofs.LawsHold.{reduced_bases_exist}
+use Rattle.gf_facets_theory.specs.Facets.{IsInClosedCone}
+use Rattle.gf_facets_theory.specs.MarkedBases.{IsMarkedReducedBasis, IsBasisInRegion}
+use Rattle.gf_bases_theory.proofs.RegionBases.{basis_at}
+use Rattle.gf_bases_theory.proofs.LawsHold.{reduced_bases_exist}
 use Rattle.gf_poly.specs.Polynomial.{Terms}
 use Rattle.gf_poly.specs.Marking.{MarkedPolynomial, MarkedPolynomials}
 use Rattle.gf_buchberger.specs.Bases.{IsArrangedBasis}
 use Rattle.gf_buchberger.specs.Jobs.{HaveRingVariables}
-use Rattle.gf_facets.specs.Regions.{Region, IsRegion, all_positive}
-use Rattle.gf_facets.proofs.SystemLaws.{all_positive-region}
+use Rattle.gf_facets_theory.specs.Regions.{Region, IsRegion, all_positive}
+use Rattle.gf_facets_theory.proofs.SystemLaws.{all_positive-region}
 use Rattle.gf_flip.proofs.ReachedLaws.{reached_first}
-use Rattle.gf_reverse.specs.Upward.{IsNodeIn, IsNode}
-use Rattle.gf_reverse.proofs.ListLaws.{own}
+use Rattle.gf_reverse_theory.specs.Upward.{IsNodeIn, IsNode}
+use Rattle.gf_reverse_theory.proofs.ListLaws.{own}
 use Rattle.gf_tree.specs.Ideals.{ideal_by, ideal_within}
 
 -- the basis by degree, then lex, is a basis of its ideal, and so of the ideal that it generates

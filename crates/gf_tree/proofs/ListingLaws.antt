@@ -2,17 +2,17 @@
 -- To cite: given_none, given_more, given_all, refusal_given, limits_given, all_left, list_below, root_list, all_given, part_given, all_listed, part_listed.
 use Rattle.std.proofs.Common.{◌≡◌, ℕ, List, [], ◌∷◌, ◌++◌, refl, sym, ◌∙◌, subst}
 use Rattle.gf_poly.specs.Marking.{MarkedPolynomials}
-use Rattle.gf_walk.specs.Whole.{IsWholeList}
-use Rattle.gf_walk.proofs.FinitenessLaws.{whole_below, no_loop-rank}
-use Rattle.gf_walk.proofs.GrowingLaws.{one_more, all_there}
-use Rattle.gf_facets.specs.LexPositive.{IsBefore}
-use Rattle.gf_facets.specs.Regions.{Region}
-use Rattle.gf_facets.proofs.VectorOrder.{before_strict}
-use Rattle.gf_reverse.specs.Upward.{Fan, IsNode, IsNodeIn, IsParent, fan_of}
-use Rattle.gf_reverse.specs.Lists.{IsListFor, IsListOfBases}
-use Rattle.gf_reverse.proofs.TreeLaws.{own_fan, back_fan, node_moved, rank, upward_tree, upward_falls, upward_finite}
-use Rattle.gf_reverse.proofs.ListLaws.{own, list_of_bases}
-use Rattle.gf_reverse.proofs.OneListLaws.{list_for}
+use Rattle.gf_reverse_search.specs.Whole.{IsWholeList}
+use Rattle.gf_reverse_search.proofs.FinitenessLaws.{whole_below, no_loop-rank}
+use Rattle.gf_reverse_search.proofs.GrowingLaws.{one_more, all_there}
+use Rattle.gf_facets_theory.specs.LexPositive.{IsBefore}
+use Rattle.gf_facets_theory.specs.Regions.{Region}
+use Rattle.gf_facets_theory.proofs.VectorOrder.{before_strict}
+use Rattle.gf_reverse_theory.specs.Upward.{Fan, IsNode, IsNodeIn, IsParent, fan_of}
+use Rattle.gf_reverse_theory.specs.Lists.{IsListFor, IsListOfBases}
+use Rattle.gf_reverse_theory.proofs.TreeLaws.{own_fan, back_fan, node_moved, rank, upward_tree, upward_falls, upward_finite}
+use Rattle.gf_reverse_theory.proofs.ListLaws.{own, list_of_bases}
+use Rattle.gf_reverse_theory.proofs.OneListLaws.{list_for}
 use Rattle.gf_tree.specs.Parents.{IsRootFor}
 use Rattle.gf_tree.specs.Walks.{Walk, ideal_at, AreLeft, walk_at}
 use Rattle.gf_tree.specs.Steps.{IsStepTo, IsEnd, HasGiven}

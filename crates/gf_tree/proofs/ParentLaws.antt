@@ -3,14 +3,14 @@
 use Rattle.std.proofs.Common.{◌≡◌, ◌↔◌, List, ℤ, Option, Some, None, IfSome, Result, Ok, Err, IfOk, refl, subst}
 use Rattle.gf_cone.specs.Cones.{ConeRows, IsConeOf, HasRowsOf}
 use Rattle.gf_poly.specs.Marking.{MarkedPolynomials, polys}
-use Rattle.gf_walk.specs.Path.{IsRoot}
-use Rattle.gf_walk.specs.Whole.{IsRootOf}
-use Rattle.gf_facets.specs.Rows.{negated}
-use Rattle.gf_facets.specs.Regions.{Region}
-use Rattle.gf_reverse.specs.Upward.{IsNode, IsNodeIn, IsParent, LeadsUp, IsWayUp, fan_of}
-use Rattle.gf_reverse.specs.Answers.{IsAcross, IsWayAnswer}
-use Rattle.gf_reverse.proofs.LawsHold.{root_has_no_way_up, bases_make_a_tree}
-use Rattle.gf_reverse.proofs.ListLaws.{root_above, root_own}
+use Rattle.gf_reverse_search.specs.Path.{IsRoot}
+use Rattle.gf_reverse_search.specs.Whole.{IsRootOf}
+use Rattle.gf_facets_theory.specs.Rows.{negated}
+use Rattle.gf_facets_theory.specs.Regions.{Region}
+use Rattle.gf_reverse_theory.specs.Upward.{IsNode, IsNodeIn, IsParent, LeadsUp, IsWayUp, fan_of}
+use Rattle.gf_reverse_theory.specs.Answers.{IsAcross, IsWayAnswer}
+use Rattle.gf_reverse_theory.proofs.LawsHold.{root_has_no_way_up, bases_make_a_tree}
+use Rattle.gf_reverse_theory.proofs.ListLaws.{root_above, root_own}
 use Rattle.gf_tree.specs.declared.above.Parent.{Parent}
 use Rattle.gf_flip.specs.declared.error.TreeError.{TreeError}
 use Rattle.gf_tree.specs.declared.above.Parent.TheVariants.{Root, Up}

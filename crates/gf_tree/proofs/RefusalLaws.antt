@@ -8,18 +8,18 @@ use Rattle.gf_gordan.specs.declared.error.GordanError.{GordanError}
 use Rattle.gf_gordan.specs.declared.error.GordanError.TheVariants as cones
 use Rattle.gf_gordan.specs.Steps.{Failed}
 use Rattle.gf_buchberger.specs.declared.bases.BasisError.{BasisError}
-use Rattle.gf_facets.specs.Regions.{Region}
-use Rattle.gf_facets.specs.Facets.{IsFlippable}
+use Rattle.gf_facets_theory.specs.Regions.{Region}
+use Rattle.gf_facets_theory.specs.Facets.{IsFlippable}
 use Rattle.gf_cone.specs.Cones.{ConeRows, normal_at, other_rows, IsConeOf}
 use Rattle.gf_cone.specs.Answers.{IsNormalStep}
 use Rattle.gf_known_cone.specs.Ways.{IsStepBefore}
 use Rattle.gf_flip.specs.Operations.{IsFlipRefusal}
 use Rattle.gf_flip.proofs.RefusalSteps.{flip_refusal_within}
-use Rattle.gf_walk.specs.Path.{Leads}
-use Rattle.gf_walk.specs.Walk.{IsRefused, IsRefusedAbove}
-use Rattle.gf_reverse.specs.Upward.{Fan, IsNodeIn, IsNode, IsParent, fan_of}
-use Rattle.gf_reverse.proofs.TreeLaws.{SameFan, own_fan, back_fan, node_moved}
-use Rattle.gf_reverse.proofs.ListLaws.{root_above, root_own}
+use Rattle.gf_reverse_search.specs.Path.{Leads}
+use Rattle.gf_reverse_search.specs.Walk.{IsRefused, IsRefusedAbove}
+use Rattle.gf_reverse_theory.specs.Upward.{Fan, IsNodeIn, IsNode, IsParent, fan_of}
+use Rattle.gf_reverse_theory.proofs.TreeLaws.{SameFan, own_fan, back_fan, node_moved}
+use Rattle.gf_reverse_theory.proofs.ListLaws.{root_above, root_own}
 use Rattle.gf_tree.proofs.LabelLaws.{across_in}
 use Rattle.gf_flip.specs.declared.error.TreeError.{TreeError}
 use Rattle.gf_flip.specs.declared.error.TreeError.TheVariants.{Memory}

@@ -3,21 +3,21 @@
 -- left_resumed.
 use Rattle.std.proofs.Common.{◌≡◌, ℕ, suc, ◌+◌, ◌-◌, ◌≤◌, List, [], ◌∷◌, ◌++◌, ℤ, length, Some, None, arith, refl, sym, ap, ◌∙◌, subst, length-append}
 use Rattle.gf_poly.specs.Marking.{MarkedPolynomials}
-use Rattle.gf_walk.specs.declared.mark.Mark.{Mark}
-use Rattle.gf_walk.specs.declared.mark.Mark.TheVariants.{Before, Listed, Finished}
-use Rattle.gf_walk.specs.Path.{Leads}
-use Rattle.gf_walk.specs.Place.{Place}
-use Rattle.gf_walk.specs.Listing.{Leaves, IsLeftAt, IsFirstOf}
-use Rattle.gf_walk.specs.Walk.{Steps, Advances}
-use Rattle.gf_walk.specs.Split.{AreSplitParts, AreCutAt}
-use Rattle.gf_walk.specs.Whole.{IsRootOf, StandsAfter}
-use Rattle.gf_facets.specs.LexPositive.{IsBefore}
-use Rattle.gf_facets.specs.Regions.{Region}
-use Rattle.gf_reverse.specs.Upward.{IsNode, IsNodeIn, IsParent, fan_of}
-use Rattle.gf_reverse.specs.Lists.{AnswersByPaths}
-use Rattle.gf_reverse.proofs.TreeLaws.{count, upward_level, upward_finite}
-use Rattle.gf_reverse.proofs.LeftLaws.{advance_answers, top_seen_below}
-use Rattle.gf_reverse.proofs.ListLaws.{own, root_above, below_node, same_root}
+use Rattle.gf_reverse_search.specs.declared.mark.Mark.{Mark}
+use Rattle.gf_reverse_search.specs.declared.mark.Mark.TheVariants.{Before, Listed, Finished}
+use Rattle.gf_reverse_search.specs.Path.{Leads}
+use Rattle.gf_reverse_search.specs.Place.{Place}
+use Rattle.gf_reverse_search.specs.Listing.{Leaves, IsLeftAt, IsFirstOf}
+use Rattle.gf_reverse_search.specs.Walk.{Steps, Advances}
+use Rattle.gf_reverse_search.specs.Split.{AreSplitParts, AreCutAt}
+use Rattle.gf_reverse_search.specs.Whole.{IsRootOf, StandsAfter}
+use Rattle.gf_facets_theory.specs.LexPositive.{IsBefore}
+use Rattle.gf_facets_theory.specs.Regions.{Region}
+use Rattle.gf_reverse_theory.specs.Upward.{IsNode, IsNodeIn, IsParent, fan_of}
+use Rattle.gf_reverse_theory.specs.Lists.{AnswersByPaths}
+use Rattle.gf_reverse_theory.proofs.TreeLaws.{count, upward_level, upward_finite}
+use Rattle.gf_reverse_theory.proofs.LeftLaws.{advance_answers, top_seen_below}
+use Rattle.gf_reverse_theory.proofs.ListLaws.{own, root_above, below_node, same_root}
 use Rattle.gf_tree.specs.declared.tree.BasisTree.{BasisTree}
 use Rattle.gf_tree.specs.Walks.{Walk, AreLeft, HasListLeft}
 use Rattle.gf_tree.specs.Steps.{IsStepTo, IsEnd, AreWalkParts, IsResumed}

@@ -8,11 +8,11 @@ use Rattle.std.specs.declared.cmp.Ordering.{Ordering}
 use Rattle.std.specs.declared.cmp.Ordering.TheVariants.{Less}
 use Rattle.gf_gordan.specs.Alternative.{AreRows}
 use Rattle.gf_poly.specs.Marking.{MarkedPolynomial}
-use Rattle.gf_facets.specs.Rows.{IsNormal}
-use Rattle.gf_facets.specs.Regions.{Region, IsRegion}
-use Rattle.gf_facets.specs.LexPositive.{IsNegative, IsBefore}
-use Rattle.gf_facets.specs.Facets.{IsFlippable}
-use Rattle.gf_facets.proofs.VectorOrder.{before_strict}
+use Rattle.gf_facets_theory.specs.Rows.{IsNormal}
+use Rattle.gf_facets_theory.specs.Regions.{Region, IsRegion}
+use Rattle.gf_facets_theory.specs.LexPositive.{IsNegative, IsBefore}
+use Rattle.gf_facets_theory.specs.Facets.{IsFlippable}
+use Rattle.gf_facets_theory.proofs.VectorOrder.{before_strict}
 use Rattle.gf_cone.specs.Cones.{ConeRows, normal_at, IsConeOf}
 use Rattle.gf_cone.specs.Crossing.{IsCrossingDecided}
 use Rattle.gf_cone.specs.Small.{IsSmall}
@@ -21,7 +21,7 @@ use Rattle.gf_cone.proofs.AnswerLaws.{crossable_flippable}
 use Rattle.gf_cone.proofs.CrossingLaws.{negative_told, small_read, width_read}
 use Rattle.gf_cone.proofs.SmallLaws.{small_for_sign}
 use Rattle.gf_known_cone.specs.Ways.{LeadsUpAt, IsLeastUp}
-use Rattle.gf_reverse.specs.Upward.{LeadsUp, IsWayUp}
+use Rattle.gf_reverse_theory.specs.Upward.{LeadsUp, IsWayUp}
 use Rattle.gf_tree.specs.Places.{IsVectorPlace}
 use Rattle.gf_tree.proofs.LabelLaws.{rises}
 

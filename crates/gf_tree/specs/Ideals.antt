@@ -1,8 +1,8 @@
 -- An ideal that is given by generators. Laws: proofs/IdealLaws.antt.
 use Rattle.std.specs.Prelude.{ℕ, List}
 use Rattle.gf_poly.specs.Polynomial.{Terms}
-use Rattle.gf_facets.specs.Regions.{Region, all_positive}
-use Rattle.gf_reverse.specs.Upward.{Fan}
+use Rattle.gf_facets_theory.specs.Regions.{Region, all_positive}
+use Rattle.gf_reverse_theory.specs.Upward.{Fan}
 
 -- the ideal that fs generates in n variables, with the region k
 abbrev pub ideal_within : ℕ → List Terms → Region → Fan

@@ -1,16 +1,16 @@
 -- The parent of a basis in the tree of the bases of its ideal, and the root of that tree. Laws: proofs/ParentLaws.antt.
 -- Source: Fukuda, Jensen, Thomas, Computing Gröbner fans, 3.
 use Rattle.std.specs.Prelude.{◌≡◌, List, ℤ, Option, Some, None}
-use Rattle.gf_exponents.specs.Orders.{gains, IsWeightedBelow}
+use Rattle.gf_exponents_theory.specs.Orders.{gains, IsWeightedBelow}
 use Rattle.gf_poly.specs.Marking.{MarkedPolynomials, polys}
-use Rattle.gf_ideal.specs.Bases.{IsReducedBasisFor}
-use Rattle.gf_walk.specs.Path.{IsRoot}
-use Rattle.gf_walk.specs.Tree.{IsChildOf}
-use Rattle.gf_facets.specs.Regions.{Region, all_positive}
-use Rattle.gf_facets.specs.Neighbours.{AreAdjacent}
-use Rattle.gf_reverse.specs.Upward.{Fan, IsNodeIn, IsNode, IsWayUp, IsParent, LeadsUp, fan_of}
+use Rattle.gf_ideal_theory.specs.Bases.{IsReducedBasisFor}
+use Rattle.gf_reverse_search.specs.Path.{IsRoot}
+use Rattle.gf_reverse_search.specs.Tree.{IsChildOf}
+use Rattle.gf_facets_theory.specs.Regions.{Region, all_positive}
+use Rattle.gf_facets_theory.specs.Neighbours.{AreAdjacent}
+use Rattle.gf_reverse_theory.specs.Upward.{Fan, IsNodeIn, IsNode, IsWayUp, IsParent, LeadsUp, fan_of}
 use Rattle.gf_cone.specs.Cones.{ConeRows, IsConeOf}
-use Rattle.gf_reverse.specs.Answers.{IsAcross}
+use Rattle.gf_reverse_theory.specs.Answers.{IsAcross}
 use Rattle.gf_tree.specs.declared.above.Parent.{Parent}
 use Rattle.gf_tree.specs.declared.above.Parent.TheVariants.{Root, Up}
 

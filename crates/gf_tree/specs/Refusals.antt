@@ -3,14 +3,14 @@ use Rattle.std.specs.Prelude.{◌≡◌, ℕ, ◌<◌, List, ℤ, length, Some}
 use Rattle.gf_poly.specs.Marking.{MarkedPolynomials}
 use Rattle.gf_gordan.specs.declared.error.ConeOverflow.{ConeOverflow}
 use Rattle.gf_buchberger.specs.declared.bases.BasisError.{BasisError}
-use Rattle.gf_facets.specs.Facets.{IsFlippable}
+use Rattle.gf_facets_theory.specs.Facets.{IsFlippable}
 use Rattle.gf_cone.specs.Cones.{ConeRows, normal_at, other_rows, IsConeOf}
 use Rattle.gf_cone.specs.Answers.{IsNormalStep}
 use Rattle.gf_flip.specs.Operations.{IsFlipRefusal, IsFlipWithinLimits}
-use Rattle.gf_walk.specs.Walk.{IsRefusedAbove}
-use Rattle.gf_facets.specs.Regions.{Region}
-use Rattle.gf_reverse.specs.Upward.{Fan, IsNodeIn, IsParent, fan_of}
-use Rattle.gf_reverse.specs.Answers.{IsAcross}
+use Rattle.gf_reverse_search.specs.Walk.{IsRefusedAbove}
+use Rattle.gf_facets_theory.specs.Regions.{Region}
+use Rattle.gf_reverse_theory.specs.Upward.{Fan, IsNodeIn, IsParent, fan_of}
+use Rattle.gf_reverse_theory.specs.Answers.{IsAcross}
 use Rattle.gf_flip.specs.declared.error.TreeError.{TreeError}
 use Rattle.gf_flip.specs.declared.error.TreeError.TheVariants.{Cone, Memory}
 use Rattle.gf_flip.specs.TreeErrors.{of_flip_error}

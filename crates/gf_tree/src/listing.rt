@@ -1,7 +1,7 @@
 //! The list of all bases.
 ghost use Rattle.std.specs.Prelude.{◌≡◌, IfOk, IfErr};
-ghost use Rattle.gf_reverse.specs.Upward.{IsNode, fan_of};
-ghost use Rattle.gf_reverse.specs.Lists.{IsListOfBases};
+ghost use Rattle.gf_reverse_theory.specs.Upward.{IsNode, fan_of};
+ghost use Rattle.gf_reverse_theory.specs.Lists.{IsListOfBases};
 ghost use Rattle.gf_tree.specs.Refusals.{IsTreeRefusal, IsTreeWithinLimits};
 ghost use Rattle.gf_tree.specs.Walks.{AreLeft, walk_at};
 ghost use Rattle.gf_flip.specs.declared.error.TreeError.TheVariants.{Memory};

@@ -1,10 +1,10 @@
 //! The steps of the search: the way up from a basis, and the basis across a facet.
 ghost use Rattle.std.specs.Prelude.{IfOk, IfErr, IfSome, Some};
-ghost use Rattle.gf_facets.specs.Facets.{IsFlippable};
-ghost use Rattle.gf_facets.specs.Normals.{Ascends};
+ghost use Rattle.gf_facets_theory.specs.Facets.{IsFlippable};
+ghost use Rattle.gf_facets_theory.specs.Normals.{Ascends};
 ghost use Rattle.gf_cone.specs.Cones.{IsConeOf};
-ghost use Rattle.gf_reverse.specs.Upward.{IsNode, fan_of};
-ghost use Rattle.gf_reverse.specs.Answers.{IsAcross, IsWayAnswer};
+ghost use Rattle.gf_reverse_theory.specs.Upward.{IsNode, fan_of};
+ghost use Rattle.gf_reverse_theory.specs.Answers.{IsAcross, IsWayAnswer};
 ghost use Rattle.gf_tree.specs.Places.{IsVectorPlace, AreDownward};
 ghost use Rattle.gf_tree.specs.Parents.{IsBelowTold, IsLedBack};
 ghost use Rattle.gf_tree.specs.Refusals.{IsTreeRefusal, IsRefusedAtBasis};

@@ -1,7 +1,7 @@
 //! The tree of the bases of an ideal.
 ghost use Rattle.std.specs.Prelude.{◌≡◌};
-ghost use Rattle.gf_facets.specs.LexPositive.{IsBefore};
-ghost use Rattle.gf_reverse.specs.Upward.{IsNode, IsParent};
+ghost use Rattle.gf_facets_theory.specs.LexPositive.{IsBefore};
+ghost use Rattle.gf_reverse_theory.specs.Upward.{IsNode, IsParent};
 ghost use Rattle.gf_tree.specs.FanTree.{before_strict, rank, count, upward_tree, upward_nodes, upward_falls, upward_level, upward_finite};
 ghost use Rattle.gf_tree.specs.Refusals.{IsCallRefusal};
 ghost use Rattle.gf_flip.specs.declared.error.TreeError.TheVariants.{Memory};
@@ -9,8 +9,8 @@ ghost use Rattle.gf_flip.specs.declared.error.TreeError.TheVariants.{Memory};
 use crate::steps::{arrived, below, downward, led_back, way_up};
 use crate::{Node, Store, TreeError};
 use gf_cone::Region;
+use gf_reverse_search::{FiniteTree, ReusingTree, Tree};
 use gf_vec::IntVec;
-use gf_walk::{FiniteTree, ReusingTree, Tree};
 use std::alloc::Global;
 use std::cmp::Ordering;
 

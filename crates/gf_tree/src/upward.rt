@@ -1,6 +1,6 @@
 //! The way up from a basis, and the root above it.
 ghost use Rattle.std.specs.Prelude.{◌≡◌, ◌↔◌, IfOk, IfErr};
-ghost use Rattle.gf_reverse.specs.Upward.{IsNode, fan_of};
+ghost use Rattle.gf_reverse_theory.specs.Upward.{IsNode, fan_of};
 ghost use Rattle.gf_tree.specs.Parents.{IsParentTold, IsRootFor, IsRootBasis};
 ghost use Rattle.gf_tree.specs.Refusals.{IsTreeRefusal, IsWayRefused, IsTreeWithinLimits};
 ghost use Rattle.gf_flip.specs.declared.error.TreeError.TheVariants.{Memory};

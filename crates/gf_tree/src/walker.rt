@@ -1,6 +1,6 @@
 //! A walker, which lists the bases of an ideal while it holds one of them.
 ghost use Rattle.std.specs.Prelude.{◌≡◌, IfOk, IfErr, OnErr};
-ghost use Rattle.gf_reverse.specs.Upward.{IsNode, fan_of};
+ghost use Rattle.gf_reverse_theory.specs.Upward.{IsNode, fan_of};
 ghost use Rattle.gf_tree.specs.Refusals.{IsTreeRefusal, IsTreeWithinLimits};
 ghost use Rattle.gf_tree.specs.Steps.{IsAdvance, IsResumed};
 ghost use Rattle.gf_tree.specs.Walks.{ideal_at, walk_at, HasListLeft};
@@ -9,23 +9,23 @@ ghost use Rattle.gf_flip.specs.declared.error.TreeError.TheVariants.{Memory};
 use crate::{BasisTree, Node, TreeError};
 use gf_cone::Region;
 use gf_poly::MarkedSet;
+use gf_reverse_search::Depth;
 use gf_vec::IntVec;
-use gf_walk::Depth;
 use std::alloc::{AllocError, Global};
 use std::marker::Model;
 
 /// What of the subtree of its basis a walker has listed: nothing; the basis and the subtrees across the normals up to this one; the basis
 /// alone; all of it.
-pub type Mark = gf_walk::Mark<IntVec>;
+pub type Mark = gf_reverse_search::Mark<IntVec>;
 
 /// The basis at which a walker is, and its mark, by reference.
-pub type Position<'a> = gf_walk::Position<'a, MarkedSet, IntVec>;
+pub type Position<'a> = gf_reverse_search::Position<'a, MarkedSet, IntVec>;
 
 /// A walker lists the bases that it has left, in the order of their paths. The path of a basis is the list of the normals that are crossed
 /// from the root down to it. A walker holds one basis, one normal and a depth, and goes up by flips; it counts the bases that it has given.
 #[derive(Drop)]
 pub struct Walker {
-    pub(crate) inner: gf_walk::Walker<BasisTree>,
+    pub(crate) inner: gf_reverse_search::Walker<BasisTree>,
     pub(crate) given: Depth,
 }
 
@@ -77,7 +77,7 @@ impl Walker {
     }
 
     /// This walker as one over the tree of bases, without the number of the bases that it has given.
-    pub fn into_inner(self) -> gf_walk::Walker<BasisTree>
+    pub fn into_inner(self) -> gf_reverse_search::Walker<BasisTree>
         ensures here { result.here ≡ self.here }
         ensures mark { result.mark ≡ self.mark }
         ensures depth { result.depth ≡ self.depth }
@@ -167,7 +167,7 @@ fn started(tree: BasisTree, basis: MarkedSet) -> Walker
     let alloc = tree.alloc;
     let node = Node::of(alloc, basis, &tree.region);
     Walker {
-        inner: gf_walk::Walker::at(alloc, tree, node),
+        inner: gf_reverse_search::Walker::at(alloc, tree, node),
         given: Depth::zero(alloc),
     }
 }
@@ -180,7 +180,7 @@ fn resume(tree: BasisTree, basis: MarkedSet) -> Result<Walker, TreeError>
 {
     let alloc = tree.alloc;
     let node = Node::of(alloc, basis, &tree.region);
-    let inner = gf_walk::Walker::after(alloc, tree, node)?;
+    let inner = gf_reverse_search::Walker::after(alloc, tree, node)?;
     Ok(Walker {
         inner,
         given: Depth::zero(alloc),

@@ -4,23 +4,23 @@ use Rattle.std.proofs.lemmas.Int.{ints}
 use Rattle.std.proofs.lemmas.List.{get_or_default, length-map}
 use Rattle.std.proofs.lemmas.List.Edits.{length-remove}
 use Rattle.std.proofs.lemmas.List.Elements.{All-contains, Contains-append_left, Contains-append_right}
-use Rattle.gf_int.proofs.ListLaws.{Contains-here, all_by}
+use Rattle.gf_int_theory.proofs.ListLaws.{Contains-here, all_by}
 use Rattle.gf_gordan.specs.Alternative.{AreRows}
 use Rattle.gf_gordan.specs.Sizes.{HaveEntriesUpTo}
 use Rattle.gf_gordan.specs.declared.error.ConeOverflow.{ConeOverflow}
-use Rattle.gf_duality.specs.Faces.{Rows}
-use Rattle.gf_duality.proofs.ListLaws.{none_in, in_cons, of_rest}
-use Rattle.gf_fans.specs.Fans.{meet}
-use Rattle.gf_fans.proofs.PartNumbers.{of_map}
+use Rattle.gf_duality_theory.specs.Faces.{Rows}
+use Rattle.gf_duality_theory.proofs.ListLaws.{none_in, in_cons, of_rest}
+use Rattle.gf_fans_theory.specs.Fans.{meet}
+use Rattle.gf_fans_theory.proofs.PartNumbers.{of_map}
 use Rattle.gf_rays.specs.Limits.{IsSmallSystem, has_room}
 use Rattle.gf_fan.proofs.LimitLaws.{small_meet, small_face, face_long, no_system_step, no_rows}
 use Rattle.gf_poly.specs.declared.Term.{Term}
 use Rattle.gf_poly.specs.Polynomial.{Terms, HasVariables}
 use Rattle.gf_poly.proofs.ProductLaws.{HasVariables-at}
-use Rattle.gf_patterns.specs.Patterns.{points, IsOnPrevariety, IsAnywhere}
-use Rattle.gf_patterns.specs.PatternRows.{vector_difference, point_at, single_rows, pair_rows}
-use Rattle.gf_patterns.specs.PatternFans.{whole_space}
-use Rattle.gf_patterns.proofs.RowLaws.{minus_long, one_list}
+use Rattle.gf_patterns_theory.specs.Patterns.{points, IsOnPrevariety, IsAnywhere}
+use Rattle.gf_patterns_theory.specs.PatternRows.{vector_difference, point_at, single_rows, pair_rows}
+use Rattle.gf_patterns_theory.specs.PatternFans.{whole_space}
+use Rattle.gf_patterns_theory.proofs.RowLaws.{minus_long, one_list}
 use Rattle.gf_tropical.specs.Refusals.{IsSystemStep}
 use Rattle.gf_tropical.specs.Systems.{IsConeOrFace, IsFanSystem, none, one, more, IsSystemOf, whole, own, both, IsPairCone, IsSingleCone}
 use Rattle.gf_tropical.specs.Limits.{HaveExponentsUpTo, terms_but, HasRoomUpTo, PolynomialsWithRoomStayWithinLimits, TrinomialsStayWithinLimits}

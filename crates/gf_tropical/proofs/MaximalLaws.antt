@@ -2,11 +2,11 @@
 use Rattle.std.proofs.Common.{◌≡◌, ◌<◌, ℕ, List, [], length, get_or, ℤ, Contains, arith, sym, ap, ◌∙◌, subst, inl, inr}
 use Rattle.std.proofs.lemmas.Bool.{cases_eq}
 use Rattle.std.proofs.lemmas.List.{get_or_default}
-use Rattle.gf_int.proofs.ListLaws.{all_by}
-use Rattle.gf_duality.specs.Faces.{Rows, SameCone, IsInCone, part}
-use Rattle.gf_duality.proofs.ListLaws.{none_in}
-use Rattle.gf_fans.proofs.FanLaws.{of_part, part_in, same_turned}
-use Rattle.gf_fans.proofs.PartNumbers.{of_map}
+use Rattle.gf_int_theory.proofs.ListLaws.{all_by}
+use Rattle.gf_duality_theory.specs.Faces.{Rows, SameCone, IsInCone, part}
+use Rattle.gf_duality_theory.proofs.ListLaws.{none_in}
+use Rattle.gf_fans_theory.proofs.FanLaws.{of_part, part_in, same_turned}
+use Rattle.gf_fans_theory.proofs.PartNumbers.{of_map}
 use Rattle.gf_rays.specs.Cones.{RowsAndRays, rows_of}
 use Rattle.gf_fan.specs.declared.cones.FanCone.{FanCone}
 use Rattle.gf_fan.specs.FaceSystems.{IsFaceSystem}
@@ -17,8 +17,8 @@ use Rattle.gf_fan.specs.MaximalCones.{no_cone, maximal_of}
 use Rattle.gf_fan.proofs.FanConeLaws.{numbers_of_inside}
 use Rattle.gf_fan.proofs.MaximalLaws.{numbers_long, within_at}
 use Rattle.gf_fan.proofs.UnderMaximal.{maximal_some, given_face}
-use Rattle.gf_patterns.specs.Patterns.{IsClosedCone}
-use Rattle.gf_patterns.proofs.MeetLaws.{same_trans, same_refl}
+use Rattle.gf_patterns_theory.specs.Patterns.{IsClosedCone}
+use Rattle.gf_patterns_theory.proofs.MeetLaws.{same_trans, same_refl}
 use Rattle.gf_tropical.specs.Systems.{IsWholeOf, IsMaximalIn}
 use Rattle.gf_tropical.specs.TropicalFans.{IsPatternFan}
 

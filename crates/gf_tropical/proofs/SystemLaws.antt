@@ -1,17 +1,17 @@
 -- The systems of rows that fans come of.
 use Rattle.std.proofs.Common.{◌≡◌, ℕ, List, [], ◌∷◌, ◌++◌, map, length, length-append, ℤ, ◌≢◌, Any, Contains, arith, refl, sym, ap, ap₂, ◌∙◌, subst, inl, inr}
-use Rattle.gf_int.proofs.ListLaws.{Contains-here}
+use Rattle.gf_int_theory.proofs.ListLaws.{Contains-here}
 use Rattle.gf_gordan.specs.declared.error.ConeOverflow.{ConeOverflow}
 use Rattle.gf_gordan.specs.declared.error.GordanError.{GordanError}
 use Rattle.gf_gordan.specs.declared.error.GordanError.TheVariants as gordan
 use Rattle.gf_gordan.specs.Steps.{Failed}
-use Rattle.gf_duality.specs.Faces.{Rows, SameCone, part}
+use Rattle.gf_duality_theory.specs.Faces.{Rows, SameCone, part}
 use Rattle.gf_rays.specs.Reached.{IsRaysStep}
-use Rattle.gf_duality.proofs.ListLaws.{none_in, in_cons}
-use Rattle.gf_fans.specs.Fans.{meet}
-use Rattle.gf_fans.specs.FaceLists.{numbered}
-use Rattle.gf_fans.proofs.FanLaws.{same_turned}
-use Rattle.gf_fans.proofs.PartNumbers.{in_map}
+use Rattle.gf_duality_theory.proofs.ListLaws.{none_in, in_cons}
+use Rattle.gf_fans_theory.specs.Fans.{meet}
+use Rattle.gf_fans_theory.specs.FaceLists.{numbered}
+use Rattle.gf_fans_theory.proofs.FanLaws.{same_turned}
+use Rattle.gf_fans_theory.proofs.PartNumbers.{in_map}
 use Rattle.gf_rays.specs.Cones.{RowsAndRays, rows_of}
 use Rattle.gf_fan.specs.declared.cones.FanCone.{FanCone}
 use Rattle.gf_fan.specs.FanLists.{FanLists}
@@ -22,8 +22,8 @@ use Rattle.gf_fan.specs.Refusals.{IsFacesStep}
 use Rattle.gf_refine.specs.FansRefined.{IsMeetOfCones, IsRefinementOf, IsPartOfMeet}
 use Rattle.gf_refine.specs.Refusals.{IsRefineStep}
 use Rattle.gf_poly.specs.Polynomial.{Terms}
-use Rattle.gf_patterns.specs.Vertices.{AreVertexCones, AreVertexPairCones}
-use Rattle.gf_patterns.specs.PatternFans.{whole_space}
+use Rattle.gf_patterns_theory.specs.Vertices.{AreVertexCones, AreVertexPairCones}
+use Rattle.gf_patterns_theory.specs.PatternFans.{whole_space}
 use Rattle.gf_tropical.specs.declared.error.TropicalError.{TropicalError}
 use Rattle.gf_tropical.specs.declared.error.TropicalError.TheVariants.{Cone, ZeroPolynomial, Memory}
 use Rattle.gf_tropical.specs.declared.kind.Kind.{Kind}

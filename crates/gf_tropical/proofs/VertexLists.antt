@@ -3,20 +3,20 @@ use Rattle.std.proofs.Common.{◌≡◌, ℕ, ◌+◌, ◌<◌, ◌≤◌, List,
 use Rattle.std.proofs.lemmas.List.{get_or_append_left}
 use Rattle.std.proofs.lemmas.List.Elements.{Contains-push}
 use Rattle.std.proofs.lemmas.Bool.{true≢false}
-use Rattle.gf_int.proofs.ListLaws.{all_by, Contains-last}
+use Rattle.gf_int_theory.proofs.ListLaws.{all_by, Contains-last}
 use Rattle.gf_gordan.specs.Alternative.{AreRows, IsFarkas, GordansAlternative}
 use Rattle.gf_gordan.specs.Answers.{IsAlternative}
 use Rattle.gf_gordan.specs.declared.answer.Answer.{Answer}
 use Rattle.gf_gordan.specs.declared.answer.Answer.TheVariants.{Farkas}
 use Rattle.gf_poly.specs.Polynomial.{Terms, HasVariables}
-use Rattle.gf_patterns.specs.Patterns.{points}
-use Rattle.gf_patterns.specs.Laws.{VerticesSuffice}
-use Rattle.gf_patterns.proofs.PatternFanLaws.{single_wide}
-use Rattle.gf_patterns.proofs.PointLaws.{points_wide, length-points}
-use Rattle.gf_duality.specs.Faces.{Rows}
-use Rattle.gf_duality.proofs.ListLaws.{none_in, first_in, place, less, at, more}
-use Rattle.gf_patterns.specs.PatternRows.{point_at, single_rows, pair_rows}
-use Rattle.gf_patterns.specs.Vertices.{IsVertex, AreVertexCones, AreVertexPairCones}
+use Rattle.gf_patterns_theory.specs.Patterns.{points}
+use Rattle.gf_patterns_theory.specs.Laws.{VerticesSuffice}
+use Rattle.gf_patterns_theory.proofs.PatternFanLaws.{single_wide}
+use Rattle.gf_patterns_theory.proofs.PointLaws.{points_wide, length-points}
+use Rattle.gf_duality_theory.specs.Faces.{Rows}
+use Rattle.gf_duality_theory.proofs.ListLaws.{none_in, first_in, place, less, at, more}
+use Rattle.gf_patterns_theory.specs.PatternRows.{point_at, single_rows, pair_rows}
+use Rattle.gf_patterns_theory.specs.Vertices.{IsVertex, AreVertexCones, AreVertexPairCones}
 use Rattle.gf_tropical.specs.VertexLists.{AreVertexFlags, HaveVertexFlags, VerticesSoFar, VertexPairsSoFar}
 
 pub vertices_more : (n : ℕ) (A : List (List ℤ)) (i : ℕ) (cones : List Rows) (c : Rows) → i < length A → c ≡ single_rows A i → VerticesSoFar n A i cones → VerticesSoFar n A (i + 1) (cones ++ c ∷ [])

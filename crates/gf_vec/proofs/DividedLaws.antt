@@ -4,9 +4,9 @@ use Rattle.std.specs.Int.{◌∣◌}
 use Rattle.std.proofs.Math.Nat.{eq-one_of_dvd-one}
 use Rattle.std.proofs.lemmas.Int.{ints}
 use Rattle.std.proofs.lemmas.List.Elements.{All-from_recursion, recursion_from_All}
-use Rattle.gf_int.specs.Range.{InRange}
-use Rattle.gf_int.specs.Content.{DividesAll, IsContent, quotients}
-use Rattle.gf_int.proofs.ContentLaws.{IsContent-one, times-quotients, times-one, quotients-InRange}
+use Rattle.gf_int_theory.specs.Range.{InRange}
+use Rattle.gf_int_theory.specs.Content.{DividesAll, IsContent, quotients}
+use Rattle.gf_int_theory.proofs.ContentLaws.{IsContent-one, times-quotients, times-one, quotients-InRange}
 use Rattle.gf_vec.specs.Primitive.{IsDivided}
 
 -- division by 1 changes nothing

@@ -3,7 +3,7 @@ use Rattle.std.proofs.Common.{◌≡◌, zero, suc, List, [], ◌∷◌, ◌++�
 use Rattle.std.specs.List.{AllByRecursion}
 use Rattle.std.proofs.Math.IntN.{+ℤ_idl, +ℤ_assoc}
 use Rattle.std.proofs.lemmas.Int.{ints}
-use Rattle.gf_int.specs.Content.{scaled}
+use Rattle.gf_int_theory.specs.Content.{scaled}
 use Rattle.gf_vec.specs.Vector.{dot, vector_sum, zeros, values}
 use Rattle.gf_vec.proofs.VectorLaws.{dot_comm, dot-plus, dot-times}
 

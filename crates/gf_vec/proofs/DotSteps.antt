@@ -3,7 +3,7 @@ use Rattle.std.proofs.Common.{◌≡◌, List, ◌∷◌, ℤ, pos, length, ℕ,
 use Rattle.std.proofs.Math.IntN.{+ℤ_assoc}
 use Rattle.std.proofs.lemmas.List.{drop_more}
 use Rattle.gf_vec.specs.Vector.{dot}
-use Rattle.gf_int.specs.Range.{InRange}
+use Rattle.gf_int_theory.specs.Range.{InRange}
 use Rattle.gf_vec.specs.Steps.{NoneWide, IsWide, dot_steps, IsFirstWide}
 use Rattle.gf_vec.specs.declared.error.VecOp.TheVariants.{Add, Mul}
 use Rattle.gf_vec.specs.declared.error.WideVector.{WideVector}

@@ -2,9 +2,9 @@
 use Rattle.std.proofs.Common.{◌≡◌, ◌≢◌, ℕ, zero, suc, ◌<◌, List, [], ◌∷◌, length, ℤ, pos, ◌+ℤ◌, ◌*ℤ◌, neg_ℤ, ◌<ℤ◌, arith, refl, ap, ap₂, ◌∙◌, drop, min}
 use Rattle.std.specs.Int.{int_signum}
 use Rattle.std.proofs.lemmas.Int.{ints}
-use Rattle.gf_int.specs.Content.{scaled}
-use Rattle.gf_int.proofs.RingLaws.{same, dv, dneg, ◌⊗◌, ◌⊕◌}
-use Rattle.gf_int.proofs.SignLaws.{sign_of, negative, none, positive, zero-cancel}
+use Rattle.gf_int_theory.specs.Content.{scaled}
+use Rattle.gf_int_theory.proofs.RingLaws.{same, dv, dneg, ◌⊗◌, ◌⊕◌}
+use Rattle.gf_int_theory.proofs.SignLaws.{sign_of, negative, none, positive, zero-cancel}
 use Rattle.gf_vec.specs.Vector.{vector_sum, zeros, entry_at}
 
 pub entry_times : (k : ℤ) (xs : List ℤ) (i : ℕ) → entry_at (scaled k xs) i ≡ k *ℤ entry_at xs i

@@ -5,10 +5,10 @@ use Rattle.std.specs.Int.{IsGcd, ◌∣◌}
 use Rattle.std.proofs.lemmas.Int.{ints, unsigned_abs-mul}
 use Rattle.std.proofs.lemmas.Nat.Gcd.{IsGcd-swap}
 use Rattle.std.proofs.Math.Nat.{dvd-mul_right, mul-div_cancel'}
-use Rattle.gf_int.specs.Content.{DividesAll, AllZero, IsPrimitive, scaled, quotients}
-use Rattle.gf_int.specs.Gcd.{gcd, gcd-is, gcd-positive, coprime-dvd, lowest-quotients}
-use Rattle.gf_int.proofs.ContentLaws.{times-quotients, IsPrimitive-quotients}
-use Rattle.gf_int.proofs.RingLaws.{dn, ◌⊗◌}
+use Rattle.gf_int_theory.specs.Content.{DividesAll, AllZero, IsPrimitive, scaled, quotients}
+use Rattle.gf_int_theory.specs.Gcd.{gcd, gcd-is, gcd-positive, coprime-dvd, lowest-quotients}
+use Rattle.gf_int_theory.proofs.ContentLaws.{times-quotients, IsPrimitive-quotients}
+use Rattle.gf_int_theory.proofs.RingLaws.{dn, ◌⊗◌}
 use Rattle.gf_vec.specs.Vector.{dot, entry_at}
 use Rattle.gf_vec.specs.Primitive.{IsPrimitivePart}
 use Rattle.gf_vec.proofs.VectorLaws.{dot-times, length-times}

@@ -4,7 +4,7 @@ use Rattle.std.proofs.lemmas.List.{take_more, drop_more, length-take, get_or_at,
 use Rattle.std.specs.List.{AllByRecursion}
 use Rattle.std.proofs.lemmas.Int.{unsigned_abs-mul}
 use Rattle.std.proofs.lemmas.List.Elements.{All-from_recursion, recursion_from_All}
-use Rattle.gf_int.specs.Range.{InRange}
+use Rattle.gf_int_theory.specs.Range.{InRange}
 use Rattle.gf_vec.specs.Vector.{vector_sum}
 use Rattle.gf_vec.specs.Steps.{NoneWide, IsWide, sum_steps, IsFirstWide}
 use Rattle.gf_vec.specs.declared.error.VecOp.TheVariants.{Add}

@@ -1,9 +1,9 @@
 -- Identities of whole vectors: each side is written with combinators, and arithmetic compares what they give on every vector.
 use Rattle.std.proofs.Common.{◌≡◌, ℕ, ◌+◌, List, length, ℤ, sym, ◌∙◌, subst}
 use borrow.Author.Differences.{up, down}
-use Rattle.gf_int.specs.Content.{scaled}
+use Rattle.gf_int_theory.specs.Content.{scaled}
 use Rattle.gf_vec.specs.Vector.{dot, vector_sum, zeros}
-use Rattle.gf_int.proofs.RingLaws.{Diff, same, dv, dn, ◌⊕◌, ◌⊗◌}
+use Rattle.gf_int_theory.proofs.RingLaws.{Diff, same, dv, dn, ◌⊕◌, ◌⊗◌}
 use Rattle.gf_vec.proofs.VectorLaws.{dot_comm, dot-plus, dot-times, dot-zeros, length-zeros, length-plus, length-times}
 use Rattle.gf_vec.proofs.DotLaws.{vector_ext}
 

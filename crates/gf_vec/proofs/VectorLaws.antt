@@ -4,9 +4,9 @@ use Rattle.std.proofs.lemmas.Int.{ints}
 use Rattle.std.proofs.Math.IntN.{*ℤ_comm, *ℤ-zero, +ℤ_assoc}
 use Rattle.std.specs.List.{AllByRecursion}
 use Rattle.gf_vec.specs.Vector.{dot, vector_sum, zeros, combined, values, SomePositive}
-use Rattle.gf_int.specs.Content.{scaled}
-use Rattle.gf_int.proofs.RingLaws.{same, ◌⊗◌, ◌⊕◌, dv}
-use Rattle.gf_int.proofs.SignLaws.{0≤-*ℤ, 0<-*ℤ}
+use Rattle.gf_int_theory.specs.Content.{scaled}
+use Rattle.gf_int_theory.proofs.RingLaws.{same, ◌⊗◌, ◌⊕◌, dv}
+use Rattle.gf_int_theory.proofs.SignLaws.{0≤-*ℤ, 0<-*ℤ}
 
 pub dot_comm : (xs ys : List ℤ) → dot xs ys ≡ dot ys xs
 dot_comm [] [] = refl

@@ -3,7 +3,7 @@ use Rattle.std.proofs.Common.{◌≡◌, ℕ, ◌+◌, ◌*◌, ◌^◌, ◌<◌
 use Rattle.std.proofs.lemmas.Int.{ints, unsigned_abs-mul}
 use Rattle.std.proofs.lemmas.List.{drop_more}
 use Rattle.std.proofs.lemmas.Nat.{mul-le}
-use Rattle.gf_exponents.specs.Exponents.{Exponents, whole_weight}
+use Rattle.gf_exponents_theory.specs.Exponents.{Exponents, whole_weight}
 
 pub weight-drop : (w : List ℤ) (x : Exponents) (i : ℕ) → i < length w → length x ≡ length w →
     whole_weight (drop i w) (drop i x) ≡ get_or w i (pos 0) *ℤ pos (get_or x i 0) +ℤ whole_weight (drop (i + 1) w) (drop (i + 1) x)

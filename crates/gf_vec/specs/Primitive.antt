@@ -1,6 +1,6 @@
 -- A vector divided by its content.
 use Rattle.std.specs.Prelude.{◌≡◌, List, ℤ, pos, ◌<ℤ◌, unsigned_abs}
-use Rattle.gf_int.specs.Content.{IsContent, scaled}
+use Rattle.gf_int_theory.specs.Content.{IsContent, scaled}
 
 -- c is the content of w, and u is w divided by it
 pub record IsDivided (w : List ℤ) (c : ℤ) (u : List ℤ) : Type 0 where

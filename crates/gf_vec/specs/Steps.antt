@@ -1,7 +1,7 @@
 -- The operations of a call in their order, and the first of them that leaves the range.
 use Rattle.std.specs.Prelude.{◌≡◌, ◌≤◌, ◌^◌, List, [], ◌∷◌, ℤ, ◌+ℤ◌, ◌-ℤ◌, ◌*ℤ◌, unsigned_abs, Result, Ok, Err, ◌⊎◌}
 use Rattle.std.specs.List.{AllByRecursion}
-use Rattle.gf_int.specs.Range.{InRange}
+use Rattle.gf_int_theory.specs.Range.{InRange}
 use Rattle.gf_vec.specs.declared.error.VecOp.{VecOp}
 use Rattle.gf_vec.specs.declared.error.VecOp.TheVariants.{Add, Sub, Mul}
 use Rattle.gf_vec.specs.declared.error.WideVector.{WideVector}

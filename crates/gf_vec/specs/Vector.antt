@@ -1,7 +1,7 @@
 -- Whole vectors, as lists of whole numbers: sums, dot products, combinations of rows.
--- `times k xs`, each entry times k, stands in gf_int. Laws: proofs/VectorLaws.antt, proofs/DotLaws.antt, proofs/EntryLaws.antt.
+-- `times k xs`, each entry times k, stands in gf_int_theory. Laws: proofs/VectorLaws.antt, proofs/DotLaws.antt, proofs/EntryLaws.antt.
 use Rattle.std.specs.Prelude.{ℕ, List, [], ◌∷◌, ℤ, pos, ◌+ℤ◌, ◌*ℤ◌, negsuc, replicate, ◌<ℤ◌, ◌⊎◌, slice_index_or}
-use Rattle.gf_int.specs.Content.{scaled}
+use Rattle.gf_int_theory.specs.Content.{scaled}
 
 -- the dot product, of the shorter length
 abbrev pub dot : List ℤ → List ℤ → ℤ

@@ -3,7 +3,7 @@
 //! Operands of 64 bits take a short way: their product always fits, and their quotient is worked out in 64 bits.
 ghost use Rattle.std.specs.Prelude.{◌≡◌, ◌*ℤ◌, ◌<ℤ◌, ◌↔◌, pos, int_div, IsTrue, FitsSigned};
 ghost use Rattle.std.specs.Int.{w64};
-ghost use Rattle.gf_int.specs.Range.{InRange};
+ghost use Rattle.gf_int_theory.specs.Range.{InRange};
 ghost use Rattle.gf_vec.specs.Steps.{Operates};
 
 use crate::error::{VecOp, WideVector};

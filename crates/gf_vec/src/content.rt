@@ -1,7 +1,7 @@
 //! Division of a list of entries by its content.
 ghost use Rattle.std.specs.Prelude.{◌≡◌, ◌<ℤ◌, ◌↔◌, pos, All, Any, IsTrue, unsigned_abs};
-ghost use Rattle.gf_int.specs.Range.{InRange};
-ghost use Rattle.gf_int.specs.Content.{quotients};
+ghost use Rattle.gf_int_theory.specs.Range.{InRange};
+ghost use Rattle.gf_int_theory.specs.Content.{quotients};
 ghost use Rattle.gf_vec.specs.Primitive.{IsDivided};
 
 use crate::arithmetic::quotient;

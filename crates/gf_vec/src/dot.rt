@@ -1,6 +1,6 @@
 //! The dot product of two lists of entries, from the left.
 ghost use Rattle.std.specs.Prelude.{◌≡◌, pos, length, IfOk, IfErr};
-ghost use Rattle.gf_int.specs.Range.{InRange};
+ghost use Rattle.gf_int_theory.specs.Range.{InRange};
 ghost use Rattle.gf_vec.specs.Vector.{dot};
 ghost use Rattle.gf_vec.specs.Steps.{NoneWide, IsFirstWide, dot_steps};
 

@@ -1,8 +1,8 @@
 //! Sums and negatives of entries in place.
 ghost use Rattle.std.specs.Prelude.{◌≡◌, negsuc, All, OnOk, IfErr, length};
-ghost use Rattle.gf_int.specs.Range.{InRange};
+ghost use Rattle.gf_int_theory.specs.Range.{InRange};
 ghost use Rattle.gf_vec.specs.Vector.{vector_sum};
-ghost use Rattle.gf_int.specs.Content.{scaled};
+ghost use Rattle.gf_int_theory.specs.Content.{scaled};
 ghost use Rattle.gf_vec.specs.Steps.{NoneWide, IsFirstWide, sum_steps};
 
 use crate::arithmetic::total;

@@ -1,8 +1,8 @@
 //! The vector, and the calls that make, read or change one.
 ghost use Rattle.std.specs.Prelude.{◌≡◌, pos, All, IfOk, IfErr, length};
-ghost use Rattle.gf_int.specs.Range.{InRange};
+ghost use Rattle.gf_int_theory.specs.Range.{InRange};
 ghost use Rattle.gf_vec.specs.Vector.{dot, vector_sum, opposite};
-ghost use Rattle.gf_int.specs.Content.{scaled};
+ghost use Rattle.gf_int_theory.specs.Content.{scaled};
 ghost use Rattle.gf_vec.specs.Steps.{NoneWide, IsFirstWide, IfWide, dot_steps, sum_steps};
 ghost use Rattle.std.specs.Prelude.{negsuc};
 ghost use Rattle.gf_vec.specs.Primitive.{IsPrimitivePart};
@@ -22,7 +22,7 @@ pub struct IntVec {
 
 impl Model for IntVec {
     ghost use Rattle.std.specs.Prelude.{List, ℤ, All};
-    ghost use Rattle.gf_int.specs.Range.{InRange};
+    ghost use Rattle.gf_int_theory.specs.Range.{InRange};
 
     ghost Value = { List ℤ };
 

@@ -2,7 +2,7 @@
 //!
 //! An entry within `2^63` times a difference of exponents of 32 bits is within `2^95`, and 64 of them are within `2^101`.
 ghost use Rattle.std.specs.Prelude.{◌≡◌, ◌≤◌, ◌^◌, pos, ◌-ℤ◌, ◌*ℤ◌, unsigned_abs, All, length};
-ghost use Rattle.gf_exponents.specs.Exponents.{whole_weight};
+ghost use Rattle.gf_exponents_theory.specs.Exponents.{whole_weight};
 
 /// An entry of a weight times a difference of exponents.
 pub fn share(entry: i128, x: u32, y: u32) -> i128

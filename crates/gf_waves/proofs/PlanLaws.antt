@@ -4,8 +4,8 @@
 use Rattle.std.proofs.Common.{◌≡◌, ℕ, zero, suc, ◌<◌, ◌≤◌, ◌+◌, ◌-◌, ◌*◌, min, List, [], ◌∷◌, ◌++◌, length, refl, sym, ap, subst, ◌∙◌, append_assoc, arith, get_or, length-append, append-nil, replicate, take, drop}
 use Rattle.std.specs.Vec.{vec_capacity}
 use Rattle.std.proofs.Math.Nat.{suc-mul}
-use Rattle.gf_walk.specs.Place.{Place}
-use Rattle.gf_walk.specs.declared.expand.Piece.{Piece}
+use Rattle.gf_reverse_search.specs.Place.{Place}
+use Rattle.gf_reverse_search.specs.declared.expand.Piece.{Piece}
 use Rattle.gf_waves.specs.declared.job.Slot.{Slot}
 use Rattle.gf_waves.specs.declared.job.Job.{Job}
 use Rattle.gf_waves.specs.Frontier.{job_number, first_job, behind_job, renewed, walkers_of}

@@ -2,12 +2,12 @@
 -- To cite: waved_refusals, given_refusals, given_refused_any, starved_refused.
 use Rattle.std.proofs.Common.{IfErr, ◌≡◌, ℕ, zero, suc, ◌+◌, ◌-◌, min, length, List, [], ◌∷◌, ◌++◌, refl, sym, inl, inr, subst, Option, Some, None, Ok, Err, true, false}
 use Rattle.std.specs.declared.result.Result.{Result}
-use Rattle.gf_walk.specs.declared.mark.Mark.{Mark}
-use Rattle.gf_walk.specs.declared.mark.Mark.TheVariants.{After}
-use Rattle.gf_walk.specs.Place.{Place}
-use Rattle.gf_walk.specs.Pieces.{ArePiecesBelow, Follows, GoesDown}
-use Rattle.gf_walk.specs.declared.expand.Piece.{Piece}
-use Rattle.gf_walk.specs.declared.expand.Piece.TheVariants.{Ready, Under, Refused}
+use Rattle.gf_reverse_search.specs.declared.mark.Mark.{Mark}
+use Rattle.gf_reverse_search.specs.declared.mark.Mark.TheVariants.{After}
+use Rattle.gf_reverse_search.specs.Place.{Place}
+use Rattle.gf_reverse_search.specs.Pieces.{ArePiecesBelow, Follows, GoesDown}
+use Rattle.gf_reverse_search.specs.declared.expand.Piece.{Piece}
+use Rattle.gf_reverse_search.specs.declared.expand.Piece.TheVariants.{Ready, Under, Refused}
 use Rattle.gf_waves.specs.Frontier.{AreRefusals, IsFrontRefused, first_job, behind_job}
 use Rattle.gf_waves.specs.Wave.{IsWaved, IsExpansion, ExpandsOn, IsGiven, is_served}
 

@@ -2,17 +2,17 @@
 -- To cite: over_leaves, given_leaves, readied_leaves.
 use Rattle.std.proofs.Common.{◌≡◌, ℕ, zero, suc, ◌+◌, ◌-◌, ◌*◌, min, replicate, List, [], ◌∷◌, ◌++◌, length, refl, sym, ap, inl, inr, subst, ◌∙◌, append_assoc, append-nil, Option, Some, None, Ok, Err}
 use Rattle.std.specs.declared.result.Result.{Result}
-use Rattle.gf_walk.specs.Path.{IsPath, IsStrictOrder, IsTree}
-use Rattle.gf_walk.specs.Place.{Place}
-use Rattle.gf_walk.specs.Listing.{Among, LeadTo, Leaves, IsLeftAt}
-use Rattle.gf_walk.specs.Pieces.{PiecesLeave}
-use Rattle.gf_walk.specs.declared.expand.Piece.{Piece}
-use Rattle.gf_walk.specs.declared.expand.Piece.TheVariants.{Ready, Under, Refused}
-use Rattle.gf_walk.proofs.PiecesLaws.{expansion_leaves}
+use Rattle.gf_reverse_search.specs.Path.{IsPath, IsStrictOrder, IsTree}
+use Rattle.gf_reverse_search.specs.Place.{Place}
+use Rattle.gf_reverse_search.specs.Listing.{Among, LeadTo, Leaves, IsLeftAt}
+use Rattle.gf_reverse_search.specs.Pieces.{PiecesLeave}
+use Rattle.gf_reverse_search.specs.declared.expand.Piece.{Piece}
+use Rattle.gf_reverse_search.specs.declared.expand.Piece.TheVariants.{Ready, Under, Refused}
+use Rattle.gf_reverse_search.proofs.PiecesLaws.{expansion_leaves}
 use Rattle.gf_waves.specs.Wave.{IsWaved, IsExpansion, ExpandsOn, IsGiven, IsAsked, IsReadied, IsAfter}
 use Rattle.gf_waves.specs.Frontier.{due_at, room_at, times_at, first_job, behind_job}
-use Rattle.gf_walk.specs.Walk.{IsOver}
-use Rattle.gf_walk.proofs.ListLaws.{gives}
+use Rattle.gf_reverse_search.specs.Walk.{IsOver}
+use Rattle.gf_reverse_search.proofs.ListLaws.{gives}
 
 -- the pieces of two rows, one after the other
 leave_both : {T N L E : Type 0} (left : Place T N L → List N → Type 0) (ps qs : List (Piece T N L E)) (front back : List N) → PiecesLeave left ps front → PiecesLeave left qs back → PiecesLeave left (ps ++ qs) (front ++ back)

@@ -1,9 +1,9 @@
 -- A list as a row of pieces: ready nodes, and walkers for what is between and behind them.
 -- Laws: proofs/RefusedLaws.antt.
 use Rattle.std.specs.Prelude.{ℕ, zero, suc, List, [], ◌∷◌, length, count_by, ◌≤◌, ◌*◌, ◌+◌, ◌-◌, ◌/◌, ◌^◌, min, Bool, true, false}
-use Rattle.gf_walk.specs.Place.{Place}
-use Rattle.gf_walk.specs.declared.expand.Piece.{Piece}
-use Rattle.gf_walk.specs.declared.expand.Piece.TheVariants.{Ready, Under, Refused}
+use Rattle.gf_reverse_search.specs.Place.{Place}
+use Rattle.gf_reverse_search.specs.declared.expand.Piece.{Piece}
+use Rattle.gf_reverse_search.specs.declared.expand.Piece.TheVariants.{Ready, Under, Refused}
 
 -- the number of workers, the number of the next job, and the pieces that are left, in list order
 pub record Frontier (T N L E : Type 0) : Type 0 where

@@ -4,8 +4,8 @@ use Rattle.std.specs.Prelude.{◌≡◌, ◌<◌, ◌≤◌, ◌+◌, min, lengt
 use Rattle.std.specs.List.{All}
 use Rattle.std.specs.Vec.{vec_capacity}
 use Rattle.std.specs.VecDeque.{deque_capacity}
-use Rattle.gf_walk.specs.Place.{Place}
-use Rattle.gf_walk.specs.declared.expand.Piece.{Piece}
+use Rattle.gf_reverse_search.specs.Place.{Place}
+use Rattle.gf_reverse_search.specs.declared.expand.Piece.{Piece}
 use Rattle.gf_waves.specs.declared.job.Slot.{Slot}
 use Rattle.gf_waves.specs.declared.job.Job.{Job}
 use Rattle.gf_waves.specs.Frontier.{job_number, first_job, behind_job}

@@ -4,13 +4,13 @@
 use Rattle.std.specs.Prelude.{◌≡◌, ℕ, zero, suc, ◌+◌, ◌-◌, ◌*◌, ◌<◌, min, length, replicate, List, [], ◌∷◌, ◌++◌, ◌⊎◌, Option, Some, None, Bool, true, false}
 use Rattle.std.specs.declared.result.Result.{Result}
 use Rattle.std.specs.declared.result.Result.TheVariants.{Ok, Err}
-use Rattle.gf_walk.specs.Place.{Place}
+use Rattle.gf_reverse_search.specs.Place.{Place}
 use Rattle.gf_waves.specs.Frontier.{Frontier, due_at, room_at, times_at, job_number, first_job, behind_job}
-use Rattle.gf_walk.specs.Walk.{Advances, IsOver}
-use Rattle.gf_walk.specs.Listing.{IsFirstOf}
-use Rattle.gf_walk.specs.Pieces.{Expands, PiecesLeave}
-use Rattle.gf_walk.specs.declared.expand.Piece.{Piece}
-use Rattle.gf_walk.specs.declared.expand.Piece.TheVariants.{Ready, Under, Refused}
+use Rattle.gf_reverse_search.specs.Walk.{Advances, IsOver}
+use Rattle.gf_reverse_search.specs.Listing.{IsFirstOf}
+use Rattle.gf_reverse_search.specs.Pieces.{Expands, PiecesLeave}
+use Rattle.gf_reverse_search.specs.declared.expand.Piece.{Piece}
+use Rattle.gf_reverse_search.specs.declared.expand.Piece.TheVariants.{Ready, Under, Refused}
 
 -- ---- a job
 

@@ -2,13 +2,13 @@
 ghost use Rattle.std.specs.Prelude.{◌<◌, ◌≤◌, ◌+◌, ◌-◌, ◌*◌, ◌≡◌, length, [], ◌∷◌, ◌++◌};
 ghost use Rattle.std.specs.Vec.{vec_capacity};
 ghost use Rattle.std.specs.VecDeque.{deque_capacity};
-ghost use Rattle.gf_walk.specs.Pieces.{RefusesAt};
+ghost use Rattle.gf_reverse_search.specs.Pieces.{RefusesAt};
 ghost use Rattle.gf_waves.specs.Plans.{IsExpanded, IsFit, IsJobFit, IsOn, IsWorked};
 ghost use Rattle.gf_waves.specs.Wave.{ExpandsOn};
 
 use crate::Gate;
 use crate::rows::{push, push_before, put_before, put_behind};
-use gf_walk::{Piece, ReusingTree, Tree, Walker};
+use gf_reverse_search::{Piece, ReusingTree, Tree, Walker};
 use std::alloc::Global;
 use std::collections::VecDeque;
 

@@ -7,7 +7,7 @@ ghost use Rattle.gf_waves.specs.Plans.{AreFit, AreFitAt, AreFreeJobs, AreNumbere
 
 use crate::job::{Job, Slot};
 use crate::rows::{push, put_behind};
-use gf_walk::{Piece, Tree};
+use gf_reverse_search::{Piece, Tree};
 use std::alloc::{AllocError, Global};
 use std::collections::VecDeque;
 

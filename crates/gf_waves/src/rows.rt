@@ -2,7 +2,7 @@
 ghost use Rattle.std.specs.Prelude.{◌≡◌, ◌<◌, ◌≤◌, ◌+◌, length, [], ◌∷◌, ◌++◌};
 ghost use Rattle.std.specs.VecDeque.{deque_capacity};
 
-use gf_walk::{Piece, Tree};
+use gf_reverse_search::{Piece, Tree};
 use std::collections::VecDeque;
 
 /// Puts a piece behind a row that has room.

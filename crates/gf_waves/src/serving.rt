@@ -1,16 +1,16 @@
 //! The next node of a row.
 ghost use Rattle.std.specs.Prelude.{ℕ, ◌≡◌, ◌-◌, ◌*◌, ◌≤◌, ◌<◌, ◌/◌, length, count_by, List, IfErr, OnOk, OnErr, true, false};
-ghost use Rattle.gf_walk.specs.Pieces.{PiecesLeave, RefusesAt};
-ghost use Rattle.gf_walk.specs.Listing.{IsLeftAt};
-ghost use Rattle.gf_walk.specs.declared.expand.Piece.{Piece};
-ghost use Rattle.gf_walk.specs.declared.expand.Piece.TheVariants.{Under};
+ghost use Rattle.gf_reverse_search.specs.Pieces.{PiecesLeave, RefusesAt};
+ghost use Rattle.gf_reverse_search.specs.Listing.{IsLeftAt};
+ghost use Rattle.gf_reverse_search.specs.declared.expand.Piece.{Piece};
+ghost use Rattle.gf_reverse_search.specs.declared.expand.Piece.TheVariants.{Under};
 ghost use Rattle.gf_waves.specs.Frontier.{AreRefusals, IsFrontRefused, IsHeld, due_at, is_ready, most_pieces, room_at, times_at};
 ghost use Rattle.gf_waves.specs.Wave.{IsAfter, IsGiven, IsReadied, is_served};
 
 use crate::Gate;
 use crate::rows::push_before;
 use crate::wave::wave;
-use gf_walk::{Piece, ReusingTree, Tree};
+use gf_reverse_search::{Piece, ReusingTree, Tree};
 use std::alloc::AllocError;
 use std::collections::VecDeque;
 use std::thread::Threads;

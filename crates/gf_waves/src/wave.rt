@@ -1,6 +1,6 @@
 //! One wave: the first pieces of the row are worked on, side by side.
 ghost use Rattle.std.specs.Prelude.{◌≡◌, ◌≤◌, ◌<◌, ◌+◌, ◌*◌, length, replicate, OnOk, OnErr};
-ghost use Rattle.gf_walk.specs.Pieces.{RefusesAt};
+ghost use Rattle.gf_reverse_search.specs.Pieces.{RefusesAt};
 ghost use Rattle.gf_waves.specs.Frontier.{AreRefusals, job_number};
 ghost use Rattle.gf_waves.specs.Wave.{IsWaved};
 ghost use Rattle.gf_waves.specs.Plans.{AreFitAt, AreWorkedAt, IsJobFit, IsWorked};
@@ -8,7 +8,7 @@ ghost use Rattle.gf_waves.specs.Plans.{AreFitAt, AreWorkedAt, IsJobFit, IsWorked
 use crate::Gate;
 use crate::job::{Job, work};
 use crate::planning::{deal, merge, plan, spare_jobs, spare_slots};
-use gf_walk::{Piece, ReusingTree};
+use gf_reverse_search::{Piece, ReusingTree};
 use std::alloc::{AllocError, Global};
 use std::collections::VecDeque;
 use std::mem;

@@ -2,17 +2,17 @@
 //!
 //! What is left of the list is said in `specs/Frontier.antt`, what a call does to it in `specs/Wave.antt`.
 ghost use Rattle.std.specs.Prelude.{◌≡◌, ◌+◌, ◌*◌, ◌≤◌, length, List, [], ◌∷◌, IfOk, IfErr, count_by};
-ghost use Rattle.gf_walk.specs.declared.mark.Mark.TheVariants.{Before, Listed};
-ghost use Rattle.gf_walk.specs.declared.expand.Piece.TheVariants.{Ready, Under};
-ghost use Rattle.gf_walk.specs.Pieces.{PiecesLeave, RefusesAt};
-ghost use Rattle.gf_walk.specs.Listing.{Leaves, IsLeftAt};
+ghost use Rattle.gf_reverse_search.specs.declared.mark.Mark.TheVariants.{Before, Listed};
+ghost use Rattle.gf_reverse_search.specs.declared.expand.Piece.TheVariants.{Ready, Under};
+ghost use Rattle.gf_reverse_search.specs.Pieces.{PiecesLeave, RefusesAt};
+ghost use Rattle.gf_reverse_search.specs.Listing.{Leaves, IsLeftAt};
 ghost use Rattle.gf_waves.specs.Frontier.{AreRefusals, IsFrontRefused, is_ready, is_refused};
 ghost use Rattle.gf_waves.specs.Wave.{IsAfter, IsCall, is_served};
 
 use crate::Gate;
 use crate::rows::push;
 use crate::serving::{give, is_served, no_memory, work_off};
-use gf_walk::{Piece, ReusingTree, Tree, Walker};
+use gf_reverse_search::{Piece, ReusingTree, Tree, Walker};
 use std::alloc::Global;
 use std::collections::VecDeque;
 use std::marker::Model;
@@ -28,7 +28,7 @@ pub struct Waves<'g, T: Tree, G: Gate> {
 }
 
 impl<'g, T: Tree, G: Gate> Model for Waves<'g, T, G> {
-    ghost use Rattle.gf_walk.specs.Pieces.{RefusesAt};
+    ghost use Rattle.gf_reverse_search.specs.Pieces.{RefusesAt};
     ghost use Rattle.gf_waves.specs.Frontier.{Frontier, IsHeld};
 
     ghost Value = { Frontier T T.Node T.Label T.Error };

@@ -5,21 +5,21 @@ use Rattle.std.proofs.lemmas.List.{get_or_default}
 use Rattle.std.proofs.lemmas.Bool.{cases_eq}
 use Rattle.std.proofs.Math.ListN.{get_or-append}
 use Rattle.std.proofs.lemmas.List.Elements.{All-contains}
-use Rattle.gf_int.proofs.SignLaws.{sign_of, negative, none, positive}
-use Rattle.gf_int.proofs.ListLaws.{Contains-here}
+use Rattle.gf_int_theory.proofs.SignLaws.{sign_of, negative, none, positive}
+use Rattle.gf_int_theory.proofs.ListLaws.{Contains-here}
 use Rattle.gf_vec.specs.Vector.{dot}
-use Rattle.gf_duality.specs.Generators.{Made, IsDescribed}
-use Rattle.gf_duality.specs.Faces.{sum_of}
-use Rattle.gf_duality.proofs.ListLaws.{none_in, in_tail}
-use Rattle.gf_duality.proofs.Made.{Made-dot, Made-dot_zero}
-use Rattle.gf_duality.proofs.RaySums.{sum_made, sum_long, sum_zero}
-use Rattle.gf_duality.proofs.Determined.{described_of}
-use Rattle.gf_duality.proofs.Sums.{within_zero}
-use Rattle.gf_duality.proofs.FacetRows.{in_cone}
+use Rattle.gf_duality_theory.specs.Generators.{Made, IsDescribed}
+use Rattle.gf_duality_theory.specs.Faces.{sum_of}
+use Rattle.gf_duality_theory.proofs.ListLaws.{none_in, in_tail}
+use Rattle.gf_duality_theory.proofs.Made.{Made-dot, Made-dot_zero}
+use Rattle.gf_duality_theory.proofs.RaySums.{sum_made, sum_long, sum_zero}
+use Rattle.gf_duality_theory.proofs.Determined.{described_of}
+use Rattle.gf_duality_theory.proofs.Sums.{within_zero}
+use Rattle.gf_duality_theory.proofs.FacetRows.{in_cone}
 use Rattle.gf_rays.specs.Cones.{RowsAndRays}
 use Rattle.gf_rays.specs.Parts.{zeros_of}
 use Rattle.gf_rays.proofs.PartLaws.{zeros_part}
-use Rattle.gf_facets.specs.Normals.{others_of}
+use Rattle.gf_facets_theory.specs.Normals.{others_of}
 use Rattle.gf_cone.specs.Cones.{ConeRows, all_rows, other_rows}
 use Rattle.gf_cone.specs.Crossing.{IsCrossable}
 use Rattle.gf_cone.proofs.CrossingLaws.{in_all, solution_of_shown}

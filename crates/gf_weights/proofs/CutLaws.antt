@@ -3,17 +3,17 @@ use Rattle.std.proofs.Common.{◌≡◌, ℕ, ◌<◌, List, [], ◌∷◌, ◌+
 use Rattle.std.proofs.lemmas.Int.{ints}
 use Rattle.std.proofs.Math.ListN.{get_or-append}
 use Rattle.std.proofs.lemmas.List.Elements.{Contains-append_right}
-use Rattle.gf_int.proofs.ListLaws.{Contains-here}
+use Rattle.gf_int_theory.proofs.ListLaws.{Contains-here}
 use Rattle.gf_vec.specs.Vector.{dot, entry_at}
 use Rattle.gf_poly.specs.Marking.{MarkedPolynomial}
-use Rattle.gf_duality.specs.Rays.{IsRays}
-use Rattle.gf_duality.specs.Faces.{sum_of}
-use Rattle.gf_duality.proofs.Determined.{described_of}
+use Rattle.gf_duality_theory.specs.Rays.{IsRays}
+use Rattle.gf_duality_theory.specs.Faces.{sum_of}
+use Rattle.gf_duality_theory.proofs.Determined.{described_of}
 use Rattle.gf_rays.specs.Cones.{RowsAndRays}
 use Rattle.gf_rays.specs.Parts.{zeros_of}
-use Rattle.gf_facets.specs.Systems.{unit, units}
-use Rattle.gf_facets.specs.Regions.{Region}
-use Rattle.gf_facets.proofs.UnitLaws.{dot-unit, unit_there}
+use Rattle.gf_facets_theory.specs.Systems.{unit, units}
+use Rattle.gf_facets_theory.specs.Regions.{Region}
+use Rattle.gf_facets_theory.proofs.UnitLaws.{dot-unit, unit_there}
 use Rattle.gf_cone.specs.Cones.{ConeRows, all_rows, normal_at, IsConeOf}
 use Rattle.gf_weights.specs.Weights.{AreCutRows, AreCutRays, IsWeightIn, IsWitnessIn}
 use Rattle.gf_weights.specs.Cuts.{HasRaysOf, IsCutOf}

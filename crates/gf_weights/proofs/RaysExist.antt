@@ -9,11 +9,11 @@ use Rattle.std.proofs.lemmas.Bool.{cases_lt}
 use Rattle.std.proofs.lemmas.Int.{ints}
 use Rattle.std.proofs.lemmas.List.{get_or_default}
 use Rattle.std.proofs.lemmas.List.Elements.{All-nil, All-contains, Contains-append_left, Contains-append_right, Contains-append_cases}
-use Rattle.gf_int.specs.Content.{IsPrimitive, scaled}
-use Rattle.gf_int.proofs.ContentLaws.{IsPrimitive-one}
-use Rattle.gf_int.proofs.RingLaws.{dv}
-use Rattle.gf_int.proofs.SignLaws.{sign_of, negative, none, positive, zero_or_not}
-use Rattle.gf_int.proofs.ListLaws.{Contains-here, all_by}
+use Rattle.gf_int_theory.specs.Content.{IsPrimitive, scaled}
+use Rattle.gf_int_theory.proofs.ContentLaws.{IsPrimitive-one}
+use Rattle.gf_int_theory.proofs.RingLaws.{dv}
+use Rattle.gf_int_theory.proofs.SignLaws.{sign_of, negative, none, positive, zero_or_not}
+use Rattle.gf_int_theory.proofs.ListLaws.{Contains-here, all_by}
 use Rattle.gf_vec.specs.Vector.{dot, zeros}
 use Rattle.gf_vec.specs.Primitive.{IsPrimitivePart}
 use Rattle.gf_vec.proofs.DividedLaws.{IsContent-unit}
@@ -21,28 +21,28 @@ use Rattle.gf_vec.proofs.PrimitiveLaws.{primitive_of}
 use Rattle.gf_vec.proofs.VectorIdentities.{vv, vz, ◌⊡◌, ◌⊞◌, vsame}
 use Rattle.gf_vec.proofs.VectorLaws.{length-zeros}
 use Rattle.gf_poly.specs.Marking.{MarkedPolynomial}
-use Rattle.gf_duality.specs.Combining.{pair}
-use Rattle.gf_duality.specs.Faces.{Rows}
-use Rattle.gf_duality.specs.Rays.{IsRays}
-use Rattle.gf_duality.specs.Generators.{Made, nothing, ray, line, summed, multiplied, divided, IsDescribed, unit_vectors}
-use Rattle.gf_duality.specs.Straightening.{start}
-use Rattle.gf_duality.proofs.ListLaws.{none_in, in_tail, in_cons}
-use Rattle.gf_duality.proofs.Made.{Made-into}
-use Rattle.gf_duality.proofs.Equations.{in_map, map_in, units_width}
-use Rattle.gf_duality.proofs.Orthogonal.{basis}
-use Rattle.gf_duality.proofs.Taking.{ZeroWhere}
-use Rattle.gf_duality.proofs.Described.{multiple_of, split_step, pruned}
-use Rattle.gf_duality.proofs.Thinning.{same_rays}
-use Rattle.gf_duality.proofs.Finishing.{finish}
-use Rattle.gf_duality.proofs.Determined.{same_rays_of}
-use Rattle.gf_facets.specs.Rows.{rows_of_polynomials}
-use Rattle.gf_facets.specs.Systems.{unit, units}
-use Rattle.gf_facets.specs.LexPositive.{IsBefore}
-use Rattle.gf_facets.specs.Normals.{Ascends, AreNormals}
-use Rattle.gf_facets.proofs.PrimitiveLaws.{primitive_unique}
-use Rattle.gf_facets.proofs.UnitLaws.{dot-unit, unit_of, unit_there}
-use Rattle.gf_facets.proofs.VectorOrder.{before_strict, vectors_compare}
-use Rattle.gf_facets.proofs.AscendingLaws.{ascends_at}
+use Rattle.gf_duality_theory.specs.Combining.{pair}
+use Rattle.gf_duality_theory.specs.Faces.{Rows}
+use Rattle.gf_duality_theory.specs.Rays.{IsRays}
+use Rattle.gf_duality_theory.specs.Generators.{Made, nothing, ray, line, summed, multiplied, divided, IsDescribed, unit_vectors}
+use Rattle.gf_duality_theory.specs.Straightening.{start}
+use Rattle.gf_duality_theory.proofs.ListLaws.{none_in, in_tail, in_cons}
+use Rattle.gf_duality_theory.proofs.Made.{Made-into}
+use Rattle.gf_duality_theory.proofs.Equations.{in_map, map_in, units_width}
+use Rattle.gf_duality_theory.proofs.Orthogonal.{basis}
+use Rattle.gf_duality_theory.proofs.Taking.{ZeroWhere}
+use Rattle.gf_duality_theory.proofs.Described.{multiple_of, split_step, pruned}
+use Rattle.gf_duality_theory.proofs.Thinning.{same_rays}
+use Rattle.gf_duality_theory.proofs.Finishing.{finish}
+use Rattle.gf_duality_theory.proofs.Determined.{same_rays_of}
+use Rattle.gf_facets_theory.specs.Rows.{rows_of_polynomials}
+use Rattle.gf_facets_theory.specs.Systems.{unit, units}
+use Rattle.gf_facets_theory.specs.LexPositive.{IsBefore}
+use Rattle.gf_facets_theory.specs.Normals.{Ascends, AreNormals}
+use Rattle.gf_facets_theory.proofs.PrimitiveLaws.{primitive_unique}
+use Rattle.gf_facets_theory.proofs.UnitLaws.{dot-unit, unit_of, unit_there}
+use Rattle.gf_facets_theory.proofs.VectorOrder.{before_strict, vectors_compare}
+use Rattle.gf_facets_theory.proofs.AscendingLaws.{ascends_at}
 use Rattle.gf_gordan.proofs.ExistenceLaws.{divided_exists}
 
 -- ---- ascending lists

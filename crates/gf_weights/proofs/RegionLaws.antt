@@ -6,11 +6,11 @@ use Rattle.std.proofs.lemmas.Bool.{cases_lt}
 use Rattle.std.proofs.lemmas.List.Elements.{All-nil}
 use Rattle.gf_gordan.specs.Alternative.{AreRows, IsSolvable, IsFarkas}
 use Rattle.gf_gordan.proofs.ExistenceLaws.{alternative}
-use Rattle.gf_duality.specs.Faces.{sum_of}
-use Rattle.gf_duality.proofs.Determined.{rays_determined}
-use Rattle.gf_facets.specs.Systems.{units}
-use Rattle.gf_facets.specs.Regions.{Region, IsInRegion}
-use Rattle.gf_facets.proofs.SystemLaws.{region_rows_wide, rows_of_region}
+use Rattle.gf_duality_theory.specs.Faces.{sum_of}
+use Rattle.gf_duality_theory.proofs.Determined.{rays_determined}
+use Rattle.gf_facets_theory.specs.Systems.{units}
+use Rattle.gf_facets_theory.specs.Regions.{Region, IsInRegion}
+use Rattle.gf_facets_theory.proofs.SystemLaws.{region_rows_wide, rows_of_region}
 use Rattle.gf_weights.specs.declared.region.RegionError.TheVariants as region_errors
 use Rattle.gf_weights.specs.Roots.{IsSumOfRays, IsRegionOf, IsFirstPast, IsRegionRefusal, RegionsAreOne}
 

@@ -7,8 +7,8 @@ use Rattle.std.specs.declared.cmp.Ordering.TheVariants.{Less}
 use Rattle.std.proofs.lemmas.Int.{ints}
 use Rattle.std.proofs.lemmas.Nat.Gcd.{dvd_refl}
 use Rattle.std.proofs.lemmas.List.Elements.{All-nil, All-contains, All-from_recursion}
-use Rattle.gf_int.specs.Content.{IsPrimitive, scaled}
-use Rattle.gf_int.proofs.ListLaws.{Contains-here}
+use Rattle.gf_int_theory.specs.Content.{IsPrimitive, scaled}
+use Rattle.gf_int_theory.proofs.ListLaws.{Contains-here}
 use Rattle.gf_vec.specs.Vector.{dot, zeros, vector_sum, combined}
 use Rattle.gf_vec.specs.Steps.{IsFirstWide, IsWide}
 use Rattle.gf_gordan.specs.Alternative.{AreRows}
@@ -16,13 +16,13 @@ use Rattle.gf_gordan.specs.Sizes.{HaveEntriesUpTo}
 use Rattle.gf_gordan.specs.declared.error.ConeOverflow.{ConeOverflow}
 use Rattle.gf_gordan.specs.declared.error.GordanError.TheVariants as gordan_errors
 use Rattle.gf_gordan.proofs.ThreeColumns.{not_refused}
-use Rattle.gf_duality.specs.Rays.{IsRays}
-use Rattle.gf_duality.specs.Faces.{sum_of}
-use Rattle.gf_duality.proofs.ListLaws.{in_tail, in_cons, none_in}
-use Rattle.gf_duality.proofs.Determined.{described_of}
+use Rattle.gf_duality_theory.specs.Rays.{IsRays}
+use Rattle.gf_duality_theory.specs.Faces.{sum_of}
+use Rattle.gf_duality_theory.proofs.ListLaws.{in_tail, in_cons, none_in}
+use Rattle.gf_duality_theory.proofs.Determined.{described_of}
 use Rattle.gf_rays.specs.Sums.{adding_steps}
 use Rattle.gf_rays.proofs.RoomLaws.{systems_with_room_stay_within_limits}
-use Rattle.gf_facets.proofs.SystemLaws.{all_positive-region}
+use Rattle.gf_facets_theory.proofs.SystemLaws.{all_positive-region}
 use Rattle.gf_weights.specs.declared.region.RegionError.TheVariants as region_errors
 use Rattle.gf_weights.specs.Roots.{IsRegionRefusal, IsRegionWithinLimits}
 use Rattle.gf_weights.proofs.RegionLaws.{solved, unrefuted}

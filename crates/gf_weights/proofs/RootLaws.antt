@@ -4,7 +4,7 @@
 use Rattle.std.proofs.Common.{◌≡◌, ℕ, ◌+◌, ◌<◌, ◌^◌, List, [], ◌∷◌, ◌++◌, length, ℤ, pos, ◌<ℤ◌, arith, refl, sym, ap, ◌∙◌, subst, unsigned_abs, Contains, All, Result, Ok, Err, IfErr, inl, inr}
 use Rattle.std.proofs.lemmas.Int.{ints}
 use Rattle.std.proofs.lemmas.List.Elements.{All-contains, Contains-append_left, Contains-append_right, Contains-append_cases}
-use Rattle.gf_int.proofs.ListLaws.{all_by}
+use Rattle.gf_int_theory.proofs.ListLaws.{all_by}
 use Rattle.gf_vec.specs.Vector.{dot, zeros}
 use Rattle.gf_vec.specs.Steps.{IsFirstWide, IfWide}
 use Rattle.gf_vec.specs.declared.error.VecError.{VecError}
@@ -17,17 +17,17 @@ use Rattle.gf_gordan.specs.declared.answer.Answer.{Answer}
 use Rattle.gf_gordan.specs.declared.answer.Answer.TheVariants.{Point, Farkas}
 use Rattle.gf_gordan.specs.declared.error.GordanError.{GordanError}
 use Rattle.gf_gordan.specs.declared.error.GordanError.TheVariants as gordan_errors
-use Rattle.gf_duality.specs.Rays.{IsRays}
-use Rattle.gf_duality.specs.Faces.{sum_of}
-use Rattle.gf_duality.proofs.RaySums.{sum_long}
-use Rattle.gf_duality.proofs.Determined.{described_of}
-use Rattle.gf_duality.proofs.Sums.{sum_positive}
+use Rattle.gf_duality_theory.specs.Rays.{IsRays}
+use Rattle.gf_duality_theory.specs.Faces.{sum_of}
+use Rattle.gf_duality_theory.proofs.RaySums.{sum_long}
+use Rattle.gf_duality_theory.proofs.Determined.{described_of}
+use Rattle.gf_duality_theory.proofs.Sums.{sum_positive}
 use Rattle.gf_rays.specs.Reached.{IsRaysStep}
 use Rattle.gf_rays.specs.Cones.{RowsAndRays}
 use Rattle.gf_rays.specs.Sums.{adding_steps}
-use Rattle.gf_facets.specs.Systems.{units}
-use Rattle.gf_facets.specs.Regions.{Region, IsRegion}
-use Rattle.gf_facets.proofs.UnitLaws.{units_wide, positive_by_units}
+use Rattle.gf_facets_theory.specs.Systems.{units}
+use Rattle.gf_facets_theory.specs.Regions.{Region, IsRegion}
+use Rattle.gf_facets_theory.proofs.UnitLaws.{units_wide, positive_by_units}
 use Rattle.gf_weights.specs.declared.error.WeightError.{WeightError}
 use Rattle.gf_weights.specs.declared.error.WeightError.TheVariants as weight_errors
 use Rattle.gf_weights.specs.declared.region.RegionError.{RegionError}

@@ -4,30 +4,30 @@ use Rattle.std.proofs.Common.{◌≡◌, ◌⊎◌, ℕ, List, [], ◌++◌, len
 use Rattle.std.proofs.lemmas.Int.{ints}
 use Rattle.std.proofs.lemmas.List.Elements.{All-contains, Contains-append_left, Contains-append_right, Contains-append_cases}
 use Rattle.gf_frac.specs.Fraction.{one_ℚ}
-use Rattle.gf_exponents.specs.Orders.{gains}
-use Rattle.gf_int.proofs.ListLaws.{all_by}
+use Rattle.gf_exponents_theory.specs.Orders.{gains}
+use Rattle.gf_int_theory.proofs.ListLaws.{all_by}
 use Rattle.gf_vec.specs.Vector.{dot}
 use Rattle.gf_poly.specs.Polynomial.{Terms, coefficient}
 use Rattle.gf_poly.specs.Marking.{MarkedPolynomial}
-use Rattle.gf_ideal.specs.Membership.{AreInVariables}
-use Rattle.gf_ideal.specs.Bases.{IsReducedBasis}
-use Rattle.gf_duality.specs.Faces.{IsWitness}
-use Rattle.gf_duality.proofs.RaySums.{sum_long}
-use Rattle.gf_duality.proofs.Determined.{described_of}
-use Rattle.gf_duality.proofs.Sums.{sum_positive, sum_witness}
+use Rattle.gf_ideal_theory.specs.Membership.{AreInVariables}
+use Rattle.gf_ideal_theory.specs.Bases.{IsReducedBasis}
+use Rattle.gf_duality_theory.specs.Faces.{IsWitness}
+use Rattle.gf_duality_theory.proofs.RaySums.{sum_long}
+use Rattle.gf_duality_theory.proofs.Determined.{described_of}
+use Rattle.gf_duality_theory.proofs.Sums.{sum_positive, sum_witness}
 use Rattle.gf_rays.specs.Parts.{zeros_of}
 use Rattle.gf_rays.proofs.PartLaws.{zeros_part}
-use Rattle.gf_facets.specs.Rows.{IsNormal}
-use Rattle.gf_facets.specs.Systems.{units}
-use Rattle.gf_facets.specs.Regions.{Region, IsInRegion, all_positive}
-use Rattle.gf_facets.specs.Facets.{IsInOpenCone, IsInsideFacet, IsFlippable}
-use Rattle.gf_facets.specs.MarkedBases.{AreCanonical, IsMarkedReducedBasis, IsBasisInRegion}
-use Rattle.gf_facets.proofs.ConeLaws.{normals_open, open_by_normals}
-use Rattle.gf_facets.proofs.UnitLaws.{units_on_positive, positive_by_units}
-use Rattle.gf_facets.proofs.RegionLaws.{region-positive}
-use Rattle.gf_facets.proofs.SystemLaws.{marks_of_open, open_of_marks}
-use Rattle.gf_facets.proofs.VectorLaws.{vector_or_not}
-use Rattle.gf_bases.proofs.LawsHold.{marked_bases_are_reduced}
+use Rattle.gf_facets_theory.specs.Rows.{IsNormal}
+use Rattle.gf_facets_theory.specs.Systems.{units}
+use Rattle.gf_facets_theory.specs.Regions.{Region, IsInRegion, all_positive}
+use Rattle.gf_facets_theory.specs.Facets.{IsInOpenCone, IsInsideFacet, IsFlippable}
+use Rattle.gf_facets_theory.specs.MarkedBases.{AreCanonical, IsMarkedReducedBasis, IsBasisInRegion}
+use Rattle.gf_facets_theory.proofs.ConeLaws.{normals_open, open_by_normals}
+use Rattle.gf_facets_theory.proofs.UnitLaws.{units_on_positive, positive_by_units}
+use Rattle.gf_facets_theory.proofs.RegionLaws.{region-positive}
+use Rattle.gf_facets_theory.proofs.SystemLaws.{marks_of_open, open_of_marks}
+use Rattle.gf_facets_theory.proofs.VectorLaws.{vector_or_not}
+use Rattle.gf_bases_theory.proofs.LawsHold.{marked_bases_are_reduced}
 use Rattle.gf_weights.specs.Weights.{AreCutRows, IsWeightIn, IsWitnessIn, IsPrintedWeight}
 
 -- ---- the rows of the cut cone

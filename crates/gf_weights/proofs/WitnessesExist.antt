@@ -4,15 +4,15 @@ use Rattle.std.proofs.Common.{◌≡◌, ◌⊎◌, ℕ, zero, suc, ◌+◌, ◌
 use Rattle.std.proofs.lemmas.Bool.{cases_eq, cases_lt}
 use Rattle.gf_vec.specs.Vector.{dot}
 use Rattle.gf_poly.specs.Marking.{MarkedPolynomial}
-use Rattle.gf_duality.specs.Faces.{sum_of}
-use Rattle.gf_duality.specs.Rays.{IsRays}
+use Rattle.gf_duality_theory.specs.Faces.{sum_of}
+use Rattle.gf_duality_theory.specs.Rays.{IsRays}
 use Rattle.gf_rays.specs.Cones.{RowsAndRays}
 use Rattle.gf_rays.specs.Parts.{zeros_of}
-use Rattle.gf_facets.specs.Systems.{units}
-use Rattle.gf_facets.specs.Regions.{Region}
-use Rattle.gf_facets.specs.Normals.{AreNormals}
-use Rattle.gf_facets.specs.Facets.{IsFlippable}
-use Rattle.gf_facets.specs.MarkedBases.{AreCanonical}
+use Rattle.gf_facets_theory.specs.Systems.{units}
+use Rattle.gf_facets_theory.specs.Regions.{Region}
+use Rattle.gf_facets_theory.specs.Normals.{AreNormals}
+use Rattle.gf_facets_theory.specs.Facets.{IsFlippable}
+use Rattle.gf_facets_theory.specs.MarkedBases.{AreCanonical}
 use Rattle.gf_cone.specs.Cones.{ConeRows, normal_at}
 use Rattle.gf_cone.proofs.AnswerLaws.{crossable_flippable}
 use Rattle.gf_weights.specs.declared.certificates.FacetWitness.{FacetWitness}
@@ -22,7 +22,7 @@ use Rattle.gf_weights.proofs.CutLaws.{weight_is, witness_is}
 use Rattle.gf_weights.proofs.CrossLaws.{crossing_of_rays, not_crossing}
 use Rattle.gf_weights.proofs.FacetLoop.{facets_none, facets_passed, facets_next, facets_all}
 use Rattle.gf_weights.proofs.RaysExist.{normals_exist, rays_exist}
-use Rattle.gf_int.proofs.SignLaws.{zero_or_not}
+use Rattle.gf_int_theory.proofs.SignLaws.{zero_or_not}
 
 -- ---- which rows are zero on all rays on which another is
 

@@ -3,11 +3,11 @@
 use Rattle.std.specs.Prelude.{◌≡◌, ℕ, ◌<◌, List, [], length, slice_index_or, ℤ, pos, Contains}
 use Rattle.gf_poly.specs.Marking.{MarkedPolynomial}
 use Rattle.gf_vec.specs.Vector.{dot}
-use Rattle.gf_duality.specs.Rays.{IsRays}
+use Rattle.gf_duality_theory.specs.Rays.{IsRays}
 use Rattle.gf_rays.specs.Cones.{RowsAndRays}
-use Rattle.gf_facets.specs.Regions.{Region}
-use Rattle.gf_facets.specs.Normals.{Ascends}
-use Rattle.gf_facets.specs.Facets.{IsFlippable}
+use Rattle.gf_facets_theory.specs.Regions.{Region}
+use Rattle.gf_facets_theory.specs.Normals.{Ascends}
+use Rattle.gf_facets_theory.specs.Facets.{IsFlippable}
 use Rattle.gf_cone.specs.Cones.{ConeRows, all_rows, normal_at, IsConeOf}
 use Rattle.gf_weights.specs.declared.certificates.FacetWitness.{FacetWitness}
 use Rattle.gf_weights.specs.Weights.{IsWitnessIn, normals_of}

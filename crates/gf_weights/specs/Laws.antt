@@ -1,13 +1,13 @@
 -- The theorems on printed weights and witnesses that functions of this crate name, each for every region of weights.
 use Rattle.std.specs.Prelude.{◌≡◌, ℕ, List, ℤ, pos, ◌<ℤ◌, length, All}
-use Rattle.gf_exponents.specs.Orders.{gains}
+use Rattle.gf_exponents_theory.specs.Orders.{gains}
 use Rattle.gf_poly.specs.Polynomial.{Terms}
 use Rattle.gf_poly.specs.Marking.{MarkedPolynomial}
-use Rattle.gf_ideal.specs.Membership.{AreInVariables}
-use Rattle.gf_ideal.specs.Bases.{IsReducedBasis}
-use Rattle.gf_facets.specs.Regions.{Region, IsInRegion}
-use Rattle.gf_facets.specs.Facets.{IsInOpenCone, IsInsideFacet, IsFlippable}
-use Rattle.gf_facets.specs.MarkedBases.{AreCanonical, IsMarkedReducedBasis, IsBasisInRegion}
+use Rattle.gf_ideal_theory.specs.Membership.{AreInVariables}
+use Rattle.gf_ideal_theory.specs.Bases.{IsReducedBasis}
+use Rattle.gf_facets_theory.specs.Regions.{Region, IsInRegion}
+use Rattle.gf_facets_theory.specs.Facets.{IsInOpenCone, IsInsideFacet, IsFlippable}
+use Rattle.gf_facets_theory.specs.MarkedBases.{AreCanonical, IsMarkedReducedBasis, IsBasisInRegion}
 use Rattle.gf_weights.specs.declared.certificates.Certificates.{Certificates}
 use Rattle.gf_weights.specs.declared.certificates.FacetWitness.{FacetWitness}
 use Rattle.gf_weights.specs.Weights.{IsPrintedWeight, IsWeightIn, IsWitnessIn, AreWitnessedIn, AreCertificatesIn}

@@ -12,8 +12,8 @@ use Rattle.gf_gordan.specs.declared.error.GordanError.TheVariants as gordan_erro
 use Rattle.gf_rays.specs.Reached.{IsRaysStep}
 use Rattle.gf_rays.specs.Sums.{adding_steps}
 use Rattle.gf_rays.specs.Parts.{zeros_of}
-use Rattle.gf_facets.specs.Regions.{Region, all_positive}
-use Rattle.gf_facets.specs.Facets.{IsFlippable}
+use Rattle.gf_facets_theory.specs.Regions.{Region, all_positive}
+use Rattle.gf_facets_theory.specs.Facets.{IsFlippable}
 use Rattle.gf_weights.specs.declared.error.WeightError.{WeightError}
 use Rattle.gf_weights.specs.declared.error.WeightError.TheVariants.{Cone, Wide, Memory}
 use Rattle.gf_weights.specs.Weights.{AreCutRows, AreCutRays}

@@ -5,12 +5,12 @@ use Rattle.gf_vec.specs.Vector.{zeros}
 use Rattle.gf_vec.specs.Steps.{IsFirstWide}
 use Rattle.gf_gordan.specs.Alternative.{AreRows, IsSolvable, IsFarkas}
 use Rattle.gf_gordan.specs.Equations.{IsStepOn}
-use Rattle.gf_duality.specs.Rays.{IsRays}
-use Rattle.gf_duality.specs.Faces.{sum_of}
+use Rattle.gf_duality_theory.specs.Rays.{IsRays}
+use Rattle.gf_duality_theory.specs.Faces.{sum_of}
 use Rattle.gf_rays.specs.Reached.{IsRaysStep}
 use Rattle.gf_rays.specs.Sums.{adding_steps}
-use Rattle.gf_facets.specs.Systems.{units}
-use Rattle.gf_facets.specs.Regions.{Region, IsInRegion, IsRegion}
+use Rattle.gf_facets_theory.specs.Systems.{units}
+use Rattle.gf_facets_theory.specs.Regions.{Region, IsInRegion, IsRegion}
 use Rattle.gf_weights.specs.declared.error.WeightError.{WeightError}
 use Rattle.gf_weights.specs.declared.error.WeightError.TheVariants as weight_errors
 use Rattle.gf_weights.specs.declared.region.RegionError.{RegionError}

@@ -1,7 +1,7 @@
 //! The region of weights that rows cut out of all positive vectors.
 ghost use Rattle.std.specs.Prelude.{◌≡◌, ◌<ℤ◌, ◌^◌, ◌++◌, ℤ, [], List, pos, All, IfOk, IfErr, IfSome, IsNone};
 ghost use Rattle.gf_gordan.specs.Alternative.{AreRows, IsFarkas, IsSolvable};
-ghost use Rattle.gf_facets.specs.Systems.{units};
+ghost use Rattle.gf_facets_theory.specs.Systems.{units};
 ghost use Rattle.gf_weights.specs.Roots.{IsSumOfRays, IsFirstPast, IsSystemRefusal, IsRaySumRefusal, IsRegionOf, IsRegionRefusal, IsRegionWithinLimits};
 ghost use Rattle.gf_weights.specs.declared.region.RegionError.TheVariants.{Memory};
 

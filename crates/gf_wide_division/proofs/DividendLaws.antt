@@ -7,12 +7,12 @@ use Rattle.std.specs.declared.cmp.Ordering.TheVariants.{Less, Equal, Greater}
 use Rattle.std.proofs.Common.{arith, refl, sym, ap, ◌∙◌, subst, inl, inr, get_or, take, drop, append_assoc, add-one}
 use Rattle.std.proofs.lemmas.List.{take_more, take-append-drop, drop_all}
 use Rattle.gf_frac.specs.Fraction.{Fraction, ◌-ℚ◌, neg_ℚ, zero_ℚ}
-use Rattle.gf_exponents.specs.Exponents.{Exponents}
-use Rattle.gf_exponents.specs.Orders.{deglex}
+use Rattle.gf_exponents_theory.specs.Exponents.{Exponents}
+use Rattle.gf_exponents_theory.specs.Orders.{deglex}
 use Rattle.gf_poly.specs.declared.Term.{Term}
 use Rattle.gf_poly.specs.Polynomial.{Terms, coefficient, IsDescending, HasVariables}
 use Rattle.gf_poly.proofs.CoefficientLaws.{head_at}
-use Rattle.gf_ideal.proofs.ListLaws.{Each-++}
+use Rattle.gf_ideal_theory.proofs.ListLaws.{Each-++}
 use Rattle.gf_division.specs.Dividends.{Split, joined_terms, IsSound, AreOver, FirstIs, Descends, TakesAway}
 use Rattle.gf_division.specs.Tables.{IsCutBefore}
 use Rattle.gf_division.proofs.SubtractionLaws.{taken_at, taken_beside}

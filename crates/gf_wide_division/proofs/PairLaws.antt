@@ -4,12 +4,12 @@ use Rattle.std.specs.Prelude.{◌≡◌, ℕ, [], ◌++◌, length}
 use Rattle.std.proofs.Common.{refl, sym, ap, ◌∙◌, subst}
 use Rattle.gf_frac.specs.Fraction.{Fraction, ◌+ℚ◌, neg_ℚ, one_ℚ}
 use Rattle.gf_frac.proofs.FractionLaws.{neg_ℚ-neg_ℚ}
-use Rattle.gf_exponents.specs.Exponents.{Exponents, plus, join}
-use Rattle.gf_exponents.proofs.ExponentsLaws.{same_of}
+use Rattle.gf_exponents_theory.specs.Exponents.{Exponents, plus, join}
+use Rattle.gf_exponents_theory.proofs.ExponentsLaws.{same_of}
 use Rattle.gf_poly.specs.Polynomial.{Terms, coefficient, times}
 use Rattle.gf_poly.specs.Marking.{MarkedPolynomial, HasMarkedTerm}
 use Rattle.gf_poly.proofs.PolynomialLaws.{coefficient-++}
-use Rattle.gf_ideal.specs.Reduction.{IsSPolynomial}
+use Rattle.gf_ideal_theory.specs.Reduction.{IsSPolynomial}
 use Rattle.gf_division.specs.Dividends.{Split, joined_terms, IsSound, Subtracts}
 use Rattle.gf_division.specs.SPolynomials.{KeepsPairVariables}
 use Rattle.gf_division.proofs.SPolynomialLaws.{PairFacts, s_variables}

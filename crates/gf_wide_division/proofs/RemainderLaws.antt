@@ -5,17 +5,17 @@ use Rattle.std.specs.Prelude.{◌≡◌, ℕ, ◌+◌, ◌<◌, ◌≤◌, List,
 use Rattle.std.specs.declared.option.Option.{Option}
 use Rattle.std.proofs.Common.{arith, refl, sym, ◌∙◌, subst, get_or}
 use Rattle.std.proofs.lemmas.List.{take_all, take_more}
-use Rattle.gf_exponents.specs.Exponents.{Exponents, Divides}
-use Rattle.gf_exponents.specs.Orders.{lighter}
+use Rattle.gf_exponents_theory.specs.Exponents.{Exponents, Divides}
+use Rattle.gf_exponents_theory.specs.Orders.{lighter}
 use Rattle.gf_poly.specs.declared.Term.{Term}
 use Rattle.gf_poly.specs.Polynomial.{Terms, IsDescending, HasVariables, KeepsVariables}
 use Rattle.gf_poly.specs.Marking.{MarkedPolynomial, HaveVariables}
 use Rattle.gf_poly.proofs.ProductLaws.{HasVariables-at}
-use Rattle.gf_ideal.specs.Marks.{AreMarked}
-use Rattle.gf_ideal.specs.NormalForms.{IsNormalForm}
-use Rattle.gf_ideal.specs.Reduction.{IsDivisible, IsSPolynomial}
-use Rattle.gf_ideal.specs.Settled.{IsAt}
-use Rattle.gf_ideal.proofs.ListLaws.{Each-++}
+use Rattle.gf_ideal_theory.specs.Marks.{AreMarked}
+use Rattle.gf_ideal_theory.specs.NormalForms.{IsNormalForm}
+use Rattle.gf_ideal_theory.specs.Reduction.{IsDivisible, IsSPolynomial}
+use Rattle.gf_ideal_theory.specs.Settled.{IsAt}
+use Rattle.gf_ideal_theory.proofs.ListLaws.{Each-++}
 use Rattle.gf_division.specs.Dividends.{Split, joined_terms, SharesVariables}
 use Rattle.gf_division.specs.Reducers.{IsBeside, IsSpareIn, AreIrreducible, ShareVariables}
 use Rattle.gf_division.specs.Remainders.{IsRemainder, IsWorkedOn}

@@ -5,7 +5,7 @@ use Rattle.std.specs.Prelude.{◌≡◌, ℕ, zero, suc, ◌+◌, ◌<◌, ◌�
 use Rattle.std.proofs.Common.{arith, refl, ap, sym, ◌∙◌, get_or, take, drop}
 use Rattle.std.proofs.lemmas.List.{take_all, take_more, map_push}
 use Rattle.gf_frac.specs.Fraction.{Fraction, ◌*ℚ◌}
-use Rattle.gf_exponents.specs.Exponents.{Exponents}
+use Rattle.gf_exponents_theory.specs.Exponents.{Exponents}
 use Rattle.gf_poly.specs.declared.Term.{Term}
 use Rattle.gf_poly.specs.Polynomial.{Terms, times, times_term}
 use Rattle.gf_poly.specs.Marking.{head_of}

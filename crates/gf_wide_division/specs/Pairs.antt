@@ -2,7 +2,7 @@
 use Rattle.std.specs.Prelude.{ℕ, List}
 use Rattle.gf_poly.specs.Polynomial.{Terms, KeepsVariables}
 use Rattle.gf_poly.specs.Marking.{MarkedPolynomial, HaveVariables}
-use Rattle.gf_ideal.specs.Reduction.{IsSPolynomial}
+use Rattle.gf_ideal_theory.specs.Reduction.{IsSPolynomial}
 use Rattle.gf_division.specs.Remainders.{IsRemainder}
 use Rattle.gf_division.specs.SPolynomials.{ArePairOf, KeepsPairVariables}
 

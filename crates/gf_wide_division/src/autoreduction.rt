@@ -2,9 +2,9 @@
 
 ghost use Rattle.std.specs.Prelude.{Contains, IfOk, IsTrue};
 ghost use Rattle.gf_poly.specs.Polynomial.{KeepsVariables};
-ghost use Rattle.gf_ideal.specs.Bases.{AreArranged};
-ghost use Rattle.gf_ideal.specs.Marks.{HasPositiveWeight, IsRealisable};
-ghost use Rattle.gf_ideal.specs.WorkLists.{IsReducedTail, AreReducedTails};
+ghost use Rattle.gf_ideal_theory.specs.Bases.{AreArranged};
+ghost use Rattle.gf_ideal_theory.specs.Marks.{HasPositiveWeight, IsRealisable};
+ghost use Rattle.gf_ideal_theory.specs.WorkLists.{IsReducedTail, AreReducedTails};
 ghost use Rattle.gf_division.specs.Autoreduction.{AreNeededForms, IsAutoreduced, IsReducedOf, ShareSomeVariables, KeepVariables, IsKeptForm, AreKeptForms};
 ghost use Rattle.gf_division.specs.MonicForms.{IsMadeMonic, HasSomeVariables};
 ghost use Rattle.gf_division.specs.NormalForms.{HasSomeWeight};

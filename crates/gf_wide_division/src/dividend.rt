@@ -3,9 +3,9 @@
 ghost use Rattle.std.specs.Prelude.{◌≡◌, ◌≢◌, ◌<◌, ◌≤◌, [], length, IfOk, IfSome, OnOk};
 ghost use Rattle.std.specs.List.{insert};
 ghost use Rattle.gf_frac.specs.Fraction.{zero_ℚ};
-ghost use Rattle.gf_exponents.specs.Exponents.{Divides};
+ghost use Rattle.gf_exponents_theory.specs.Exponents.{Divides};
 ghost use Rattle.gf_poly.specs.Polynomial.{IsDescending, HasVariables};
-ghost use Rattle.gf_ideal.specs.Reduction.{IsSPolynomial};
+ghost use Rattle.gf_ideal_theory.specs.Reduction.{IsSPolynomial};
 ghost use Rattle.gf_division.specs.Dividends.{joined_terms, IsSound, Descends, TakesAway, Subtracts, SharesVariables};
 ghost use Rattle.gf_division.specs.SPolynomials.{SharePairVariables, KeepsPairVariables, AreLcmCofactors};
 ghost use Rattle.gf_division.specs.Tables.{StepsFrom, IsCutBefore};

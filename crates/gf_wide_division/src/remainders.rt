@@ -2,8 +2,8 @@
 
 ghost use Rattle.std.specs.Prelude.{Contains, IfOk, IfSome, IsTrue, OnOk};
 ghost use Rattle.gf_poly.specs.Polynomial.{KeepsVariables};
-ghost use Rattle.gf_ideal.specs.NormalForms.{IsNormalForm};
-ghost use Rattle.gf_ideal.specs.WorkLists.{IsReducedTail};
+ghost use Rattle.gf_ideal_theory.specs.NormalForms.{IsNormalForm};
+ghost use Rattle.gf_ideal_theory.specs.WorkLists.{IsReducedTail};
 ghost use Rattle.gf_division.specs.Autoreduction.{ShareSomeVariables, IsKeptForm};
 ghost use Rattle.gf_division.specs.NormalForms.{HasSomeWeight, HaveSameVariables};
 ghost use Rattle.gf_division.specs.Dividends.{joined_terms};

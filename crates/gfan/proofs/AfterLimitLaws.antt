@@ -4,8 +4,8 @@ use Rattle.std.specs.Prelude.{◌≡◌, ℕ, ◌<◌, ◌≤◌, Bool, true, fa
 use Rattle.std.proofs.Common.{arith, sym, ap, ◌∙◌, subst, inl, inr, append_assoc, length-append}
 use Rattle.gf_poly.specs.Polynomial.{Terms}
 use Rattle.gf_poly.specs.Marking.{MarkedPolynomials}
-use Rattle.gf_ideal.specs.Membership.{AreInVariables}
-use Rattle.gf_facets.specs.Regions.{Region, IsRegion}
+use Rattle.gf_ideal_theory.specs.Membership.{AreInVariables}
+use Rattle.gf_facets_theory.specs.Regions.{Region, IsRegion}
 use Rattle.gf_tree.specs.Ideals.{ideal_within}
 use Rattle.gf_tree.proofs.RefusalLaws.{within_memory}
 use Rattle.gf_subtree.proofs.BasisRowLaws.{early_refused}

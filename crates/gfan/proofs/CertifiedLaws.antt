@@ -3,21 +3,21 @@
 use Rattle.std.specs.Prelude.{ℕ, true, List, [], ◌∷◌, ◌++◌, length, Contains, ℤ, Option}
 use Rattle.std.specs.List.{AllZip}
 use Rattle.std.proofs.Common.{refl, ap, ◌∙◌, subst, inl, inr}
-use Rattle.gf_exponents.specs.Orders.{gains}
+use Rattle.gf_exponents_theory.specs.Orders.{gains}
 use Rattle.gf_poly.specs.Polynomial.{Terms}
 use Rattle.gf_poly.specs.Marking.{MarkedPolynomials}
 use Rattle.gf_text.specs.PrintedSets.{basis_text}
-use Rattle.gf_ideal.specs.Membership.{AreInVariables}
-use Rattle.gf_ideal.specs.Bases.{IsReducedBasis}
-use Rattle.gf_reverse.specs.Upward.{IsNodeIn}
+use Rattle.gf_ideal_theory.specs.Membership.{AreInVariables}
+use Rattle.gf_ideal_theory.specs.Bases.{IsReducedBasis}
+use Rattle.gf_reverse_theory.specs.Upward.{IsNodeIn}
 use Rattle.gf_tree.specs.Ideals.{ideal_within}
-use Rattle.gf_facets.specs.Regions.{Region, IsRegion, IsInRegion, all_positive}
-use Rattle.gf_facets.proofs.SystemLaws.{all_positive-region}
-use Rattle.gf_facets.specs.Facets.{IsFlippable}
+use Rattle.gf_facets_theory.specs.Regions.{Region, IsRegion, IsInRegion, all_positive}
+use Rattle.gf_facets_theory.proofs.SystemLaws.{all_positive-region}
+use Rattle.gf_facets_theory.specs.Facets.{IsFlippable}
 use Rattle.gf_weights.specs.Weights.{IsWeightIn, AreWitnessedIn, normals_of}
 use Rattle.gf_weights.proofs.UniqueLaws.{normal_there}
 use Rattle.gf_weights.proofs.WeightLaws.{weight_basis_in, witness_inside}
-use Rattle.gf_walk.specs.Listing.{Among}
+use Rattle.gf_reverse_search.specs.Listing.{Among}
 use Rattle.gfan_lists.specs.BasesList.{IsGivenIn}
 use Rattle.gfan_lists.specs.Certificates.{IsCertificatesTextIn, IsItemTextIn}
 use Rattle.gfan_lists.specs.Bases.{AreItemTextsIn, IsTextOfBasesIn, IsTextOfBases}

@@ -4,9 +4,9 @@ use Rattle.std.specs.Prelude.{◌≡◌, ℕ, true, false, List, [], ◌∷◌, 
 use Rattle.std.specs.List.{AllZip}
 use Rattle.std.proofs.Common.{refl, subst}
 use Rattle.gf_poly.specs.Marking.{MarkedPolynomials, Each, HaveVariables, polys}
-use Rattle.gf_ideal.specs.Membership.{AreSameIdeal}
-use Rattle.gf_facets.specs.MarkedBases.{IsMarkedReducedBasis}
-use Rattle.gf_bases.proofs.LawsHold.{only_ideals_count}
+use Rattle.gf_ideal_theory.specs.Membership.{AreSameIdeal}
+use Rattle.gf_facets_theory.specs.MarkedBases.{IsMarkedReducedBasis}
+use Rattle.gf_bases_theory.proofs.LawsHold.{only_ideals_count}
 use Rattle.gf_reduced.proofs.GroebnerLaws.{polys_variables}
 use Rattle.gf_weights.specs.Weights.{IsPrintedWeight}
 use Rattle.gf_weights.proofs.WeightLaws.{weight_basis}

@@ -2,11 +2,11 @@
 -- To cite: IsAtLimitOrMemory, one_limit, within_most, bases_refused, bases_unanswered. The rest are steps.
 use Rattle.std.specs.Prelude.{◌≡◌, ◌⊎◌, ℕ, ◌<◌, ◌≤◌, Bool, true, false, List, [], ◌∷◌, ◌++◌, length, Err, Option, None, Some, ℤ}
 use Rattle.std.proofs.Common.{arith, refl, sym, ap, ◌∙◌, subst, inl, inr, length-append}
-use Rattle.gf_exponents.specs.Orders.{gains}
-use Rattle.gf_exponents.specs.SixOrders.{MonomialOrder}
+use Rattle.gf_exponents_theory.specs.Orders.{gains}
+use Rattle.gf_exponents_theory.specs.SixOrders.{MonomialOrder}
 use Rattle.gf_poly.specs.Polynomial.{Terms}
 use Rattle.gf_poly.specs.Marking.{MarkedPolynomials, HaveVariables, polys}
-use Rattle.gf_ideal.specs.Membership.{AreInVariables}
+use Rattle.gf_ideal_theory.specs.Membership.{AreInVariables}
 use Rattle.gf_text.specs.declared.error.TextError.{TextError}
 use Rattle.gf_text.specs.declared.error.TextError.TheVariants as text_errors
 use Rattle.gf_text.specs.declared.written.Written.{Written}
@@ -29,8 +29,8 @@ use Rattle.gf_items.proofs.KindLaws.{items_once, ring_and_once}
 use Rattle.gf_items.proofs.ReadingLaws.{source_once}
 use Rattle.gfan_lists.specs.declared.bases.ListOptions.{ListOptions}
 use Rattle.gfan_common.specs.Causes.{of_weight_error, of_tree, of_basis}
-use Rattle.gf_facets.specs.Regions.{Region, IsRegion, all_positive}
-use Rattle.gf_facets.proofs.SystemLaws.{all_positive-region}
+use Rattle.gf_facets_theory.specs.Regions.{Region, IsRegion, all_positive}
+use Rattle.gf_facets_theory.proofs.SystemLaws.{all_positive-region}
 use Rattle.gfan_lists.specs.Bases.{IsWithinLimit, IsPastLimit, IsPastLimitIn, IsGoingCause, IsGoingCauseIn, IsGoingPast, IsGoingPastIn, IsListCause, IsListPast, bases_command, IsGoingCauseBehind}
 use Rattle.gfan_lists.specs.GivenBasis.{IsGivenListCause, IsGivenListPast, given_bases_command}
 use Rattle.gfan_lists.specs.BasesList.{AreAllBasesIn, AreAllBases}

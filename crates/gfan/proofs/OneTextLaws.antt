@@ -2,7 +2,7 @@
 -- To cite: read_variables, given_variables, IsListOfSource, list_of_source, one_text_in, one_text, one_region_text. The rest are steps.
 use Rattle.std.specs.Prelude.{◌≡◌, ℕ, Bool, true, false, List, [], ◌∷◌, length, Option, ℤ}
 use Rattle.std.proofs.Common.{refl, sym, ap, ◌∙◌, subst}
-use Rattle.gf_ideal.specs.Membership.{AreInVariables}
+use Rattle.gf_ideal_theory.specs.Membership.{AreInVariables}
 use Rattle.gf_buchberger.proofs.JobLaws.{ring_variables}
 use Rattle.gf_poly.specs.Polynomial.{Terms}
 use Rattle.gf_poly.specs.Marking.{MarkedPolynomials, polys}
@@ -15,8 +15,8 @@ use Rattle.gf_items.proofs.KindLaws.{items_once, ring_and_once}
 use Rattle.gf_items.proofs.ReadingLaws.{source_once}
 use Rattle.gfan_lists.specs.declared.bases.ListOptions.{ListOptions}
 use Rattle.gfan_common.specs.Forms.{generators_of}
-use Rattle.gf_facets.specs.Regions.{Region, IsRegion, all_positive}
-use Rattle.gf_facets.proofs.SystemLaws.{all_positive-region}
+use Rattle.gf_facets_theory.specs.Regions.{Region, IsRegion, all_positive}
+use Rattle.gf_facets_theory.proofs.SystemLaws.{all_positive-region}
 use Rattle.gf_weights.proofs.RegionLaws.{regions_are_one}
 use Rattle.gf_frame.specs.Commands.{IsAnswered}
 use Rattle.gfan_lists.specs.Bases.{AreItemTextsIn, IsTextOfBasesIn, IsTextOfBases, list_text}

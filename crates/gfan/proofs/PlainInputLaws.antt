@@ -6,13 +6,13 @@ use Rattle.std.specs.Prelude.{◌≡◌, ℕ, Bool, true, false, List, [], ◌�
 use Rattle.std.proofs.Common.{subst, inl, inr}
 use Rattle.std.proofs.lemmas.List.Sorted.{Contains-permutation, IsPermutation-sym}
 use Rattle.gf_frac.specs.declared.refusal.Overflow.{Overflow}
-use Rattle.gf_exponents.specs.SixOrders.{MonomialOrder}
+use Rattle.gf_exponents_theory.specs.SixOrders.{MonomialOrder}
 use Rattle.gf_poly.specs.declared.error.PolyError.{PolyError}
 use Rattle.gf_poly.specs.declared.error.PolyError.TheVariants as errors
 use Rattle.gf_poly.specs.Polynomial.{Terms}
 use Rattle.gf_poly.specs.Marking.{MarkedPolynomial, MarkedPolynomials, polys}
-use Rattle.gf_ideal.specs.Membership.{AreInVariables}
-use Rattle.gf_ideal.proofs.PieceLaws.{Contains-marked}
+use Rattle.gf_ideal_theory.specs.Membership.{AreInVariables}
+use Rattle.gf_ideal_theory.proofs.PieceLaws.{Contains-marked}
 use Rattle.gf_text.specs.declared.error.TextError.TheVariants as text_errors
 use Rattle.gf_reduced.specs.declared.error.CheckError.TheVariants as check_errors
 use Rattle.gf_division.specs.Autoreduction.{IsAutoreductionRefusal}
@@ -21,15 +21,15 @@ use Rattle.gf_reduced.specs.Refusals.{of_poly, IsReducedBasisRefusal, IsReducedR
 use Rattle.gf_reduced.proofs.GroebnerLaws.{polys_variables}
 use Rattle.gf_flip.specs.declared.error.TreeError.{TreeError}
 use Rattle.gf_flip.specs.declared.error.TreeError.TheVariants as tree_errors
-use Rattle.gf_facets.specs.Regions.{Region, all_positive}
+use Rattle.gf_facets_theory.specs.Regions.{Region, all_positive}
 use Rattle.gf_tree.specs.Ideals.{ideal_by, ideal_within}
 use Rattle.gf_tree.specs.Refusals.{IsTreeRefusal}
 use Rattle.gf_subtree.proofs.BasisRowLaws.{early_refused}
-use Rattle.gf_binomials.specs.Binomials.{IsBinomial, AreBinomials, AreMarkedBinomials}
-use Rattle.gf_binomial_bases.proofs.LawsHold.{bases_of_binomials}
-use Rattle.gf_binomial_calls.specs.Sets.{IsBinomialSet}
-use Rattle.gf_binomial_calls.proofs.CheckLaws.{member_fits, polys_binomial, forms_binomial, pairs_fit}
-use Rattle.gf_binomial_calls.proofs.LawsHold.{refusals_tell_no_overflow}
+use Rattle.gf_binomials_theory.specs.Binomials.{IsBinomial, AreBinomials, AreMarkedBinomials}
+use Rattle.gf_binomial_bases_theory.proofs.LawsHold.{bases_of_binomials}
+use Rattle.gf_binomial_calls_theory.specs.Sets.{IsBinomialSet}
+use Rattle.gf_binomial_calls_theory.proofs.CheckLaws.{member_fits, polys_binomial, forms_binomial, pairs_fit}
+use Rattle.gf_binomial_calls_theory.proofs.LawsHold.{refusals_tell_no_overflow}
 use Rattle.gf_generated.specs.Generated.{generated_set}
 use Rattle.gf_generated.proofs.GeneratedLaws.{generators_are_binomials}
 use Rattle.gf_front.specs.declared.options.BuchbergerOptions.{BuchbergerOptions}
@@ -60,7 +60,7 @@ use Rattle.gfan_lists.specs.After.{IsBasisTaken, IsUnlisted, Given, names_given,
 use Rattle.gfan_lists.specs.Bases.{IsSearchRefusedBehind, IsGoingCauseBehind, IsListCause, bases_command}
 use Rattle.gfan_lists.specs.GivenBasis.{IsReducedFrom, IsReducingRefusal, IsGivenRootRefusal, IsGivenListCause, given_bases_command}
 use Rattle.gfan_lists.specs.Generated.{list_to, IsSummaryCause, generated_command}
-use Rattle.gf_exponents.specs.Orders.{gains}
+use Rattle.gf_exponents_theory.specs.Orders.{gains}
 use Rattle.gf_weights.specs.declared.region.RegionError.{RegionError}
 use Rattle.gf_weights.specs.declared.region.RegionError.TheVariants as region_errors
 use Rattle.gfan_common.specs.ToolForms.{for_each}

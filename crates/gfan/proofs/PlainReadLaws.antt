@@ -5,15 +5,15 @@
 use Rattle.std.specs.Prelude.{◌≡◌, ℕ, Bool, true, false, List, [], ◌∷◌, length, map, Contains}
 use Rattle.std.proofs.Common.{arith, refl, sym, ap, ◌∙◌, subst, inl, inr}
 use Rattle.gf_frac.specs.declared.refusal.Overflow.{Overflow}
-use Rattle.gf_exponents.specs.SixOrders.{MonomialOrder}
-use Rattle.gf_exponents.proofs.ExponentsLaws.{same_lists, entries_same}
+use Rattle.gf_exponents_theory.specs.SixOrders.{MonomialOrder}
+use Rattle.gf_exponents_theory.proofs.ExponentsLaws.{same_lists, entries_same}
 use Rattle.gf_poly.specs.declared.error.PolyError.{PolyError}
 use Rattle.gf_poly.specs.declared.error.PolyError.TheVariants as errors
 use Rattle.gf_poly.specs.Polynomial.{Terms, HasVariables}
 use Rattle.gf_poly.specs.Marking.{MarkedPolynomial, MarkedPolynomials, Each, HasMarkedTerm}
 use Rattle.gf_poly.proofs.CoefficientLaws.{term_length}
 use Rattle.gf_poly.proofs.InitialFormLaws.{occurs}
-use Rattle.gf_ideal.proofs.ListLaws.{each_contained, contained_each}
+use Rattle.gf_ideal_theory.proofs.ListLaws.{each_contained, contained_each}
 use Rattle.gf_text.specs.declared.error.TextError.{TextError}
 use Rattle.gf_text.specs.declared.error.TextError.TheVariants as text_errors
 use Rattle.gf_text.specs.declared.tree.WrittenTerm.{WrittenTerm}
@@ -35,14 +35,14 @@ use Rattle.gf_reduced.specs.declared.error.CheckError.TheVariants as check_error
 use Rattle.gf_reduced.specs.Refusals.{of_poly}
 use Rattle.gf_flip.specs.declared.error.TreeError.{TreeError}
 use Rattle.gf_flip.specs.declared.error.TreeError.TheVariants as tree_errors
-use Rattle.gf_reverse.specs.Upward.{Fan}
+use Rattle.gf_reverse_theory.specs.Upward.{Fan}
 use Rattle.gf_tree.specs.Refusals.{IsTreeRefusal}
 use Rattle.gf_weights.specs.declared.error.WeightError.{WeightError}
 use Rattle.gf_weights.specs.declared.error.WeightError.TheVariants as weight_errors
-use Rattle.gf_binomials.specs.Binomials.{IsBinomial, AreBinomials}
-use Rattle.gf_binomial_calls.specs.Sets.{IsBinomialSet}
-use Rattle.gf_binomial_calls.specs.Written.{ArePlainlyWritten, written_polynomials}
-use Rattle.gf_binomial_calls.proofs.LawsHold.{refusals_tell_no_overflow, plain_sets_are_binomials}
+use Rattle.gf_binomials_theory.specs.Binomials.{IsBinomial, AreBinomials}
+use Rattle.gf_binomial_calls_theory.specs.Sets.{IsBinomialSet}
+use Rattle.gf_binomial_calls_theory.specs.Written.{ArePlainlyWritten, written_polynomials}
+use Rattle.gf_binomial_calls_theory.proofs.LawsHold.{refusals_tell_no_overflow, plain_sets_are_binomials}
 use Rattle.gf_front.specs.declared.refusal.Refusal.TheVariants as refusals
 use Rattle.gf_items.specs.Items.{from, a_vector, IsOneRefused, IsRefusedWhere, IsTextRefused}
 use Rattle.gf_items.specs.Sources.{ring_set_vector, ring_marked_set}

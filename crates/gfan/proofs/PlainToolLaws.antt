@@ -6,27 +6,27 @@ use Rattle.std.specs.Prelude.{◌≡◌, ℕ, ◌+◌, Bool, true, false, List, 
 use Rattle.std.proofs.Common.{ap, ◌∙◌, subst, inl, inr}
 use Rattle.std.proofs.lemmas.List.Sorted.{Contains-permutation, IsPermutation-sym}
 use Rattle.gf_frac.specs.declared.refusal.Overflow.{Overflow}
-use Rattle.gf_exponents.specs.SixOrders.{MonomialOrder}
+use Rattle.gf_exponents_theory.specs.SixOrders.{MonomialOrder}
 use Rattle.gf_poly.specs.declared.error.PolyError.{PolyError}
 use Rattle.gf_poly.specs.declared.error.PolyError.TheVariants as errors
 use Rattle.gf_poly.specs.Polynomial.{Terms}
 use Rattle.gf_poly.specs.Marking.{MarkedPolynomials, Each, HasMarkedTerm, IsArranged}
-use Rattle.gf_ideal.specs.Membership.{AreInVariables}
-use Rattle.gf_ideal.proofs.ListedTerms.{variables_by_terms}
-use Rattle.gf_ideal.proofs.ListLaws.{each_contained, contained_each}
-use Rattle.gf_ideal.proofs.MembershipLaws.{variables_of_member}
+use Rattle.gf_ideal_theory.specs.Membership.{AreInVariables}
+use Rattle.gf_ideal_theory.proofs.ListedTerms.{variables_by_terms}
+use Rattle.gf_ideal_theory.proofs.ListLaws.{each_contained, contained_each}
+use Rattle.gf_ideal_theory.proofs.MembershipLaws.{variables_of_member}
 use Rattle.gf_buchberger.specs.declared.bases.BasisError.{BasisError}
 use Rattle.gf_buchberger.specs.declared.bases.BasisError.TheVariants as basis_errors
-use Rattle.gf_duality.specs.Faces.{Rows}
-use Rattle.gf_reverse.specs.Upward.{IsNodeIn}
-use Rattle.gf_reverse.proofs.FanLaws.{among_of}
+use Rattle.gf_duality_theory.specs.Faces.{Rows}
+use Rattle.gf_reverse_theory.specs.Upward.{IsNodeIn}
+use Rattle.gf_reverse_theory.proofs.FanLaws.{among_of}
 use Rattle.gf_tree.specs.Ideals.{ideal_by}
 use Rattle.gf_saturate.specs.Saturating.{IsSaturateRefusal}
 use Rattle.gf_initial_monomials.specs.declared.error.InitialError.{InitialError}
 use Rattle.gf_initial_monomials.specs.declared.error.InitialError.TheVariants as initial
 use Rattle.gf_initial_monomials.proofs.OutcomeLaws.{reached_in}
-use Rattle.gf_basis_test.specs.declared.error.BasisTestError.{BasisTestError}
-use Rattle.gf_basis_test.specs.Refusals.{IsRefusedWithBasis, AreBasesRefused, IsVerdictRefusal}
+use Rattle.gf_tropical_basis_test.specs.declared.error.BasisTestError.{BasisTestError}
+use Rattle.gf_tropical_basis_test.specs.Refusals.{IsRefusedWithBasis, AreBasesRefused, IsVerdictRefusal}
 use Rattle.gf_tropical.specs.declared.error.TropicalError.{TropicalError}
 use Rattle.gf_tropical.specs.declared.error.TropicalError.TheVariants as tropical_errors
 use Rattle.gf_sections.specs.declared.error.SectionsError.{SectionsError}
@@ -37,12 +37,12 @@ use Rattle.gf_rays.specs.Cones.{RowsAndRays}
 use Rattle.gf_reduced.specs.declared.error.CheckError.{CheckError}
 use Rattle.gf_reduced.specs.Forms.{monic_of, monic_set}
 use Rattle.gf_reduced.specs.Refusals.{of_poly, IsTestRefusal, IsReducedBasisRefusal, IsReducedRefusal}
-use Rattle.gf_binomials.specs.Binomials.{IsBinomial, AreBinomials}
-use Rattle.gf_binomial_bases.proofs.LawsHold.{bases_of_binomials}
-use Rattle.gf_binomial_calls.specs.Sets.{IsBinomialSet}
-use Rattle.gf_binomial_calls.specs.Written.{ArePlainlyWritten}
-use Rattle.gf_binomial_calls.proofs.CheckLaws.{forms_binomial}
-use Rattle.gf_binomial_calls.proofs.LawsHold.{refusals_tell_no_overflow, plain_sets_are_binomials}
+use Rattle.gf_binomials_theory.specs.Binomials.{IsBinomial, AreBinomials}
+use Rattle.gf_binomial_bases_theory.proofs.LawsHold.{bases_of_binomials}
+use Rattle.gf_binomial_calls_theory.specs.Sets.{IsBinomialSet}
+use Rattle.gf_binomial_calls_theory.specs.Written.{ArePlainlyWritten}
+use Rattle.gf_binomial_calls_theory.proofs.CheckLaws.{forms_binomial}
+use Rattle.gf_binomial_calls_theory.proofs.LawsHold.{refusals_tell_no_overflow, plain_sets_are_binomials}
 use Rattle.gf_text.specs.declared.error.TextError.TheVariants as text_errors
 use Rattle.gf_text.specs.declared.tree.WrittenTerm.{WrittenTerm}
 use Rattle.gf_text.specs.declared.written.Written.{Written}

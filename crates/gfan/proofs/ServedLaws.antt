@@ -4,7 +4,7 @@ use Rattle.std.specs.Prelude.{ℕ, List}
 use Rattle.std.proofs.Common.{subst}
 use Rattle.gf_poly.specs.Polynomial.{Terms}
 use Rattle.gf_poly.specs.Marking.{MarkedPolynomials}
-use Rattle.gf_ideal.specs.Membership.{AreInVariables}
+use Rattle.gf_ideal_theory.specs.Membership.{AreInVariables}
 use Rattle.gfan_lists.specs.Bases.{IsTextOfBases}
 use Rattle.gfan_lists.specs.BasesList.{AreAllBases}
 use Rattle.gfan.specs.CertifiedBases.{CertificatesHold}

@@ -2,15 +2,15 @@
 -- Source: Fukuda, Jensen, Thomas, Computing Gröbner fans, 2 and 4.
 use Rattle.std.specs.Prelude.{◌≡◌, ◌↔◌, ℕ, Bool, true, List, ◌++◌, length, All, Contains, ℤ, pos, ◌<ℤ◌, Option}
 use Rattle.std.specs.List.{AllZip}
-use Rattle.gf_exponents.specs.Orders.{gains}
+use Rattle.gf_exponents_theory.specs.Orders.{gains}
 use Rattle.gf_poly.specs.Polynomial.{Terms}
 use Rattle.gf_poly.specs.Marking.{MarkedPolynomials}
 use Rattle.gf_text.specs.PrintedSets.{basis_text}
-use Rattle.gf_ideal.specs.Membership.{AreInVariables}
-use Rattle.gf_ideal.specs.Bases.{IsReducedBasis}
-use Rattle.gf_facets.specs.Regions.{Region, IsRegion, IsInRegion, all_positive}
-use Rattle.gf_facets.specs.Normals.{Ascends}
-use Rattle.gf_facets.specs.Facets.{IsInsideFacet, IsFlippable}
+use Rattle.gf_ideal_theory.specs.Membership.{AreInVariables}
+use Rattle.gf_ideal_theory.specs.Bases.{IsReducedBasis}
+use Rattle.gf_facets_theory.specs.Regions.{Region, IsRegion, IsInRegion, all_positive}
+use Rattle.gf_facets_theory.specs.Normals.{Ascends}
+use Rattle.gf_facets_theory.specs.Facets.{IsInsideFacet, IsFlippable}
 use Rattle.gfan_lists.specs.declared.bases.ListOptions.{ListOptions}
 use Rattle.gf_weights.specs.declared.certificates.FacetWitness.{FacetWitness}
 use Rattle.gf_weights.specs.Weights.{normals_of}

@@ -3,9 +3,9 @@
 use Rattle.std.specs.Prelude.{◌≡◌, ℕ, Bool, List, [], ◌∷◌}
 use Rattle.gf_poly.specs.Polynomial.{Terms}
 use Rattle.gf_poly.specs.Marking.{MarkedPolynomials}
-use Rattle.gf_ideal.specs.Membership.{AreInVariables}
+use Rattle.gf_ideal_theory.specs.Membership.{AreInVariables}
 use Rattle.gfan_lists.specs.declared.bases.ListOptions.{ListOptions}
-use Rattle.gf_facets.specs.Regions.{Region, IsRegion}
+use Rattle.gf_facets_theory.specs.Regions.{Region, IsRegion}
 use Rattle.gf_frame.specs.Commands.{IsAnswered}
 use Rattle.gfan_lists.specs.BasesList.{AreAllBasesIn, AreAllBases}
 use Rattle.gfan.specs.Commands.{list_job, within_command, IsAnswerTo}

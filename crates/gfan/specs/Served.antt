@@ -1,15 +1,15 @@
 -- The bases in the list that `_bases` writes for a source, for each weight and each term order. Laws: proofs/ServedLaws.antt.
 -- Source: Fukuda, Jensen, Thomas, Computing Gröbner fans, 2.
 use Rattle.std.specs.Prelude.{◌≡◌, ◌↔◌, ℕ, Bool, List, length, All, ℤ, pos, ◌<ℤ◌}
-use Rattle.gf_exponents.specs.Exponents.{Exponents}
-use Rattle.gf_exponents.specs.Orders.{gains, IsTermOrder}
+use Rattle.gf_exponents_theory.specs.Exponents.{Exponents}
+use Rattle.gf_exponents_theory.specs.Orders.{gains, IsTermOrder}
 use Rattle.gf_poly.specs.Polynomial.{Terms}
 use Rattle.gf_poly.specs.Marking.{MarkedPolynomials}
-use Rattle.gf_ideal.specs.Bases.{IsReducedBasis, IsReducedBasisFor}
-use Rattle.gf_walk.specs.Listing.{Among}
-use Rattle.gf_facets.specs.Facets.{IsInClosedCone}
-use Rattle.gf_facets.specs.InitialIdeals.{IsMonomialAt}
-use Rattle.gf_reverse.specs.TermOrders.{below_by}
+use Rattle.gf_ideal_theory.specs.Bases.{IsReducedBasis, IsReducedBasisFor}
+use Rattle.gf_reverse_search.specs.Listing.{Among}
+use Rattle.gf_facets_theory.specs.Facets.{IsInClosedCone}
+use Rattle.gf_facets_theory.specs.InitialIdeals.{IsMonomialAt}
+use Rattle.gf_reverse_theory.specs.TermOrders.{below_by}
 use Rattle.gfan_lists.specs.declared.bases.ListOptions.{ListOptions}
 use Rattle.gfan_lists.specs.BasesList.{IsGivenByWeight, AreAllBases}
 use Rattle.gfan_lists.specs.Bases.{AreItemTexts, list_text}

@@ -2,9 +2,9 @@
 -- To cite: given_none, given_more, all_given, same_workers.
 use Rattle.std.proofs.Common.{◌≡◌, ℕ, List, [], ◌∷◌, ◌++◌, Option, Some, None, refl, subst}
 use Rattle.gf_poly.specs.Marking.{MarkedPolynomials}
-use Rattle.gf_walk.proofs.GrowingLaws.{one_more, all_there}
-use Rattle.gf_facets.specs.Regions.{Region}
-use Rattle.gf_reverse.specs.Upward.{IsNode}
+use Rattle.gf_reverse_search.proofs.GrowingLaws.{one_more, all_there}
+use Rattle.gf_facets_theory.specs.Regions.{Region}
+use Rattle.gf_reverse_theory.specs.Upward.{IsNode}
 use Rattle.gf_tree.specs.Walks.{Walk, AreLeft, walk_at}
 use Rattle.gf_tree.proofs.ListingLaws.{root_list}
 use Rattle.gf_subtree.specs.Rows.{Row, AreLeftIn}

@@ -1,7 +1,7 @@
 //! Callers of the list of bases by several workers.
 ghost use Rattle.std.specs.Prelude.{◌≡◌, ◌≤◌, IfOk};
-ghost use Rattle.gf_reverse.specs.Upward.{IsNode};
-ghost use Rattle.gf_reverse.specs.Lists.{IsListOfBases};
+ghost use Rattle.gf_reverse_theory.specs.Upward.{IsNode};
+ghost use Rattle.gf_reverse_theory.specs.Lists.{IsListOfBases};
 ghost use Rattle.gf_tree.specs.Parents.{IsRootFor};
 ghost use Rattle.gf_tree.specs.Walks.{AreLeft, walk_at};
 

@@ -8,18 +8,18 @@ use Rattle.std.specs.Option.{option_copied}
 use Rattle.std.proofs.Common.{arith, sym, ap, ◌∙◌, subst, inl, inr}
 use Rattle.std.proofs.lemmas.Bool.{cases_lt}
 use Rattle.gf_frac.specs.Fraction.{one_ℚ, neg_ℚ, ◌+ℚ◌}
-use Rattle.gf_exponents.specs.Exponents.{Exponents, same, plus, join}
-use Rattle.gf_exponents.proofs.ExponentsLaws.{cancel, same_trans, same_flip}
+use Rattle.gf_exponents_theory.specs.Exponents.{Exponents, same, plus, join}
+use Rattle.gf_exponents_theory.proofs.ExponentsLaws.{cancel, same_trans, same_flip}
 use Rattle.gf_poly.specs.declared.error.PolyError.{PolyError}
 use Rattle.gf_poly.specs.declared.error.PolyError.TheVariants as errors
 use Rattle.gf_poly.specs.Polynomial.{Terms, coefficient, times, SamePolynomial, HasVariables}
 use Rattle.gf_poly.specs.Marking.{MarkedPolynomial, MarkedPolynomials, Each, HaveVariables}
 use Rattle.gf_poly.proofs.PolynomialLaws.{coefficient-++}
 use Rattle.gf_poly.proofs.CoefficientLaws.{descending_unique}
-use Rattle.gf_ideal.specs.Reduction.{IsSPolynomial}
-use Rattle.gf_ideal.proofs.ListLaws.{contained_each}
-use Rattle.gf_ideal.proofs.SettledLaws.{times_along}
-use Rattle.gf_ideal.proofs.NormalFormLaws.{normal_form-unique}
+use Rattle.gf_ideal_theory.specs.Reduction.{IsSPolynomial}
+use Rattle.gf_ideal_theory.proofs.ListLaws.{contained_each}
+use Rattle.gf_ideal_theory.proofs.SettledLaws.{times_along}
+use Rattle.gf_ideal_theory.proofs.NormalFormLaws.{normal_form-unique}
 use Rattle.gf_division.proofs.ReducerLaws.{members_equal, member_contained}
 use Rattle.gf_reduced.specs.declared.error.CheckError.{CheckError}
 use Rattle.gf_reduced.specs.declared.error.CheckError.TheVariants as check_errors

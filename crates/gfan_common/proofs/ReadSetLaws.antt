@@ -2,7 +2,7 @@
 -- To cite: set_kept, marked_kept; IsKeptMember, IsSetKept, set_variables, one_kept, list_kept. The rest are steps.
 use Rattle.std.specs.Prelude.{◌≡◌, ℕ, zero, suc, List, [], ◌∷◌, length, map, slice_get, Some}
 use Rattle.std.proofs.Common.{sym, subst}
-use Rattle.gf_exponents.specs.Exponents.{Exponents}
+use Rattle.gf_exponents_theory.specs.Exponents.{Exponents}
 use Rattle.gf_poly.specs.declared.Term.{Term}
 use Rattle.gf_poly.specs.Polynomial.{Terms, HasVariables, IsDescending}
 use Rattle.gf_poly.specs.Marking.{MarkedPolynomial, MarkedPolynomials, Each, HaveVariables}
@@ -14,7 +14,7 @@ use Rattle.gf_text.specs.Combining.{SumsHaveVariables}
 use Rattle.gf_text.specs.Sets.{AreWritten, IsSetRead, IsMarkedRead}
 use Rattle.gf_text.specs.SetLists.{AreWhatRemain, AreMarkedSets, AreMarkedSetsRead}
 use Rattle.gf_text.proofs.CombiningLaws.{sums_variables}
-use Rattle.gf_ideal.proofs.ListLaws.{contained_each}
+use Rattle.gf_ideal_theory.proofs.ListLaws.{contained_each}
 use Rattle.gfan_common.specs.Forms.{generators_of}
 use Rattle.gfan_common.proofs.FormLaws.{AreKept}
 use Rattle.gf_items.specs.Items.{IsTextOf, from}

@@ -3,9 +3,9 @@
 use Rattle.std.specs.Prelude.{◌≡◌, ◌⊎◌, ℕ, zero, suc, ◌+◌, ◌<◌, List, [], ◌∷◌, length, take, Contains, Some}
 use Rattle.std.specs.List.{AllZip}
 use Rattle.std.proofs.Common.{arith, subst, inl, inr, get_or}
-use Rattle.gf_int.proofs.ListLaws.{Contains-here}
+use Rattle.gf_int_theory.proofs.ListLaws.{Contains-here}
 use Rattle.gf_poly.specs.Marking.{MarkedPolynomials, Each}
-use Rattle.gf_ideal.proofs.ListLaws.{Contains-there}
+use Rattle.gf_ideal_theory.proofs.ListLaws.{Contains-there}
 use Rattle.gf_reduced.specs.declared.error.CheckError.{CheckError}
 use Rattle.gf_reduced.specs.declared.error.CheckError.TheVariants as check_errors
 use Rattle.gf_reduced.specs.Refusals.{IsReducedRefusal}

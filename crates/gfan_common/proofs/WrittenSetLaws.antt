@@ -4,13 +4,13 @@ use Rattle.std.specs.Prelude.{◌≡◌, ℕ, zero, suc, ◌+◌, ◌<◌, List,
 use Rattle.std.specs.Borrow.{Bor}
 use Rattle.std.specs.Option.{option_copied}
 use Rattle.std.proofs.Common.{arith, refl, sym, ap, ◌∙◌, subst}
-use Rattle.gf_exponents.specs.Exponents.{Exponents}
+use Rattle.gf_exponents_theory.specs.Exponents.{Exponents}
 use Rattle.gf_poly.specs.Polynomial.{Terms, HasVariables}
 use Rattle.gf_poly.specs.Marking.{Each}
 use Rattle.gf_text.specs.declared.written.Written.{Written}
 use Rattle.gf_text.specs.declared.written.Written.TheVariants as written
 use Rattle.gf_text.specs.Sets.{AreIn}
-use Rattle.gf_ideal.proofs.ListLaws.{contained_each}
+use Rattle.gf_ideal_theory.proofs.ListLaws.{contained_each}
 use Rattle.gf_division.proofs.StepLaws.{term_length}
 use Rattle.gf_buchberger.specs.declared.homogeneity.NotHomogeneous.{NotHomogeneous}
 use Rattle.gf_buchberger.specs.Homogeneity.{IsFirstInhomogeneous}

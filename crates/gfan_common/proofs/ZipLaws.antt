@@ -5,8 +5,8 @@ use Rattle.std.specs.List.{AllZip}
 use Rattle.std.proofs.Common.{arith, sym, ap, ◌∙◌, subst, get_or, inl, inr}
 use Rattle.std.proofs.lemmas.List.{take_more}
 use Rattle.std.proofs.lemmas.Slice.Zip.{all_zipped_more}
-use Rattle.gf_int.proofs.ListLaws.{Contains-here}
-use Rattle.gf_ideal.proofs.ListLaws.{Contains-cases, Contains-there}
+use Rattle.gf_int_theory.proofs.ListLaws.{Contains-here}
+use Rattle.gf_ideal_theory.proofs.ListLaws.{Contains-cases, Contains-there}
 
 -- one further of each
 pub zip_more : {A B : Type 0} (R : A → B → Type 0) (xs : List A) (ys next : List B) (i : ℕ) (x : A) (y : B) → i < length xs → x ≡ get_or xs i x → R x y → next ≡ ys ++ y ∷ [] → AllZip R (take i xs) ys → AllZip R (take (i + 1) xs) next

@@ -15,13 +15,13 @@ use Rattle.gf_flip.specs.declared.error.TreeError.TheVariants as tree_errors
 use Rattle.gf_initial_monomials.specs.declared.error.InitialError.{InitialError}
 use Rattle.gf_initial_monomials.specs.declared.error.InitialError.TheVariants as initial_errors
 use Rattle.gf_initial_monomials.specs.Limits.{IsMemoryWanted}
-use Rattle.gf_basis_test.specs.declared.error.BasisTestError.{BasisTestError}
-use Rattle.gf_basis_test.specs.declared.error.BasisTestError.TheVariants as test_errors
-use Rattle.gf_basis_test.specs.declared.verdict.Verdict.{Verdict}
-use Rattle.gf_basis_test.specs.Verdicts.{IsVerdict, IsFirstVerdict, maximal_rows}
-use Rattle.gf_basis_test.specs.Refusals.{AreBasesRefused, IsVerdictRefusal}
-use Rattle.gf_basis_test.specs.Limits.{HasNoMemory}
-use Rattle.gf_basis_test.proofs.LimitLaws.{test_memory}
+use Rattle.gf_tropical_basis_test.specs.declared.error.BasisTestError.{BasisTestError}
+use Rattle.gf_tropical_basis_test.specs.declared.error.BasisTestError.TheVariants as test_errors
+use Rattle.gf_tropical_basis_test.specs.declared.verdict.Verdict.{Verdict}
+use Rattle.gf_tropical_basis_test.specs.Verdicts.{IsVerdict, IsFirstVerdict, maximal_rows}
+use Rattle.gf_tropical_basis_test.specs.Refusals.{AreBasesRefused, IsVerdictRefusal}
+use Rattle.gf_tropical_basis_test.specs.Limits.{HasNoMemory}
+use Rattle.gf_tropical_basis_test.proofs.LimitLaws.{test_memory}
 use Rattle.gf_text.specs.declared.written.Written.{Written}
 use Rattle.gf_front.specs.declared.options.TropicalIntersectionOptions.{TropicalIntersectionOptions}
 use Rattle.gf_front.specs.declared.refusal.Refusal.{Refusal}

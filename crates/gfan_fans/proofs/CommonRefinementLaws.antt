@@ -12,12 +12,12 @@ use Rattle.gf_items.proofs.CheckLaws.{IsCheckedOnce}
 use Rattle.gf_frame.specs.Commands.{Writing, IsOfWriting, IsFixed, IsUnanswered, IsAnswered, IsRefusedOn}
 use Rattle.gf_frame.proofs.ReadingLaws.{two_once}
 use Rattle.gf_frame.proofs.CommandLaws.{IsLawful, tells_itself}
-use Rattle.gf_fanfile.specs.declared.error.FanFileError.{FanFileError}
-use Rattle.gf_fanfile.specs.declared.error.FanFileError.TheVariants as file_errors
-use Rattle.gf_fanfile.specs.declared.file.FanFile.{FanFile}
-use Rattle.gf_fanfile.specs.Files.{IsFileOf, IsOfLimits}
-use Rattle.gf_fanfile.specs.FilesFans.{IsFanOfText, IsFanFileRefusal}
-use Rattle.gf_fanfile.proofs.FilesLaws.{file_once}
+use Rattle.gf_fan_files.specs.declared.error.FanFileError.{FanFileError}
+use Rattle.gf_fan_files.specs.declared.error.FanFileError.TheVariants as file_errors
+use Rattle.gf_fan_files.specs.declared.file.FanFile.{FanFile}
+use Rattle.gf_fan_files.specs.Files.{IsFileOf, IsOfLimits}
+use Rattle.gf_fan_files.specs.FilesFans.{IsFanOfText, IsFanFileRefusal}
+use Rattle.gf_fan_files.proofs.FilesLaws.{file_once}
 use Rattle.gf_refine.specs.declared.error.RefineError.{RefineError}
 use Rattle.gf_refine.specs.declared.error.RefineError.TheVariants as refine_errors
 use Rattle.gf_refine.specs.Refusals.{IsRefineRefusal}
@@ -25,11 +25,11 @@ use Rattle.gf_refine.specs.FansRefined.{IsRefinementOf}
 use Rattle.gf_vec.specs.declared.error.VecError.{VecError}
 use Rattle.gf_vec.specs.declared.error.VecError.TheVariants as vec_errors
 use Rattle.gf_vec.specs.Steps.{IfWide}
-use Rattle.gf_fanfile.specs.FanTexts.{IsWritingStep}
+use Rattle.gf_fan_files.specs.FanTexts.{IsWritingStep}
 use Rattle.gfan_fans.specs.FanTexts.{of_writing}
 use Rattle.gfan_common.specs.Refused.{IsNamedBy}
 use Rattle.gfan_fans.specs.CommonRefinement.{of_fan_file, of_refine, IsRefinementText, IsRefinementRefused, IsOfWords, IsRefusedInWords, IsRefinementWithin, in_words, refinement_command}
-use Rattle.gf_fanfile.proofs.FanOnceLaws.{refusals_once, refusal_refutes}
+use Rattle.gf_fan_files.proofs.FanOnceLaws.{refusals_once, refusal_refutes}
 use Rattle.gfan_fans.proofs.FanFileLaws.{told_words, words_refused_once, within_memory, ambient_once}
 
 -- ---- kinds of refusals

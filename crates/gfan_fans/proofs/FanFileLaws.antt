@@ -9,22 +9,22 @@ use Rattle.gf_rays.specs.Cones.{RowsAndRays}
 use Rattle.gf_text.specs.declared.error.Cause.{Cause}
 use Rattle.gf_text.specs.declared.error.Cause.TheVariants as causes
 use Rattle.gf_text.specs.Machine.{Lexeme, Fault}
-use Rattle.gf_fanfile.specs.declared.error.FanFileError.{FanFileError}
-use Rattle.gf_fanfile.specs.declared.error.FanFileError.TheVariants as errors
-use Rattle.gf_fanfile.specs.declared.file.FanFile.{FanFile}
-use Rattle.gf_fanfile.specs.Refused.{refused_at, refused_before}
-use Rattle.gf_fanfile.specs.Lines.{Section, sections, content_tokens, end_before}
-use Rattle.gf_fanfile.specs.RowText.{AreRowTexts}
-use Rattle.gf_fanfile.specs.ConeText.{AreConeTexts}
-use Rattle.gf_fanfile.specs.NumberText.{IsOneNumberText}
-use Rattle.gf_fanfile.specs.FanText.{ContentKind, number_to, rows, cones, any, told_version, kind_in, Table, told_table, IsFaultOf, IsContentFault, IsFirstFault, first_missing, wanted}
-use Rattle.gf_fanfile.specs.Files.{IsOfLimits, interior_rows, IsFormFault, zero_dimension, at_rays, at_lineality, at_interiors, at_ray, at_number, IsFileRefused, in_text, bad_version, not_there, in_form, no_memory}
-use Rattle.gf_fanfile.specs.Certificates.{IsCertificateFault, other_count, at_row, too_wide}
-use Rattle.gf_fanfile.specs.FilesFans.{IsFanOfText, refusal_of_fan, IsFanFault, in_cone, in_certificate, in_fan, IsFanFileRefusal, before_cones, behind_form}
-use Rattle.gf_fanfile.proofs.FanTextLaws.{text_sound}
-use Rattle.gf_fanfile.proofs.FilesLaws.{sections_once, file_once, length_sound, none_missing, version_known, refused_sound}
-use Rattle.gf_fanfile.proofs.FilesFansLaws.{only_memory}
-use Rattle.gf_fanfile.proofs.OnceLaws.{refused_once, refused_unsound}
+use Rattle.gf_fan_files.specs.declared.error.FanFileError.{FanFileError}
+use Rattle.gf_fan_files.specs.declared.error.FanFileError.TheVariants as errors
+use Rattle.gf_fan_files.specs.declared.file.FanFile.{FanFile}
+use Rattle.gf_fan_files.specs.Refused.{refused_at, refused_before}
+use Rattle.gf_fan_files.specs.Lines.{Section, sections, content_tokens, end_before}
+use Rattle.gf_fan_files.specs.RowText.{AreRowTexts}
+use Rattle.gf_fan_files.specs.ConeText.{AreConeTexts}
+use Rattle.gf_fan_files.specs.NumberText.{IsOneNumberText}
+use Rattle.gf_fan_files.specs.FanText.{ContentKind, number_to, rows, cones, any, told_version, kind_in, Table, told_table, IsFaultOf, IsContentFault, IsFirstFault, first_missing, wanted}
+use Rattle.gf_fan_files.specs.Files.{IsOfLimits, interior_rows, IsFormFault, zero_dimension, at_rays, at_lineality, at_interiors, at_ray, at_number, IsFileRefused, in_text, bad_version, not_there, in_form, no_memory}
+use Rattle.gf_fan_files.specs.Certificates.{IsCertificateFault, other_count, at_row, too_wide}
+use Rattle.gf_fan_files.specs.FilesFans.{IsFanOfText, refusal_of_fan, IsFanFault, in_cone, in_certificate, in_fan, IsFanFileRefusal, before_cones, behind_form}
+use Rattle.gf_fan_files.proofs.FanTextLaws.{text_sound}
+use Rattle.gf_fan_files.proofs.FilesLaws.{sections_once, file_once, length_sound, none_missing, version_known, refused_sound}
+use Rattle.gf_fan_files.proofs.FilesFansLaws.{only_memory}
+use Rattle.gf_fan_files.proofs.OnceLaws.{refused_once, refused_unsound}
 use Rattle.gfan_fans.specs.CommonRefinement.{IsOfWords, IsFanTextWithin}
 
 -- ---- a text that says a fan

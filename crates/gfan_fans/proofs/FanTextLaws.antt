@@ -12,7 +12,7 @@ use Rattle.gf_fan.specs.FanLists.{FanLists}
 use Rattle.gf_fan.specs.FansOfCones.{IsFanOf}
 use Rattle.gf_fan.specs.Pairs.{AreMeeting, IsFirstPair}
 use Rattle.gf_fan.specs.Refusals.{IsFanRefusal, IsFanWithinLimits}
-use Rattle.gf_fanfile.specs.FanTexts.{IsWritingStep}
+use Rattle.gf_fan_files.specs.FanTexts.{IsWritingStep}
 use Rattle.gf_front.specs.declared.refusal.Refusal.{Refusal}
 use Rattle.gf_front.specs.declared.refusal.Refusal.TheVariants as refusals
 use Rattle.gf_items.specs.Refusals.{IsOfWork}

@@ -6,10 +6,10 @@ use Rattle.std.proofs.Common.{refl, sym, ap, ◌∙◌, subst, inl, inr, length}
 use Rattle.gf_poly.specs.Marking.{MarkedPolynomials, HaveVariables}
 use Rattle.gf_gordan.specs.Alternative.{AreRows}
 use Rattle.std.proofs.lemmas.List.Elements.{All-append}
-use Rattle.gf_int.proofs.ListLaws.{all_by}
-use Rattle.gf_facets.proofs.UnitLaws.{units_wide}
-use Rattle.gf_facets.specs.Regions.{all_positive}
-use Rattle.gf_facets.specs.Systems.{units}
+use Rattle.gf_int_theory.proofs.ListLaws.{all_by}
+use Rattle.gf_facets_theory.proofs.UnitLaws.{units_wide}
+use Rattle.gf_facets_theory.specs.Regions.{all_positive}
+use Rattle.gf_facets_theory.specs.Systems.{units}
 use Rattle.gf_cone.specs.Cones.{ConeRows, IsConeOf}
 use Rattle.gf_reduced.specs.Markings.{IsMarkedGroebnerBasis}
 use Rattle.gf_reduced.specs.Terms.{AreReduced}

@@ -2,10 +2,10 @@
 -- To cite: migration_answered, migration_refused; migrate_fan_exact, migrate_fan_tested, migration_not_listed. The rest are steps.
 use Rattle.std.specs.Prelude.{◌≡◌, ◌⊎◌, ℕ, List, [], ◌∷◌}
 use Rattle.std.proofs.Common.{refl, sym, ap, ◌∙◌, subst, inl, inr}
-use Rattle.gf_fanfile.specs.declared.error.FanFileError.{FanFileError}
-use Rattle.gf_fanfile.specs.declared.error.FanFileError.TheVariants as file_errors
-use Rattle.gf_fanfile.specs.FilesFans.{IsFanFileRefusal}
-use Rattle.gf_fanfile.specs.Migration.{IsMigratedWhole, IsMigrationRefusal, unread, unwritten, no_memory}
+use Rattle.gf_fan_files.specs.declared.error.FanFileError.{FanFileError}
+use Rattle.gf_fan_files.specs.declared.error.FanFileError.TheVariants as file_errors
+use Rattle.gf_fan_files.specs.FilesFans.{IsFanFileRefusal}
+use Rattle.gf_fan_files.specs.Migration.{IsMigratedWhole, IsMigrationRefusal, unread, unwritten, no_memory}
 use Rattle.gf_front.specs.declared.refusal.Refusal.{Refusal}
 use Rattle.gf_front.specs.declared.refusal.Refusal.TheVariants as refusals
 use Rattle.gf_items.specs.Refusals.{IsOfNumbers, IsOfTest, TellsSame, IsOfWork}

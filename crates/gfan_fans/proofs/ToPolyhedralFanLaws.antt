@@ -10,11 +10,11 @@ use Rattle.gf_poly.specs.Marking.{MarkedPolynomials, Each}
 use Rattle.gf_gordan.specs.declared.error.GordanError.{GordanError}
 use Rattle.gf_gordan.specs.declared.error.GordanError.TheVariants as gordan_errors
 use Rattle.gf_gordan.specs.Steps.{Failed}
-use Rattle.gf_duality.specs.Faces.{Rows}
-use Rattle.gf_facets.specs.Normals.{AreNormals}
-use Rattle.gf_fans.specs.Fans.{MeetInFaces}
+use Rattle.gf_duality_theory.specs.Faces.{Rows}
+use Rattle.gf_facets_theory.specs.Normals.{AreNormals}
+use Rattle.gf_fans_theory.specs.Fans.{MeetInFaces}
 use Rattle.gf_rays.specs.Cones.{RowsAndRays, rows_of}
-use Rattle.gf_facets.proofs.AscendingLaws.{same_ascending}
+use Rattle.gf_facets_theory.proofs.AscendingLaws.{same_ascending}
 use Rattle.gf_reduced.specs.declared.error.CheckError.{CheckError}
 use Rattle.gf_reduced.specs.declared.error.CheckError.TheVariants as check_errors
 use Rattle.gf_fan.specs.declared.error.FanError.{FanError}
@@ -35,8 +35,8 @@ use Rattle.gf_frame.proofs.SoundLaws.{IsExactCommand, IsTestedCommand}
 use Rattle.gfan_common.specs.CheckedSets.{of_check}
 use Rattle.gfan_common.specs.Causes.{of_gordan}
 use Rattle.gfan_common.specs.ReducedSets.{IsReducedAsRead, IsRefusedFrom}
-use Rattle.gf_fanfile.specs.FanTexts.{IsFanText}
-use Rattle.gf_fanfile.proofs.FanOnceLaws.{first_place, second_place}
+use Rattle.gf_fan_files.specs.FanTexts.{IsFanText}
+use Rattle.gf_fan_files.proofs.FanOnceLaws.{first_place, second_place}
 use Rattle.gfan_fans.specs.FanTexts.{of_fan, IsNoFanText}
 use Rattle.gfan_fans.specs.ToPolyhedralFan.{inequalities_of, IsConeOfSet, IsFanOfSetsText, IsConeStepOfSet, IsConeStepOfSets, IsNoFanOfSets, AreSetsWithin, to_polyhedral_fan_command}
 use Rattle.gfan_common.specs.Refused.{IsNamedBy}

@@ -6,7 +6,7 @@ use Rattle.gf_vec.specs.declared.error.VecError.{VecError}
 use Rattle.gf_vec.specs.declared.error.VecError.TheVariants as vec_errors
 use Rattle.gf_vec.specs.Steps.{IfWide}
 use Rattle.gf_fan.specs.FanLists.{FanLists}
-use Rattle.gf_fanfile.specs.FanTexts.{IsWritingStep}
+use Rattle.gf_fan_files.specs.FanTexts.{IsWritingStep}
 use Rattle.gf_poly.specs.Polynomial.{Terms}
 use Rattle.gf_poly.specs.Marking.{MarkedPolynomial, polys}
 use Rattle.gf_tropical.specs.declared.error.TropicalError.{TropicalError}

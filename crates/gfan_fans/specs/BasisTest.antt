@@ -4,13 +4,13 @@ use Rattle.gf_poly.specs.Polynomial.{Terms}
 use Rattle.gf_tropical.specs.Refusals.{NoneIsZero}
 use Rattle.gf_initial_monomials.specs.declared.error.InitialError.{InitialError}
 use Rattle.gf_initial_monomials.specs.declared.error.InitialError.TheVariants as initial_errors
-use Rattle.gf_basis_test.specs.declared.error.BasisTestError.{BasisTestError}
-use Rattle.gf_basis_test.specs.declared.error.BasisTestError.TheVariants as test_errors
-use Rattle.gf_basis_test.specs.declared.verdict.Verdict.{Verdict}
-use Rattle.gf_basis_test.specs.declared.verdict.Verdict.TheVariants as verdicts
-use Rattle.gf_basis_test.specs.Verdicts.{IsVerdict, IsFirstVerdict}
-use Rattle.gf_basis_test.specs.Refusals.{IsVerdictRefusal}
-use Rattle.gf_basis_test.specs.Limits.{IsTestWithinLimits}
+use Rattle.gf_tropical_basis_test.specs.declared.error.BasisTestError.{BasisTestError}
+use Rattle.gf_tropical_basis_test.specs.declared.error.BasisTestError.TheVariants as test_errors
+use Rattle.gf_tropical_basis_test.specs.declared.verdict.Verdict.{Verdict}
+use Rattle.gf_tropical_basis_test.specs.declared.verdict.Verdict.TheVariants as verdicts
+use Rattle.gf_tropical_basis_test.specs.Verdicts.{IsVerdict, IsFirstVerdict}
+use Rattle.gf_tropical_basis_test.specs.Refusals.{IsVerdictRefusal}
+use Rattle.gf_tropical_basis_test.specs.Limits.{IsTestWithinLimits}
 use Rattle.gf_text.specs.declared.written.Written.{Written}
 use Rattle.gf_text.specs.VectorText.{vector_text}
 use Rattle.gf_front.specs.declared.options.TropicalIntersectionOptions.{TropicalIntersectionOptions}

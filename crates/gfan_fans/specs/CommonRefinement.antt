@@ -2,13 +2,13 @@
 use Rattle.std.specs.Prelude.{◌≡◌, ℕ, List, [], ◌∷◌}
 use Rattle.gf_vec.specs.declared.error.WideVector.{WideVector}
 use Rattle.gf_fan.specs.FanLists.{FanLists}
-use Rattle.gf_fanfile.specs.declared.error.FanFileError.{FanFileError}
-use Rattle.gf_fanfile.specs.declared.error.FanFileError.TheVariants as file_errors
-use Rattle.gf_fanfile.specs.declared.file.FanFile.{FanFile}
-use Rattle.gf_fanfile.specs.FanWords.{fan_text}
-use Rattle.gf_fanfile.specs.FanTexts.{parts_of_fan, IsWritingStep}
-use Rattle.gf_fanfile.specs.Files.{IsFileOf, IsSoundFile}
-use Rattle.gf_fanfile.specs.FilesFans.{IsFanOfText, IsFanFileRefusal, IsFileWithinLimits, IsCertifiedFile, AreFileConesMeeting}
+use Rattle.gf_fan_files.specs.declared.error.FanFileError.{FanFileError}
+use Rattle.gf_fan_files.specs.declared.error.FanFileError.TheVariants as file_errors
+use Rattle.gf_fan_files.specs.declared.file.FanFile.{FanFile}
+use Rattle.gf_fan_files.specs.FanWords.{fan_text}
+use Rattle.gf_fan_files.specs.FanTexts.{parts_of_fan, IsWritingStep}
+use Rattle.gf_fan_files.specs.Files.{IsFileOf, IsSoundFile}
+use Rattle.gf_fan_files.specs.FilesFans.{IsFanOfText, IsFanFileRefusal, IsFileWithinLimits, IsCertifiedFile, AreFileConesMeeting}
 use Rattle.gf_refine.specs.declared.error.RefineError.{RefineError}
 use Rattle.gf_refine.specs.declared.error.RefineError.TheVariants as refine_errors
 use Rattle.gf_refine.specs.FansRefined.{IsRefinementOf}

@@ -1,7 +1,7 @@
 -- `_groebnercone`: its input, its output, and why it is refused.
 use Rattle.std.specs.Prelude.{◌≡◌, ℕ, Bool, true, false, List, [], ◌∷◌, ◌++◌, ℤ}
 use Rattle.gf_poly.specs.Marking.{MarkedPolynomials, HaveVariables}
-use Rattle.gf_facets.specs.Normals.{AreNormals}
+use Rattle.gf_facets_theory.specs.Normals.{AreNormals}
 use Rattle.gf_reduced.specs.declared.error.CheckError.{CheckError}
 use Rattle.gf_reduced.specs.Markings.{IsMarkedGroebnerBasis}
 use Rattle.gf_reduced.specs.Terms.{AreReduced}

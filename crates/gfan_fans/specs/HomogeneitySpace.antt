@@ -2,8 +2,8 @@
 use Rattle.std.specs.Prelude.{◌≡◌, ℕ, false, List, [], ◌∷◌, flat_map, length, Option, ℤ}
 use Rattle.gf_poly.specs.Marking.{MarkedPolynomial}
 use Rattle.gf_gordan.specs.declared.error.GordanError.{GordanError}
-use Rattle.gf_duality.specs.Rays.{IsRays, IsImplied}
-use Rattle.gf_facets.specs.Rows.{rows_of_polynomials}
+use Rattle.gf_duality_theory.specs.Rays.{IsRays, IsImplied}
+use Rattle.gf_facets_theory.specs.Rows.{rows_of_polynomials}
 use Rattle.gf_rays.specs.Cones.{RowsAndRays, AreRaysWithinLimits}
 use Rattle.gf_small.specs.HomogeneitySpace.{IsBasisOfSpace, IsSpaceCause}
 use Rattle.gf_text.specs.declared.written.Written.{Written}
@@ -15,7 +15,7 @@ use Rattle.gf_frame.specs.Loading.{Origin}
 use Rattle.gf_frame.specs.Readings.{of_one}
 use Rattle.gf_frame.specs.Commands.{Writing, Command}
 use Rattle.gfan_common.specs.Causes.{of_gordan}
-use Rattle.gf_fanfile.specs.FanTexts.{IsFanText}
+use Rattle.gf_fan_files.specs.FanTexts.{IsFanText}
 use Rattle.gfan_fans.specs.FanTexts.{IsNoFanText, IsFanOfConesWithin}
 
 -- ---- the space

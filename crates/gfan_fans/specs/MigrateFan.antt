@@ -1,9 +1,9 @@
 -- `_migratefan`: its input, its output, and why it is refused.
 use Rattle.std.specs.Prelude.{◌≡◌, ℕ, List, [], ◌∷◌}
 use Rattle.gf_fan.specs.FanLists.{FanLists}
-use Rattle.gf_fanfile.specs.declared.error.FanFileError.{FanFileError}
-use Rattle.gf_fanfile.specs.FilesFans.{IsFanOfText}
-use Rattle.gf_fanfile.specs.Migration.{IsMigratedWhole, IsMigrationRefusal}
+use Rattle.gf_fan_files.specs.declared.error.FanFileError.{FanFileError}
+use Rattle.gf_fan_files.specs.FilesFans.{IsFanOfText}
+use Rattle.gf_fan_files.specs.Migration.{IsMigratedWhole, IsMigrationRefusal}
 use Rattle.gf_front.specs.declared.refusal.Refusal.{Refusal}
 use Rattle.gf_frame.specs.Loading.{Origin}
 use Rattle.gf_frame.specs.Readings.{of_whole}

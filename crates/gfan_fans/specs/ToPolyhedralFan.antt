@@ -3,10 +3,10 @@ use Rattle.std.specs.Prelude.{◌≡◌, ℕ, Bool, true, false, List, [], ◌++
 use Rattle.std.specs.List.{AllZip}
 use Rattle.gf_poly.specs.Marking.{MarkedPolynomials}
 use Rattle.gf_gordan.specs.declared.error.ConeOverflow.{ConeOverflow}
-use Rattle.gf_duality.specs.Rays.{IsRays, IsImplied}
+use Rattle.gf_duality_theory.specs.Rays.{IsRays, IsImplied}
 use Rattle.gf_rays.specs.Reached.{IsRaysStep}
-use Rattle.gf_facets.specs.Normals.{AreNormals}
-use Rattle.gf_facets.specs.Systems.{units}
+use Rattle.gf_facets_theory.specs.Normals.{AreNormals}
+use Rattle.gf_facets_theory.specs.Systems.{units}
 use Rattle.gf_rays.specs.Cones.{RowsAndRays}
 use Rattle.gf_reduced.specs.declared.error.CheckError.{CheckError}
 use Rattle.gf_fan.specs.Pairs.{AreMeeting}
@@ -19,7 +19,7 @@ use Rattle.gf_frame.specs.Readings.{of_one}
 use Rattle.gf_frame.specs.Commands.{Writing, Command}
 use Rattle.gfan_common.specs.CheckedSets.{of_check}
 use Rattle.gfan_common.specs.ReducedSets.{AreReducedAsRead, IsRefusedFrom, IsCheckedWithin}
-use Rattle.gf_fanfile.specs.FanTexts.{IsFanText}
+use Rattle.gf_fan_files.specs.FanTexts.{IsFanText}
 use Rattle.gfan_fans.specs.FanTexts.{IsNoFanText, IsFanOfConesWithin}
 
 -- ---- the cones

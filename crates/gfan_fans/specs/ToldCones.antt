@@ -10,7 +10,7 @@ use Rattle.gf_sections.specs.ConeText.{IsConeText, IsConeCause, IsConeWithinLimi
 use Rattle.gf_front.specs.declared.options.GroebnerConeOptions.{GroebnerConeOptions}
 use Rattle.gf_front.specs.declared.refusal.Refusal.{Refusal}
 use Rattle.gf_front.specs.declared.refusal.Refusal.TheVariants as refusals
-use Rattle.gf_fanfile.specs.FanTexts.{IsFanText}
+use Rattle.gf_fan_files.specs.FanTexts.{IsFanText}
 use Rattle.gfan_fans.specs.FanTexts.{IsNoFanText, IsFanOfConesWithin}
 use Rattle.gfan_fans.specs.ToPolyhedralFan.{inequalities_of}
 

@@ -2,12 +2,12 @@
 use Rattle.std.specs.Prelude.{◌≡◌, ◌≢◌, ℕ, false, List, [], ◌∷◌, map, length, Option, ℤ}
 use Rattle.gf_vec.specs.declared.error.WideVector.{WideVector}
 use Rattle.gf_gordan.specs.declared.error.ConeOverflow.{ConeOverflow}
-use Rattle.gf_duality.specs.Faces.{Rows}
+use Rattle.gf_duality_theory.specs.Faces.{Rows}
 use Rattle.gf_poly.specs.Polynomial.{Terms}
-use Rattle.gf_patterns.specs.Patterns.{points}
+use Rattle.gf_patterns_theory.specs.Patterns.{points}
 use Rattle.gf_fan.specs.FanLists.{FanLists}
-use Rattle.gf_fanfile.specs.FanWords.{fan_text}
-use Rattle.gf_fanfile.specs.FanTexts.{parts_of_fan, IsWritingStep}
+use Rattle.gf_fan_files.specs.FanWords.{fan_text}
+use Rattle.gf_fan_files.specs.FanTexts.{parts_of_fan, IsWritingStep}
 use Rattle.gf_tropical.specs.declared.error.TropicalError.{TropicalError}
 use Rattle.gf_tropical.specs.declared.error.TropicalError.TheVariants as tropical_errors
 use Rattle.gf_tropical.specs.TropicalFans.{IsPrevarietyFan, IsMinkowskiFanOf}

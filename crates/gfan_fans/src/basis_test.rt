@@ -6,11 +6,11 @@ ghost use Rattle.gfan_common.specs.Refused.{IsOfSource};
 ghost use Rattle.gfan_fans.specs.BasisTest.{of_initial, of_basis_test, basis_test_text, basis_test_command};
 
 use crate::tropical::{nonzero_polynomials, of_tropical};
-use gf_basis_test::{BasisTestError, Verdict, tropical_basis};
 use gf_front::Refusal;
 use gf_initial_monomials::InitialError;
 use gf_items::{RingAndSet, ring_and_set};
 use gf_text::{Printer, Ring, Written};
+use gf_tropical_basis_test::{BasisTestError, Verdict, tropical_basis};
 use gfan_common::checks::check_degrees;
 use gfan_common::refused::{Refused, of_basis, of_tree};
 use std::alloc::{AllocError, Global};

@@ -4,7 +4,7 @@ ghost use Rattle.gfan_common.specs.Refused.{IsNamedBy, IsUnnamed};
 ghost use Rattle.gfan_fans.specs.CommonRefinement.{IsRefinementText, IsRefinementRefused, of_fan_file, of_refine};
 
 use crate::fan_text::of_writing;
-use gf_fanfile::{FanFileError, read, write};
+use gf_fan_files::{FanFileError, read, write};
 use gf_front::Refusal;
 use gf_refine::{RefineError, common};
 use gfan_common::refused::Refused;
@@ -81,7 +81,7 @@ fn text_of<R: Threads + Sync>(rt: &R, alloc: Global, a: &[u8], b: &[u8]) -> Resu
 ///
 /// # Errors
 ///
-/// - Those of `read` of `gf_fanfile`, for the first text and then for the second.
+/// - Those of `read` of `gf_fan_files`, for the first text and then for the second.
 /// - `Dimensions` if and only if both texts describe fans, of vectors of different lengths.
 /// - `ConeOverflow`: an operation of finding the refinement leaves its range.
 /// - `WideVector`: the sum of the rays of one of its maximal cones leaves the range.

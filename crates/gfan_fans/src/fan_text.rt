@@ -2,17 +2,17 @@
 ghost use Rattle.std.specs.Prelude.{◌≡◌, ◌≤◌, IfOk, IfErr};
 ghost use Rattle.gf_text.specs.declared.TheConstants.{MOST_VARIABLES};
 ghost use Rattle.gf_fan.specs.Pairs.{AreOfAmbient};
-ghost use Rattle.gf_fanfile.specs.FanTexts.{IsFanText};
+ghost use Rattle.gf_fan_files.specs.FanTexts.{IsFanText};
 ghost use Rattle.gfan_fans.specs.FanTexts.{of_fan, of_writing, IsNoFanText};
 
 use gf_fan::{Fan, FanError};
-use gf_fanfile::write;
+use gf_fan_files::write;
 use gf_front::Refusal;
 use gf_rays::Rays;
 use gf_vec::VecError;
 use std::alloc::Global;
 
-/// The text, as `write` of `gf_fanfile` has it, of the fan of all faces of these cones of vectors of `n` entries. There are fewer than
+/// The text, as `write` of `gf_fan_files` has it, of the fan of all faces of these cones of vectors of `n` entries. There are fewer than
 /// `2^32` cones.
 ///
 /// # Errors

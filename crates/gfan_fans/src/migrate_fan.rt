@@ -5,7 +5,7 @@ ghost use Rattle.gfan_common.specs.Refused.{IsNamedBy, IsOfSource};
 ghost use Rattle.gfan_fans.specs.MigrateFan.{migrate_fan_command};
 
 use crate::common_refinement::of_fan_file;
-use gf_fanfile::migrate;
+use gf_fan_files::migrate;
 use gf_front::Refusal;
 use gfan_common::refused::Refused;
 use std::alloc::Global;
@@ -27,7 +27,7 @@ fn text_of(alloc: Global, source: &[u8]) -> Result<Vec<u8>, Refusal>
 ///
 /// # Errors
 ///
-/// - Those of `read` of `gf_fanfile`. `Syntax`, `TooWide`, `TooManyVariables`, `BadVersion`, `Missing` and `Dimensions` if and only if the
+/// - Those of `read` of `gf_fan_files`. `Syntax`, `TooWide`, `TooManyVariables`, `BadVersion`, `Missing` and `Dimensions` if and only if the
 ///   source has such a fault.
 /// - `WideVector` also if a sum of the rays of a maximal cone leaves the range.
 /// - `Memory`: memory runs out.

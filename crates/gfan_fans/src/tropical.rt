@@ -12,7 +12,7 @@ ghost use Rattle.gfan_fans.specs.Tropical.{HasNumber, IsNumberRefusal, IsFanOfPo
 
 use crate::fan_text::of_writing;
 use gf_fan::Fan;
-use gf_fanfile::write;
+use gf_fan_files::write;
 use gf_front::Refusal;
 use gf_items::{RingAndSet, ring_and_set};
 use gf_poly::Poly;

@@ -9,14 +9,14 @@ use Rattle.gf_reduced.specs.declared.error.CheckError.{CheckError}
 use Rattle.gf_reduced.specs.declared.error.CheckError.TheVariants as check_errors
 use Rattle.gf_reduced.proofs.GroebnerLaws.{polys_variables}
 use Rattle.gf_reduced.proofs.RefusalLaws.{reduced_memory}
-use Rattle.gf_facets.specs.Regions.{all_positive}
-use Rattle.gf_facets.specs.MarkedBases.{IsBasisInRegion}
-use Rattle.gf_facets.proofs.SystemLaws.{all_positive-region}
-use Rattle.gf_bases.proofs.FiniteLaws.{basis_everywhere}
-use Rattle.gf_bases.proofs.LawsHold.{only_ideals_count}
-use Rattle.gf_reverse.specs.Upward.{Fan, IsNode, IsNodeIn, fan_of}
-use Rattle.gf_reverse.proofs.TreeLaws.{own_fan, back_fan, node_moved}
-use Rattle.gf_reverse.proofs.ListLaws.{own}
+use Rattle.gf_facets_theory.specs.Regions.{all_positive}
+use Rattle.gf_facets_theory.specs.MarkedBases.{IsBasisInRegion}
+use Rattle.gf_facets_theory.proofs.SystemLaws.{all_positive-region}
+use Rattle.gf_bases_theory.proofs.FiniteLaws.{basis_everywhere}
+use Rattle.gf_bases_theory.proofs.LawsHold.{only_ideals_count}
+use Rattle.gf_reverse_theory.specs.Upward.{Fan, IsNode, IsNodeIn, fan_of}
+use Rattle.gf_reverse_theory.proofs.TreeLaws.{own_fan, back_fan, node_moved}
+use Rattle.gf_reverse_theory.proofs.ListLaws.{own}
 use Rattle.gf_flip.specs.declared.error.TreeError.{TreeError}
 use Rattle.gf_flip.specs.declared.error.TreeError.TheVariants as tree_errors
 use Rattle.gf_tree.specs.Ideals.{ideal_by}

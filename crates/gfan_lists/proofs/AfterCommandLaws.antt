@@ -10,8 +10,8 @@ use Rattle.gf_reduced.specs.declared.error.CheckError.TheVariants as check_error
 use Rattle.gf_reduced.specs.Markings.{IsMarkedGroebnerBasis}
 use Rattle.gf_reduced.specs.Refusals.{of_poly, IsReducedBasisRefusal, IsReducedRefusalBeside}
 use Rattle.gf_reduced.proofs.RefusalLaws.{beside_only_memory}
-use Rattle.gf_facets.specs.Regions.{Region}
-use Rattle.gf_reverse.specs.Upward.{IsNodeIn}
+use Rattle.gf_facets_theory.specs.Regions.{Region}
+use Rattle.gf_reverse_theory.specs.Upward.{IsNodeIn}
 use Rattle.gf_tree.specs.Ideals.{ideal_within}
 use Rattle.gf_tree.specs.Refusals.{IsTreeWithinLimits}
 use Rattle.gf_tree.proofs.RefusalLaws.{within_memory}

@@ -5,26 +5,26 @@ use Rattle.std.specs.Prelude.{◌≡◌, ◌≢◌, ◌⊎◌, ℕ, zero, suc, �
 use Rattle.std.proofs.Common.{arith, refl, sym, ap, ap₂, ◌∙◌, subst, inl, inr}
 use Rattle.std.proofs.lemmas.Bool.{cases_lt}
 use Rattle.std.proofs.lemmas.List.Sorted.{Contains-permutation, IsPermutation-sym}
-use Rattle.gf_exponents.specs.Exponents.{Exponents}
-use Rattle.gf_exponents.specs.Orders.{gains, IsWeightedBelow}
-use Rattle.gf_exponents.proofs.ExponentsLaws.{same-refl}
-use Rattle.gf_exponents.proofs.OrderLaws.{weighted-order}
-use Rattle.gf_int.proofs.ListLaws.{Contains-here, all_by}
+use Rattle.gf_exponents_theory.specs.Exponents.{Exponents}
+use Rattle.gf_exponents_theory.specs.Orders.{gains, IsWeightedBelow}
+use Rattle.gf_exponents_theory.proofs.ExponentsLaws.{same-refl}
+use Rattle.gf_exponents_theory.proofs.OrderLaws.{weighted-order}
+use Rattle.gf_int_theory.proofs.ListLaws.{Contains-here, all_by}
 use Rattle.gf_poly.specs.Polynomial.{Terms, HasVariables, IsDescending}
 use Rattle.gf_poly.specs.Marking.{MarkedPolynomial, MarkedPolynomials, HaveVariables, polys, IsArranged}
 use Rattle.gf_poly.proofs.CoefficientLaws.{descending_unique}
-use Rattle.gf_ideal.specs.Membership.{IsMember, IsInVariables, AreInVariables, AreSameIdeal}
-use Rattle.gf_ideal.specs.NormalForms.{IsNormalForm}
-use Rattle.gf_ideal.specs.Bases.{IsBasis, AreArranged}
-use Rattle.gf_ideal.proofs.ArrangedLists.{arranged_equal}
-use Rattle.gf_ideal.proofs.ListLaws.{Contains-there, contained_each}
-use Rattle.gf_ideal.proofs.ListedTerms.{variables_by_terms}
-use Rattle.gf_ideal.proofs.PieceLaws.{Contains-marked}
-use Rattle.gf_ideal.proofs.LawsOfBasesHold.{membership_is_decided}
-use Rattle.gf_ideal.proofs.MembershipLaws.{member-generator, member-trans, same_ideal, variables_of_member}
-use Rattle.gf_ideal.proofs.NormalFormLaws.{normal_form-reached, normal_form-unique}
-use Rattle.gf_ideal.proofs.StepLaws.{monic-monomials}
-use Rattle.gf_ideal.proofs.UniquenessLaws.{unique_by_order}
+use Rattle.gf_ideal_theory.specs.Membership.{IsMember, IsInVariables, AreInVariables, AreSameIdeal}
+use Rattle.gf_ideal_theory.specs.NormalForms.{IsNormalForm}
+use Rattle.gf_ideal_theory.specs.Bases.{IsBasis, AreArranged}
+use Rattle.gf_ideal_theory.proofs.ArrangedLists.{arranged_equal}
+use Rattle.gf_ideal_theory.proofs.ListLaws.{Contains-there, contained_each}
+use Rattle.gf_ideal_theory.proofs.ListedTerms.{variables_by_terms}
+use Rattle.gf_ideal_theory.proofs.PieceLaws.{Contains-marked}
+use Rattle.gf_ideal_theory.proofs.LawsOfBasesHold.{membership_is_decided}
+use Rattle.gf_ideal_theory.proofs.MembershipLaws.{member-generator, member-trans, same_ideal, variables_of_member}
+use Rattle.gf_ideal_theory.proofs.NormalFormLaws.{normal_form-reached, normal_form-unique}
+use Rattle.gf_ideal_theory.proofs.StepLaws.{monic-monomials}
+use Rattle.gf_ideal_theory.proofs.UniquenessLaws.{unique_by_order}
 use Rattle.gf_division.proofs.ReducerLaws.{member_contained}
 use Rattle.gf_reduced.specs.declared.error.CheckError.{CheckError}
 use Rattle.gf_reduced.specs.declared.error.CheckError.TheVariants as check_errors
@@ -36,12 +36,12 @@ use Rattle.gf_reduced.specs.Refusals.{IsWeightRefusalBeside, IsTermsFault, IsPai
 use Rattle.gf_reduced.proofs.FormLaws.{forms-variables, is_form, form_of}
 use Rattle.gf_reduced.proofs.GroebnerLaws.{failing_refutes}
 use Rattle.gf_reduced.proofs.RefusalLaws.{no_first}
-use Rattle.gf_facets.specs.Regions.{Region, IsRegion, IsInRegion}
-use Rattle.gf_facets.specs.Facets.{IsInOpenCone, IsStrictlyMarked}
-use Rattle.gf_facets.proofs.SystemLaws.{all_positive-region, marks_of_open}
-use Rattle.gf_bases.proofs.LawsHold.{only_ideals_count}
-use Rattle.gf_reverse.specs.Upward.{IsNode, IsNodeIn, fan_of}
-use Rattle.gf_reverse.proofs.TreeLaws.{node_moved, own_fan, back_fan}
+use Rattle.gf_facets_theory.specs.Regions.{Region, IsRegion, IsInRegion}
+use Rattle.gf_facets_theory.specs.Facets.{IsInOpenCone, IsStrictlyMarked}
+use Rattle.gf_facets_theory.proofs.SystemLaws.{all_positive-region, marks_of_open}
+use Rattle.gf_bases_theory.proofs.LawsHold.{only_ideals_count}
+use Rattle.gf_reverse_theory.specs.Upward.{IsNode, IsNodeIn, fan_of}
+use Rattle.gf_reverse_theory.proofs.TreeLaws.{node_moved, own_fan, back_fan}
 use Rattle.gf_flip.specs.declared.error.TreeError.{TreeError}
 use Rattle.gf_tree.specs.Ideals.{ideal_within}
 use Rattle.gf_tree.specs.Refusals.{IsTreeRefusal}

@@ -6,7 +6,7 @@ use Rattle.std.specs.Option.{option_copied}
 use Rattle.std.proofs.Common.{refl, sym, ◌∙◌, subst, inl, inr}
 use Rattle.std.proofs.lemmas.Bool.{false≢true}
 use Rattle.gf_poly.specs.Marking.{MarkedPolynomials}
-use Rattle.gf_facets.specs.Regions.{Region}
+use Rattle.gf_facets_theory.specs.Regions.{Region}
 use Rattle.gf_weights.specs.Roots.{IsRegionOf}
 use Rattle.gf_text.specs.declared.error.TextError.{TextError}
 use Rattle.gf_front.specs.declared.refusal.Refusal.{Refusal}

@@ -8,9 +8,9 @@ use Rattle.std.proofs.Common.{arith, refl, sym, ap, ap₂, ◌∙◌, subst}
 use Rattle.std.proofs.lemmas.List.Elements.{All-nil, All-cons}
 use Rattle.gf_poly.specs.Polynomial.{Terms}
 use Rattle.gf_poly.specs.Marking.{MarkedPolynomials}
-use Rattle.gf_facets.specs.Regions.{Region}
-use Rattle.gf_reverse.specs.Upward.{Fan, IsNode, IsNodeIn, fan_of}
-use Rattle.gf_reverse.proofs.TreeLaws.{count}
+use Rattle.gf_facets_theory.specs.Regions.{Region}
+use Rattle.gf_reverse_theory.specs.Upward.{Fan, IsNode, IsNodeIn, fan_of}
+use Rattle.gf_reverse_theory.proofs.TreeLaws.{count}
 use Rattle.gf_tree.specs.Ideals.{ideal_within}
 use Rattle.gf_subtree.specs.Rows.{Row, AreLeftIn, ideal_in, row_left_at_most}
 use Rattle.gf_subtree.specs.Answers.{IsSameList, IsNextRow, IsRowEnd, IsRowKept}

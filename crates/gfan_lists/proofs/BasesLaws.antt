@@ -12,24 +12,24 @@ use Rattle.gf_poly.specs.Polynomial.{Terms}
 use Rattle.gf_poly.specs.Marking.{MarkedPolynomials}
 use Rattle.gf_text.specs.declared.written.Written.{Written}
 use Rattle.gf_text.specs.Sets.{AreIn}
-use Rattle.gf_ideal.specs.Membership.{AreInVariables}
+use Rattle.gf_ideal_theory.specs.Membership.{AreInVariables}
 use Rattle.gf_buchberger.specs.declared.bases.BasisError.{BasisError}
 use Rattle.gf_buchberger.specs.declared.bases.BasisError.TheVariants as basis_errors
 use Rattle.gf_buchberger.proofs.JobLaws.{ring_variables}
-use Rattle.gf_walk.specs.Listing.{Among}
-use Rattle.gf_walk.specs.Whole.{IsFinite}
-use Rattle.gf_facets.specs.Regions.{Region, all_positive}
-use Rattle.gf_facets.specs.LexPositive.{IsBefore}
-use Rattle.gf_reverse.specs.Upward.{IsNode, IsNodeIn, IsParent, fan_of}
-use Rattle.gf_reverse.proofs.TreeLaws.{SameFan, count, upward_finite, node_moved, own_fan, back_fan}
-use Rattle.gf_reverse.proofs.ListLaws.{own}
+use Rattle.gf_reverse_search.specs.Listing.{Among}
+use Rattle.gf_reverse_search.specs.Whole.{IsFinite}
+use Rattle.gf_facets_theory.specs.Regions.{Region, all_positive}
+use Rattle.gf_facets_theory.specs.LexPositive.{IsBefore}
+use Rattle.gf_reverse_theory.specs.Upward.{IsNode, IsNodeIn, IsParent, fan_of}
+use Rattle.gf_reverse_theory.proofs.TreeLaws.{SameFan, count, upward_finite, node_moved, own_fan, back_fan}
+use Rattle.gf_reverse_theory.proofs.ListLaws.{own}
 use Rattle.gf_flip.specs.declared.error.TreeError.{TreeError}
 use Rattle.gf_flip.specs.declared.error.TreeError.TheVariants as tree_errors
 use Rattle.gf_tree.specs.Ideals.{ideal_within}
 use Rattle.gf_tree.specs.Parents.{IsRootFor}
 use Rattle.gf_tree.specs.Steps.{IsResumed}
 use Rattle.gf_tree.specs.Walks.{Walk, AreLeft}
-use Rattle.gf_reverse.proofs.LawsHold.{bases_make_a_tree}
+use Rattle.gf_reverse_theory.proofs.LawsHold.{bases_make_a_tree}
 use Rattle.gf_subtree.specs.Rows.{Row, ideal_in, AreLeftIn, first_row}
 use Rattle.gf_subtree.specs.Answers.{IsNextRow, IsRowEnd, IsRefusedEarly, IsResumedAs}
 use Rattle.gf_subtree.proofs.BasisRowLaws.{start_leaves, early_moved}

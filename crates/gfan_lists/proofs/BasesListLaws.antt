@@ -5,44 +5,44 @@
 use Rattle.std.specs.Prelude.{◌≡◌, ◌⊎◌, ℕ, zero, suc, ◌≤◌, Bool, true, List, [], ◌∷◌, ◌++◌, length, replicate, Contains, All, ℤ, pos, ◌<ℤ◌}
 use Rattle.std.proofs.Common.{arith, refl, sym, ap, ◌∙◌, subst, inl, inr}
 use Rattle.std.proofs.lemmas.List.Elements.{All-nil}
-use Rattle.gf_exponents.specs.Exponents.{Exponents, entry, same, degree, weight, IsInRing}
-use Rattle.gf_exponents.specs.Orders.{gains, IsDeglexBelow, IsWeightedBelow, IsTermOrder}
-use Rattle.gf_exponents.proofs.OrderLaws.{deglex-order}
+use Rattle.gf_exponents_theory.specs.Exponents.{Exponents, entry, same, degree, weight, IsInRing}
+use Rattle.gf_exponents_theory.specs.Orders.{gains, IsDeglexBelow, IsWeightedBelow, IsTermOrder}
+use Rattle.gf_exponents_theory.proofs.OrderLaws.{deglex-order}
 use Rattle.gf_poly.specs.Polynomial.{Terms}
 use Rattle.gf_poly.specs.Marking.{MarkedPolynomial, MarkedPolynomials, polys}
-use Rattle.gf_ideal.specs.Membership.{HasMonomial, AreInVariables, AreSameIdeal}
-use Rattle.gf_ideal.specs.Marks.{AreMarked}
-use Rattle.gf_ideal.specs.MonomialOrders.{MonomialOrder}
-use Rattle.gf_ideal.specs.Bases.{IsReducedBasis, IsReducedBasisFor, AreArranged}
-use Rattle.gf_ideal.proofs.LawsHold.{marks_have_weights}
-use Rattle.gf_ideal.proofs.MembershipLaws.{variables_of_member, member-generator}
-use Rattle.gf_ideal.proofs.PieceLaws.{Contains-polys}
-use Rattle.gf_walk.specs.declared.mark.Mark.TheVariants.{Before}
-use Rattle.gf_walk.specs.Path.{IsRoot}
-use Rattle.gf_walk.specs.Listing.{Among, Leaves}
-use Rattle.gf_walk.specs.Whole.{IsWholeList}
-use Rattle.gf_walk.proofs.FinitenessLaws.{no_loop-rank, whole_below}
-use Rattle.gf_facets.specs.Regions.{Region, IsRegion, IsInRegion, all_positive}
-use Rattle.gf_facets.specs.LexPositive.{IsBefore}
-use Rattle.gf_facets.specs.Facets.{IsInClosedCone}
-use Rattle.gf_facets.specs.InitialIdeals.{IsMonomialAt}
-use Rattle.gf_facets.specs.MarkedBases.{IsMarkedReducedBasis, IsBasisInRegion}
-use Rattle.gf_facets.proofs.RegionLaws.{region-positive}
-use Rattle.gf_facets.proofs.SystemLaws.{all_positive-region}
-use Rattle.gf_facets.proofs.VectorOrder.{before_strict}
-use Rattle.gf_ideal.proofs.ArrangedLists.{arranged_equal}
-use Rattle.gf_ideal.proofs.UniquenessLaws.{unique_by_weight}
-use Rattle.gf_ideal.proofs.RingLaws.{in_ring_of}
-use Rattle.gf_bases.proofs.LawsHold.{of_reduced, marked_bases_are_reduced, only_ideals_count, weights_have_bases}
-use Rattle.gf_initial.proofs.LawsHold.{monomial_ideals_are_of_bases}
-use Rattle.gf_reverse.specs.Upward.{IsNodeIn, fan_of, IsNode, IsParent}
-use Rattle.gf_reverse.specs.Lists.{IsListOfBases}
-use Rattle.gf_reverse.proofs.TreeLaws.{SameFan, rank, upward_tree, upward_falls, node_moved, own_fan, back_fan}
-use Rattle.gf_reverse.proofs.ListLaws.{own, list_of_bases}
-use Rattle.gf_reverse.proofs.StartLaws.{basis_is_node}
-use Rattle.gf_reverse.specs.TermOrders.{below_by}
-use Rattle.gf_reverse.proofs.TermOrderLaws.{term_orders_have_bases}
-use Rattle.gf_reverse.proofs.LawsHold.{bases_make_a_tree}
+use Rattle.gf_ideal_theory.specs.Membership.{HasMonomial, AreInVariables, AreSameIdeal}
+use Rattle.gf_ideal_theory.specs.Marks.{AreMarked}
+use Rattle.gf_ideal_theory.specs.MonomialOrders.{MonomialOrder}
+use Rattle.gf_ideal_theory.specs.Bases.{IsReducedBasis, IsReducedBasisFor, AreArranged}
+use Rattle.gf_ideal_theory.proofs.LawsHold.{marks_have_weights}
+use Rattle.gf_ideal_theory.proofs.MembershipLaws.{variables_of_member, member-generator}
+use Rattle.gf_ideal_theory.proofs.PieceLaws.{Contains-polys}
+use Rattle.gf_reverse_search.specs.declared.mark.Mark.TheVariants.{Before}
+use Rattle.gf_reverse_search.specs.Path.{IsRoot}
+use Rattle.gf_reverse_search.specs.Listing.{Among, Leaves}
+use Rattle.gf_reverse_search.specs.Whole.{IsWholeList}
+use Rattle.gf_reverse_search.proofs.FinitenessLaws.{no_loop-rank, whole_below}
+use Rattle.gf_facets_theory.specs.Regions.{Region, IsRegion, IsInRegion, all_positive}
+use Rattle.gf_facets_theory.specs.LexPositive.{IsBefore}
+use Rattle.gf_facets_theory.specs.Facets.{IsInClosedCone}
+use Rattle.gf_facets_theory.specs.InitialIdeals.{IsMonomialAt}
+use Rattle.gf_facets_theory.specs.MarkedBases.{IsMarkedReducedBasis, IsBasisInRegion}
+use Rattle.gf_facets_theory.proofs.RegionLaws.{region-positive}
+use Rattle.gf_facets_theory.proofs.SystemLaws.{all_positive-region}
+use Rattle.gf_facets_theory.proofs.VectorOrder.{before_strict}
+use Rattle.gf_ideal_theory.proofs.ArrangedLists.{arranged_equal}
+use Rattle.gf_ideal_theory.proofs.UniquenessLaws.{unique_by_weight}
+use Rattle.gf_ideal_theory.proofs.RingLaws.{in_ring_of}
+use Rattle.gf_bases_theory.proofs.LawsHold.{of_reduced, marked_bases_are_reduced, only_ideals_count, weights_have_bases}
+use Rattle.gf_initial_theory.proofs.LawsHold.{monomial_ideals_are_of_bases}
+use Rattle.gf_reverse_theory.specs.Upward.{IsNodeIn, fan_of, IsNode, IsParent}
+use Rattle.gf_reverse_theory.specs.Lists.{IsListOfBases}
+use Rattle.gf_reverse_theory.proofs.TreeLaws.{SameFan, rank, upward_tree, upward_falls, node_moved, own_fan, back_fan}
+use Rattle.gf_reverse_theory.proofs.ListLaws.{own, list_of_bases}
+use Rattle.gf_reverse_theory.proofs.StartLaws.{basis_is_node}
+use Rattle.gf_reverse_theory.specs.TermOrders.{below_by}
+use Rattle.gf_reverse_theory.proofs.TermOrderLaws.{term_orders_have_bases}
+use Rattle.gf_reverse_theory.proofs.LawsHold.{bases_make_a_tree}
 use Rattle.gf_tree.specs.Ideals.{ideal_by, ideal_within}
 use Rattle.gf_tree.specs.Parents.{IsRootFor}
 use Rattle.gfan_lists.specs.BasesList.{IsGivenIn, IsGivenByWeight, AreAllBasesIn, AreAllBases, WeightsAreServed, RegionsAreServed}

@@ -6,12 +6,12 @@ use Rattle.std.proofs.Common.{refl, sym, ap, ap₂, ◌∙◌, subst, inl, inr}
 use Rattle.gf_poly.specs.Polynomial.{Terms}
 use Rattle.gf_poly.specs.Marking.{MarkedPolynomials}
 use Rattle.gf_text.specs.PrintedSets.{basis_text}
-use Rattle.gf_facets.specs.Regions.{Region}
-use Rattle.gf_facets.specs.MarkedBases.{AreCanonical}
+use Rattle.gf_facets_theory.specs.Regions.{Region}
+use Rattle.gf_facets_theory.specs.MarkedBases.{AreCanonical}
 use Rattle.gf_weights.specs.declared.certificates.FacetWitness.{FacetWitness}
 use Rattle.gf_weights.proofs.UniqueLaws.{one_weight, one_facets}
 use Rattle.gf_weights.proofs.WitnessesExist.{weight_exists, facets_exist}
-use Rattle.gf_walk.specs.Listing.{Among}
+use Rattle.gf_reverse_search.specs.Listing.{Among}
 use Rattle.gfan_lists.specs.BasesList.{IsGivenIn}
 use Rattle.gfan_lists.specs.Certificates.{certificates_text, IsCertificatesTextIn, IsItemTextIn}
 use Rattle.gfan_lists.specs.Bases.{AreItemTextsIn}

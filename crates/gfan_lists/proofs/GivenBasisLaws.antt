@@ -9,18 +9,18 @@ use Rattle.std.proofs.Common.{refl, sym, ap, ◌∙◌, subst, inl, inr}
 use Rattle.std.proofs.lemmas.List.Sorted.{Contains-permutation, IsPermutation-sym}
 use Rattle.gf_frac.specs.Fraction.{◌*ℚ◌}
 use Rattle.gf_frac.proofs.FractionLaws.{one-*ℚ}
-use Rattle.gf_exponents.specs.Orders.{lighter}
-use Rattle.gf_exponents.proofs.ExponentsLaws.{same-refl}
-use Rattle.gf_int.proofs.ListLaws.{Contains-here}
+use Rattle.gf_exponents_theory.specs.Orders.{lighter}
+use Rattle.gf_exponents_theory.proofs.ExponentsLaws.{same-refl}
+use Rattle.gf_int_theory.proofs.ListLaws.{Contains-here}
 use Rattle.gf_poly.specs.Polynomial.{coefficient}
 use Rattle.gf_poly.specs.Marking.{MarkedPolynomial, MarkedPolynomials, HaveVariables, polys, IsArranged}
-use Rattle.gf_ideal.specs.Membership.{AreInVariables}
-use Rattle.gf_ideal.specs.Marks.{AreMarked, IsRealisedBy, IsRealisable}
-use Rattle.gf_ideal.specs.Reduction.{AreMonicForms}
-use Rattle.gf_ideal.specs.Bases.{IsBasis, IsReducedBasis, AreArranged}
-use Rattle.gf_ideal.proofs.ListLaws.{Contains-there}
-use Rattle.gf_ideal.proofs.MarkWeights.{mark-there}
-use Rattle.gf_ideal.proofs.BasisLaws.{basis_along}
+use Rattle.gf_ideal_theory.specs.Membership.{AreInVariables}
+use Rattle.gf_ideal_theory.specs.Marks.{AreMarked, IsRealisedBy, IsRealisable}
+use Rattle.gf_ideal_theory.specs.Reduction.{AreMonicForms}
+use Rattle.gf_ideal_theory.specs.Bases.{IsBasis, IsReducedBasis, AreArranged}
+use Rattle.gf_ideal_theory.proofs.ListLaws.{Contains-there}
+use Rattle.gf_ideal_theory.proofs.MarkWeights.{mark-there}
+use Rattle.gf_ideal_theory.proofs.BasisLaws.{basis_along}
 use Rattle.gf_poly.specs.declared.error.PolyError.{PolyError}
 use Rattle.gf_poly.specs.declared.error.PolyError.TheVariants as errors
 use Rattle.gf_division.specs.Autoreduction.{IsAutoreduced, IsReducedOf, IsAutoreductionRefusal}
@@ -31,13 +31,13 @@ use Rattle.gf_reduced.specs.Refusals.{of_poly, AreChecksWithinLimits}
 use Rattle.gf_reduced.proofs.FormLaws.{forms_marked_by}
 use Rattle.gf_reduced.proofs.GroebnerLaws.{polys_variables}
 use Rattle.gf_reduced.proofs.RefusalLaws.{basis_only_memory}
-use Rattle.gf_facets.specs.Regions.{all_positive}
-use Rattle.gf_facets.proofs.SystemLaws.{all_positive-region}
-use Rattle.gf_bases.proofs.FiniteLaws.{basis_everywhere}
-use Rattle.gf_bases.proofs.LawsHold.{of_reduced}
-use Rattle.gf_reverse.specs.Upward.{IsNode, IsNodeIn, fan_of}
-use Rattle.gf_reverse.proofs.TreeLaws.{own_fan, back_fan}
-use Rattle.gf_reverse.proofs.ListLaws.{own}
+use Rattle.gf_facets_theory.specs.Regions.{all_positive}
+use Rattle.gf_facets_theory.proofs.SystemLaws.{all_positive-region}
+use Rattle.gf_bases_theory.proofs.FiniteLaws.{basis_everywhere}
+use Rattle.gf_bases_theory.proofs.LawsHold.{of_reduced}
+use Rattle.gf_reverse_theory.specs.Upward.{IsNode, IsNodeIn, fan_of}
+use Rattle.gf_reverse_theory.proofs.TreeLaws.{own_fan, back_fan}
+use Rattle.gf_reverse_theory.proofs.ListLaws.{own}
 use Rattle.gf_flip.specs.declared.error.TreeError.{TreeError}
 use Rattle.gf_flip.specs.declared.error.TreeError.TheVariants as tree_errors
 use Rattle.gf_tree.specs.Ideals.{ideal_by}

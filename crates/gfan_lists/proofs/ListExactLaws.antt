@@ -2,11 +2,11 @@
 -- To cite: bases_exact, given_exact, given_tested; going_work, going_within_in, going_untested_in, list_untested. The rest are steps.
 use Rattle.std.specs.Prelude.{◌≡◌, ℕ, ◌<◌, false, List, [], ◌∷◌, length, Err, Option, None, Some}
 use Rattle.std.proofs.Common.{arith, refl, sym, ap, ◌∙◌, subst, inl}
-use Rattle.gf_exponents.specs.SixOrders.{MonomialOrder}
+use Rattle.gf_exponents_theory.specs.SixOrders.{MonomialOrder}
 use Rattle.gf_poly.specs.Polynomial.{Terms}
 use Rattle.gf_poly.specs.Marking.{MarkedPolynomials, polys}
 use Rattle.gf_buchberger.proofs.BasesOfRuns.{if_within}
-use Rattle.gf_facets.specs.Regions.{Region, all_positive}
+use Rattle.gf_facets_theory.specs.Regions.{Region, all_positive}
 use Rattle.gf_tree.specs.Ideals.{ideal_by, ideal_within}
 use Rattle.gf_tree.specs.Refusals.{IsTreeWithinLimits}
 use Rattle.gf_tree.proofs.RefusalLaws.{within_memory}

@@ -3,21 +3,21 @@
 use Rattle.std.proofs.Common.{◌≡◌, ℕ, List, [], refl}
 use Rattle.gf_poly.specs.Polynomial.{Terms}
 use Rattle.gf_poly.specs.Marking.{MarkedPolynomial, MarkedPolynomials}
-use Rattle.gf_exponents.specs.Orders.{IsDeglexBelow}
-use Rattle.gf_ideal.specs.Membership.{AreInVariables}
-use Rattle.gf_ideal.specs.MonomialOrders.{MonomialOrder}
-use Rattle.gf_ideal.specs.Bases.{IsReducedBasisFor}
-use Rattle.gf_bases.proofs.ExistenceLaws.{homogeneous_in_ring}
-use Rattle.gf_bases.proofs.LawsHold.{reduced_bases_exist}
-use Rattle.gf_walk.specs.Whole.{IsFinite}
-use Rattle.gf_facets.specs.Regions.{Region, IsRegion, all_positive}
-use Rattle.gf_facets.proofs.SystemLaws.{all_positive-region}
-use Rattle.gf_facets.specs.LexPositive.{IsBefore}
-use Rattle.gf_facets.specs.MarkedBases.{IsMarkedReducedBasis}
-use Rattle.gf_reverse.specs.Upward.{IsParent}
-use Rattle.gf_reverse.specs.Lists.{IsListFor}
-use Rattle.gf_reverse.proofs.TreeLaws.{count, upward_finite}
-use Rattle.gf_reverse.proofs.LawsHold.{ideals_have_one_list}
+use Rattle.gf_exponents_theory.specs.Orders.{IsDeglexBelow}
+use Rattle.gf_ideal_theory.specs.Membership.{AreInVariables}
+use Rattle.gf_ideal_theory.specs.MonomialOrders.{MonomialOrder}
+use Rattle.gf_ideal_theory.specs.Bases.{IsReducedBasisFor}
+use Rattle.gf_bases_theory.proofs.ExistenceLaws.{homogeneous_in_ring}
+use Rattle.gf_bases_theory.proofs.LawsHold.{reduced_bases_exist}
+use Rattle.gf_reverse_search.specs.Whole.{IsFinite}
+use Rattle.gf_facets_theory.specs.Regions.{Region, IsRegion, all_positive}
+use Rattle.gf_facets_theory.proofs.SystemLaws.{all_positive-region}
+use Rattle.gf_facets_theory.specs.LexPositive.{IsBefore}
+use Rattle.gf_facets_theory.specs.MarkedBases.{IsMarkedReducedBasis}
+use Rattle.gf_reverse_theory.specs.Upward.{IsParent}
+use Rattle.gf_reverse_theory.specs.Lists.{IsListFor}
+use Rattle.gf_reverse_theory.proofs.TreeLaws.{count, upward_finite}
+use Rattle.gf_reverse_theory.proofs.LawsHold.{ideals_have_one_list}
 use Rattle.gf_tree.specs.Ideals.{ideal_within}
 use Rattle.gfan_lists.specs.BasesList.{AreAllBasesIn, AreAllBases}
 use Rattle.gfan_lists.proofs.BasesListLaws.{given_in_node, node_given_in, first_node, first_own, all_bases_from}

@@ -3,8 +3,8 @@
 use Rattle.std.specs.Prelude.{◌≡◌, List, [], ◌∷◌, ◌++◌, length}
 use Rattle.std.proofs.Common.{refl, sym, ap, ◌∙◌, subst, inl, append_assoc}
 use Rattle.gf_poly.specs.Marking.{MarkedPolynomials}
-use Rattle.gf_walk.specs.Listing.{Among}
-use Rattle.gf_walk.specs.Whole.{EachOnce}
+use Rattle.gf_reverse_search.specs.Listing.{Among}
+use Rattle.gf_reverse_search.specs.Whole.{EachOnce}
 use Rattle.gfan_lists.specs.BasesList.{AreAllBasesIn}
 use Rattle.gfan_lists.specs.Bases.{AreItemTextsIn}
 use Rattle.gfan_lists.specs.Certificates.{IsItemTextIn}

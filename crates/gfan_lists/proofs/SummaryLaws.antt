@@ -12,19 +12,19 @@ use Rattle.gf_vec.specs.Steps.{sum_steps, NoneWide, IsFirstWide}
 use Rattle.gf_vec.specs.declared.error.WideVector.{WideVector}
 use Rattle.gf_poly.specs.Polynomial.{Terms}
 use Rattle.gf_poly.specs.Marking.{MarkedPolynomial, MarkedPolynomials, polys}
-use Rattle.gf_ideal.specs.Membership.{AreInVariables}
-use Rattle.gf_duality.proofs.RaySums.{sum_long}
+use Rattle.gf_ideal_theory.specs.Membership.{AreInVariables}
+use Rattle.gf_duality_theory.proofs.RaySums.{sum_long}
 use Rattle.std.proofs.lemmas.List.Elements.{All-contains}
 use Rattle.gf_rays.specs.Sums.{adding_steps}
 use Rattle.gf_rays.proofs.SumLaws.{none_append, none_left, none_right, first_before, first_after}
 use Rattle.gf_vec.proofs.VectorLaws.{length-plus}
 use Rattle.gf_buchberger.specs.Jobs.{HaveRingVariables}
 use Rattle.gf_buchberger.proofs.JobLaws.{ring_variables}
-use Rattle.gf_walk.specs.Whole.{IsFinite}
-use Rattle.gf_facets.specs.Regions.{Region, all_positive}
-use Rattle.gf_facets.specs.LexPositive.{IsBefore}
-use Rattle.gf_reverse.specs.Upward.{IsNode, IsNodeIn, IsParent, fan_of}
-use Rattle.gf_reverse.proofs.TreeLaws.{SameFan, count, upward_finite, node_moved, own_fan, back_fan}
+use Rattle.gf_reverse_search.specs.Whole.{IsFinite}
+use Rattle.gf_facets_theory.specs.Regions.{Region, all_positive}
+use Rattle.gf_facets_theory.specs.LexPositive.{IsBefore}
+use Rattle.gf_reverse_theory.specs.Upward.{IsNode, IsNodeIn, IsParent, fan_of}
+use Rattle.gf_reverse_theory.proofs.TreeLaws.{SameFan, count, upward_finite, node_moved, own_fan, back_fan}
 use Rattle.gf_flip.specs.declared.error.TreeError.{TreeError}
 use Rattle.gf_tree.specs.Ideals.{ideal_by}
 use Rattle.gf_subtree.specs.Rows.{Row, ideal_in, AreLeftIn, first_row}

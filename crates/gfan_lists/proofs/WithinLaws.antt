@@ -7,19 +7,19 @@
 -- given_within_done, given_within_cut. The rest are steps.
 use Rattle.std.specs.Prelude.{◌≡◌, ◌⊎◌, ℕ, false, List, [], ◌∷◌, length, Option, Some, None, Err, ℤ}
 use Rattle.std.proofs.Common.{refl, sym, ap, ◌∙◌, subst, inl, inr}
-use Rattle.gf_exponents.specs.Orders.{gains}
-use Rattle.gf_exponents.specs.SixOrders.{MonomialOrder}
+use Rattle.gf_exponents_theory.specs.Orders.{gains}
+use Rattle.gf_exponents_theory.specs.SixOrders.{MonomialOrder}
 use Rattle.gf_poly.specs.Polynomial.{Terms}
 use Rattle.gf_poly.specs.Marking.{MarkedPolynomials, HaveVariables, polys}
-use Rattle.gf_ideal.specs.Membership.{AreInVariables}
+use Rattle.gf_ideal_theory.specs.Membership.{AreInVariables}
 use Rattle.gf_buchberger.specs.Bases.{IsArrangedBasis}
 use Rattle.gf_buchberger.proofs.BasesOfRuns.{if_within}
 use Rattle.gf_gordan.specs.Alternative.{AreRows}
 use Rattle.gf_reduced.specs.Markings.{IsMarkedGroebnerBasis}
 use Rattle.gf_reduced.proofs.GroebnerLaws.{polys_variables}
-use Rattle.gf_facets.specs.Regions.{Region}
-use Rattle.gf_bases.proofs.LawsHold.{only_ideals_count}
-use Rattle.gf_reverse.specs.Upward.{IsNodeIn}
+use Rattle.gf_facets_theory.specs.Regions.{Region}
+use Rattle.gf_bases_theory.proofs.LawsHold.{only_ideals_count}
+use Rattle.gf_reverse_theory.specs.Upward.{IsNodeIn}
 use Rattle.gf_tree.specs.Ideals.{ideal_by, ideal_within}
 use Rattle.gf_weights.specs.declared.region.RegionError.{RegionError}
 use Rattle.gf_weights.specs.declared.region.RegionError.TheVariants as region_errors

@@ -2,21 +2,21 @@
 -- Laws: proofs/BasesListLaws.antt.
 -- Source: Fukuda, Jensen, Thomas, Computing Gröbner fans, 2 and 3; Avis and Fukuda, Reverse Search for Enumeration.
 use Rattle.std.specs.Prelude.{◌≡◌, ◌↔◌, ℕ, Bool, List, length, All, ℤ, pos, ◌<ℤ◌}
-use Rattle.gf_exponents.specs.Exponents.{Exponents}
-use Rattle.gf_exponents.specs.Orders.{gains, IsWeightedBelow, IsTermOrder}
+use Rattle.gf_exponents_theory.specs.Exponents.{Exponents}
+use Rattle.gf_exponents_theory.specs.Orders.{gains, IsWeightedBelow, IsTermOrder}
 use Rattle.gf_poly.specs.Polynomial.{Terms}
 use Rattle.gf_poly.specs.Marking.{MarkedPolynomials}
-use Rattle.gf_ideal.specs.Membership.{AreInVariables}
-use Rattle.gf_ideal.specs.Bases.{IsReducedBasis, IsReducedBasisFor, AreArranged}
-use Rattle.gf_walk.specs.Path.{IsRoot}
-use Rattle.gf_walk.specs.Listing.{Among, Rises, LeadTo}
-use Rattle.gf_walk.specs.Whole.{EachOnce}
-use Rattle.gf_facets.specs.Regions.{Region, IsRegion, IsInRegion, all_positive}
-use Rattle.gf_facets.specs.LexPositive.{IsBefore}
-use Rattle.gf_facets.specs.Facets.{IsInClosedCone}
-use Rattle.gf_facets.specs.InitialIdeals.{IsMonomialAt}
-use Rattle.gf_reverse.specs.Upward.{IsParent}
-use Rattle.gf_reverse.specs.TermOrders.{below_by}
+use Rattle.gf_ideal_theory.specs.Membership.{AreInVariables}
+use Rattle.gf_ideal_theory.specs.Bases.{IsReducedBasis, IsReducedBasisFor, AreArranged}
+use Rattle.gf_reverse_search.specs.Path.{IsRoot}
+use Rattle.gf_reverse_search.specs.Listing.{Among, Rises, LeadTo}
+use Rattle.gf_reverse_search.specs.Whole.{EachOnce}
+use Rattle.gf_facets_theory.specs.Regions.{Region, IsRegion, IsInRegion, all_positive}
+use Rattle.gf_facets_theory.specs.LexPositive.{IsBefore}
+use Rattle.gf_facets_theory.specs.Facets.{IsInClosedCone}
+use Rattle.gf_facets_theory.specs.InitialIdeals.{IsMonomialAt}
+use Rattle.gf_reverse_theory.specs.Upward.{IsParent}
+use Rattle.gf_reverse_theory.specs.TermOrders.{below_by}
 
 -- some weight of the region gives the basis: for this weight x is the reduced Gröbner basis of the ideal of fs in n variables, arranged
 pub record IsGivenIn (n : ℕ) (k : Region) (fs : List Terms) (x : MarkedPolynomials) : Type 0 where

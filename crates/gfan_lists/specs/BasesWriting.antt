@@ -3,17 +3,17 @@ use Rattle.std.specs.Prelude.{◌≡◌, ◌⊎◌, ℕ, ◌+◌, Bool, true, fa
 use Rattle.std.specs.Io.KnownBytes.{Appends, Keeps}
 use Rattle.gf_outside.specs.Faults.{Rose}
 use Rattle.gf_outside.specs.Moved.{AppendsPrefix}
-use Rattle.gf_exponents.specs.SixOrders.{MonomialOrder}
+use Rattle.gf_exponents_theory.specs.SixOrders.{MonomialOrder}
 use Rattle.gf_poly.specs.Polynomial.{Terms}
 use Rattle.gf_poly.specs.Marking.{MarkedPolynomials}
 use Rattle.gf_text.specs.RingText.{ring_text}
-use Rattle.gf_ideal.specs.Membership.{AreInVariables}
+use Rattle.gf_ideal_theory.specs.Membership.{AreInVariables}
 use Rattle.gf_buchberger.specs.declared.bases.BasisError.{BasisError}
 use Rattle.gf_buchberger.specs.Bases.{IsArrangedBasis, IsBasisRefusal}
-use Rattle.gf_exponents.specs.Orders.{gains, IsWeightedBelow}
-use Rattle.gf_ideal.specs.Bases.{IsReducedBasisFor}
-use Rattle.gf_reverse.specs.Upward.{IsNodeIn}
-use Rattle.gf_facets.specs.Regions.{Region}
+use Rattle.gf_exponents_theory.specs.Orders.{gains, IsWeightedBelow}
+use Rattle.gf_ideal_theory.specs.Bases.{IsReducedBasisFor}
+use Rattle.gf_reverse_theory.specs.Upward.{IsNodeIn}
+use Rattle.gf_facets_theory.specs.Regions.{Region}
 use Rattle.gf_tree.specs.Ideals.{ideal_within}
 use Rattle.gf_subtree.specs.Rows.{Row, AreLeftIn}
 use Rattle.gf_front.specs.declared.refusal.Refusal.{Refusal}

@@ -7,7 +7,7 @@ use Rattle.gf_text.specs.PrintedSets.{basis_text}
 use Rattle.gf_text.specs.VectorText.{vector_text}
 use Rattle.gf_weights.specs.declared.certificates.FacetWitness.{FacetWitness}
 use Rattle.gf_weights.specs.declared.error.WeightError.{WeightError}
-use Rattle.gf_facets.specs.Regions.{Region}
+use Rattle.gf_facets_theory.specs.Regions.{Region}
 use Rattle.gf_weights.specs.Weights.{IsWeightIn, AreWitnessedIn}
 use Rattle.gf_weights.specs.Refusals.{IsCertificateCauseIn}
 use Rattle.gf_front.specs.declared.refusal.Refusal.{Refusal}

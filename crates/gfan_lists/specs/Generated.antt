@@ -1,7 +1,7 @@
 -- `_generated`: its output for the ideal with a number, and why it is refused.
 use Rattle.std.specs.Prelude.{◌≡◌, ℕ, ◌<◌, ◌≤◌, nat_le, min, Bool, true, false, List, [], ◌∷◌, ◌++◌, length, take, map, Some, codes, ℤ}
 use Rattle.std.specs.List.{AllZip, concat}
-use Rattle.gf_exponents.specs.SixOrders.{MonomialOrder}
+use Rattle.gf_exponents_theory.specs.SixOrders.{MonomialOrder}
 use Rattle.gf_vec.specs.Vector.{zeros, vector_sum}
 use Rattle.gf_vec.specs.Steps.{IsFirstWide}
 use Rattle.gf_vec.specs.declared.error.WideVector.{WideVector}

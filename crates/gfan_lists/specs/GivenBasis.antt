@@ -3,14 +3,14 @@ use Rattle.std.specs.Prelude.{◌≡◌, ℕ, List, [], length, ◌∷◌, Conta
 use Rattle.gf_poly.specs.declared.error.PolyError.{PolyError}
 use Rattle.gf_poly.specs.declared.error.PolyError.TheVariants as errors
 use Rattle.gf_poly.specs.Marking.{MarkedPolynomial, MarkedPolynomials, HaveVariables, polys, IsArranged}
-use Rattle.gf_ideal.specs.Marks.{IsRealisedBy}
-use Rattle.gf_ideal.specs.Bases.{IsReducedBasis}
+use Rattle.gf_ideal_theory.specs.Marks.{IsRealisedBy}
+use Rattle.gf_ideal_theory.specs.Bases.{IsReducedBasis}
 use Rattle.gf_division.specs.Autoreduction.{IsAutoreductionRefusal}
 use Rattle.gf_reduced.specs.declared.error.CheckError.{CheckError}
 use Rattle.gf_reduced.specs.Forms.{monic_set}
 use Rattle.gf_reduced.specs.Markings.{IsMarkedGroebnerBasis}
 use Rattle.gf_reduced.specs.Refusals.{of_poly, IsReducedBasisRefusal, AreChecksWithinLimits}
-use Rattle.gf_facets.specs.Regions.{all_positive}
+use Rattle.gf_facets_theory.specs.Regions.{all_positive}
 use Rattle.gf_flip.specs.declared.error.TreeError.{TreeError}
 use Rattle.gf_flip.specs.declared.error.TreeError.TheVariants as tree_errors
 use Rattle.gf_tree.specs.Ideals.{ideal_by}

@@ -2,8 +2,8 @@
 use Rattle.std.specs.Prelude.{◌≡◌, ℕ, Bool, List, [], ◌∷◌, ◌++◌, length, Option, None}
 use Rattle.gf_poly.specs.Polynomial.{Terms}
 use Rattle.gf_poly.specs.Marking.{MarkedPolynomials}
-use Rattle.gf_ideal.specs.Membership.{AreInVariables}
-use Rattle.gf_facets.specs.Regions.{Region, IsRegion}
+use Rattle.gf_ideal_theory.specs.Membership.{AreInVariables}
+use Rattle.gf_facets_theory.specs.Regions.{Region, IsRegion}
 use Rattle.gfan_lists.specs.Bases.{begun_text, list_text, IsTextBehind, IsBegunListBehind}
 
 -- One run writes the bases up to b, after some earlier ones or from the first one on, and another one writes what follows b. Then the bases

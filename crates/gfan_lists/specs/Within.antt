@@ -1,7 +1,7 @@
 -- `_bases --within`: the vectors of a file cut a region out of the positive weights. Its output, and why it is refused.
 use Rattle.std.specs.Prelude.{◌≡◌, ◌⊎◌, ℕ, false, List, [], ◌∷◌, length, Option, ℤ}
-use Rattle.gf_exponents.specs.Orders.{gains}
-use Rattle.gf_exponents.specs.SixOrders.{MonomialOrder}
+use Rattle.gf_exponents_theory.specs.Orders.{gains}
+use Rattle.gf_exponents_theory.specs.SixOrders.{MonomialOrder}
 use Rattle.gf_poly.specs.declared.error.PolyError.{PolyError}
 use Rattle.gf_poly.specs.declared.error.PolyError.TheVariants as errors
 use Rattle.gf_poly.specs.Polynomial.{Terms}
@@ -13,7 +13,7 @@ use Rattle.gf_reduced.specs.Forms.{monic_set}
 use Rattle.gf_reduced.specs.Markings.{IsMarkedGroebnerBasis}
 use Rattle.gf_reduced.specs.Refusals.{AreChecksWithinLimits}
 use Rattle.gf_gordan.specs.Alternative.{AreRows}
-use Rattle.gf_facets.specs.Regions.{Region}
+use Rattle.gf_facets_theory.specs.Regions.{Region}
 use Rattle.gf_weights.specs.declared.region.RegionError.{RegionError}
 use Rattle.gf_weights.specs.declared.region.RegionError.TheVariants as region_errors
 use Rattle.gf_weights.specs.Roots.{IsRegionOf, IsRegionRefusal, IsRegionWithinLimits}

@@ -3,11 +3,11 @@ ghost use Rattle.std.specs.Prelude.{◌≡◌, ◌⊎◌, ◌≤◌, ◌∷◌, 
 ghost use Rattle.std.specs.Option.{option_copied};
 ghost use Rattle.gf_poly.specs.Polynomial.{Terms, HasVariables};
 ghost use Rattle.gf_poly.specs.Marking.{MarkedPolynomials, polys};
-ghost use Rattle.gf_ideal.specs.Marks.{HasPositiveWeight};
+ghost use Rattle.gf_ideal_theory.specs.Marks.{HasPositiveWeight};
 ghost use Rattle.gf_text.specs.Sets.{AreIn};
 ghost use Rattle.gf_reduced.specs.Markings.{IsMarkedGroebnerBasis};
 ghost use Rattle.gf_reduced.specs.Refusals.{IsReducedRefusalBeside};
-ghost use Rattle.gf_reverse.specs.Upward.{IsNode, IsNodeIn, fan_of};
+ghost use Rattle.gf_reverse_theory.specs.Upward.{IsNode, IsNodeIn, fan_of};
 ghost use Rattle.gf_flip.specs.declared.error.TreeError.{TreeError};
 ghost use Rattle.gf_tree.specs.Ideals.{ideal_within};
 ghost use Rattle.gf_tree.specs.Refusals.{IsTreeRefusal};

@@ -1,8 +1,8 @@
 //! The bases that are ready in front of a list, and their pieces, worked out side by side before the first of them is written.
 ghost use Rattle.std.specs.Prelude.{◌≡◌, ◌+◌, ◌<◌, ℕ, Bool, length, List, [], ◌∷◌, IfOk, IfErr, IfSome, All};
 ghost use Rattle.gf_poly.specs.Marking.{MarkedPolynomials};
-ghost use Rattle.gf_facets.specs.Regions.{Region};
-ghost use Rattle.gf_reverse.specs.Upward.{IsNodeIn};
+ghost use Rattle.gf_facets_theory.specs.Regions.{Region};
+ghost use Rattle.gf_reverse_theory.specs.Upward.{IsNodeIn};
 ghost use Rattle.gf_subtree.specs.Answers.{IsRefusedEarly, IsRowKept};
 ghost use Rattle.gf_subtree.specs.Rows.{Row, AreLeftIn, ideal_in, row_left_at_most};
 ghost use Rattle.gfan_lists.specs.Ahead.{AreAhead, AreWorkedOutAt, HasVariables, IsNextTaken, IsWorkedFrom};

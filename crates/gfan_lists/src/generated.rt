@@ -18,9 +18,9 @@ ghost use Rattle.gfan_lists.specs.Generated.{one_where, vector_line, summary_tex
 ghost use Rattle.gfan_lists.specs.Summaries.{IsOfNoBasis, IsWideSum, IsWithBasis, IsUnsummed, IsSummary};
 
 use crate::bases::waves_of;
-use gf_conversion::basis_by_several_ways;
 use gf_front::{GeneratedOptions, Refusal};
 use gf_generated::generators;
+use gf_groebner_walk::basis_by_several_ways;
 use gf_order::Order;
 use gf_poly::MarkedSet;
 use gf_small::degree_of_set;

@@ -2,8 +2,8 @@
 ghost use Rattle.std.specs.Prelude.{◌≤◌, [], ◌∷◌, IfOk, IfErr, OnOk};
 ghost use Rattle.gf_poly.specs.Marking.{HaveVariables, polys};
 ghost use Rattle.gf_reduced.specs.Markings.{IsMarkedGroebnerBasis};
-ghost use Rattle.gf_facets.specs.Regions.{all_positive};
-ghost use Rattle.gf_reverse.specs.Upward.{IsNodeIn};
+ghost use Rattle.gf_facets_theory.specs.Regions.{all_positive};
+ghost use Rattle.gf_reverse_theory.specs.Upward.{IsNodeIn};
 ghost use Rattle.gf_tree.specs.Parents.{ideal_of, IsRootFor};
 ghost use Rattle.gf_tree.specs.Refusals.{IsWayRefused};
 ghost use Rattle.gfan_lists.specs.BasesWriting.{StartsAt};

@@ -17,8 +17,8 @@ ghost use Rattle.gfan_lists.specs.Within.{of_region, IsNoRegion, IsRegionRootRef
 use crate::bases::{ListOptions, write_from};
 use crate::given_basis::reduced_of;
 use gf_cone::Region;
-use gf_conversion::root_in;
 use gf_front::Refusal;
+use gf_groebner_walk::root_in;
 use gf_items::{RingAndMarked, RingAndSet, ring_and_marked, ring_and_set, vectors};
 use gf_outside::Sink;
 use gf_poly::MarkedSet;

@@ -5,14 +5,14 @@
 use Rattle.std.specs.Prelude.{◌≡◌, ◌↔◌, ◌⊎◌, ℕ, zero, suc, ◌+◌, ◌<◌, ◌≤◌, Bool, true, false, List, [], ◌∷◌, length, take, slice_index_or, Contains, IsTrue, Some, Err}
 use Rattle.std.proofs.Common.{arith, refl, sym, ap, ◌∙◌, subst, inl, inr}
 use Rattle.std.proofs.lemmas.List.{take_all}
-use Rattle.gf_int.proofs.ListLaws.{Contains-here, Contains-last}
+use Rattle.gf_int_theory.proofs.ListLaws.{Contains-here, Contains-last}
 use Rattle.gf_poly.specs.declared.error.PolyError.{PolyError}
 use Rattle.gf_poly.specs.declared.error.PolyError.TheVariants as errors
 use Rattle.gf_poly.specs.Polynomial.{Terms}
 use Rattle.gf_poly.specs.Marking.{MarkedPolynomial, MarkedPolynomials, HaveVariables, polys, IsArranged}
-use Rattle.gf_ideal.specs.Membership.{IsMember}
-use Rattle.gf_ideal.proofs.MembershipLaws.{member-zero}
-use Rattle.gf_ideal.proofs.ListLaws.{Contains-there}
+use Rattle.gf_ideal_theory.specs.Membership.{IsMember}
+use Rattle.gf_ideal_theory.proofs.MembershipLaws.{member-zero}
+use Rattle.gf_ideal_theory.proofs.ListLaws.{Contains-there}
 use Rattle.gf_division.specs.Steps.{IsReductionRefusal}
 use Rattle.gf_reduced.specs.declared.error.CheckError.{CheckError}
 use Rattle.gf_reduced.specs.declared.error.CheckError.TheVariants as check_errors

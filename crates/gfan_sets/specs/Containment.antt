@@ -3,7 +3,7 @@ use Rattle.std.specs.Prelude.{◌≡◌, ℕ, List, [], Contains, ◌∷◌}
 use Rattle.gf_poly.specs.declared.error.PolyError.{PolyError}
 use Rattle.gf_poly.specs.Polynomial.{Terms}
 use Rattle.gf_poly.specs.Marking.{MarkedPolynomials, HaveVariables, polys, IsArranged}
-use Rattle.gf_ideal.specs.Membership.{IsMember}
+use Rattle.gf_ideal_theory.specs.Membership.{IsMember}
 use Rattle.gf_reduced.specs.declared.error.CheckError.{CheckError}
 use Rattle.gf_reduced.specs.Forms.{monic_set}
 use Rattle.gf_reduced.specs.Markings.{IsMarkedGroebnerBasis}

@@ -1,9 +1,9 @@
 -- `_weightvector`: its input, its output, and why it is refused.
 use Rattle.std.specs.Prelude.{◌≡◌, ℕ, Bool, true, false, List, [], ◌∷◌, ◌++◌, length, flat_map, zip, All, Contains, ℤ, pos, ◌<ℤ◌}
 use Rattle.std.specs.List.{AllZip}
-use Rattle.gf_exponents.specs.Orders.{gains}
+use Rattle.gf_exponents_theory.specs.Orders.{gains}
 use Rattle.gf_poly.specs.Marking.{MarkedPolynomials, HaveVariables, polys, IsArranged}
-use Rattle.gf_ideal.specs.Bases.{IsReducedBasis}
+use Rattle.gf_ideal_theory.specs.Bases.{IsReducedBasis}
 use Rattle.gf_reduced.specs.declared.error.CheckError.{CheckError}
 use Rattle.gf_reduced.specs.Forms.{monic_set}
 use Rattle.gf_reduced.specs.Terms.{AreReduced}

@@ -10,8 +10,8 @@ ghost use Rattle.gfan_sets.specs.Buchberger.{asked_order, buchberger_command};
 ghost use Rattle.gfan_sets.specs.Questions.{IsCountable, IsQuestion};
 ghost use Rattle.gfan_common.specs.Refused.{IsOfSource};
 
-use gf_conversion::basis_by_several_ways;
 use gf_front::{BuchbergerOptions, Refusal};
+use gf_groebner_walk::basis_by_several_ways;
 use gf_items::{RingAndSet, ring_and_set};
 use gf_order::{NotTermOrder, Order};
 use gf_poly::Poly;

@@ -1,8 +1,8 @@
 //! The output of `_doesidealcontain` for an input.
 ghost use Rattle.std.specs.Prelude.{◌↔◌, IfOk, IfErr, IsTrue, [], ◌∷◌};
 ghost use Rattle.gf_poly.specs.Marking.{polys};
-ghost use Rattle.gf_ideal.specs.Membership.{IsMember};
-ghost use Rattle.gf_ideal.specs.Bases.{IsBasis};
+ghost use Rattle.gf_ideal_theory.specs.Membership.{IsMember};
+ghost use Rattle.gf_ideal_theory.specs.Bases.{IsBasis};
 ghost use Rattle.gf_division.specs.Steps.{IsReductionRefusal};
 ghost use Rattle.gf_reduced.specs.Markings.{IsMarkedGroebnerBasis};
 ghost use Rattle.gf_text.specs.Sets.{IsIn, AreIn};

@@ -5,9 +5,9 @@ use Rattle.std.proofs.Common.{refl, sym, ap, ◌∙◌, subst, append_assoc}
 use Rattle.gf_poly.specs.Polynomial.{Terms}
 use Rattle.gf_poly.specs.Marking.{MarkedPolynomials, polys}
 use Rattle.gf_text.specs.declared.written.Written.{Written}
-use Rattle.gf_walk.specs.Whole.{EachOnce}
-use Rattle.gf_facets.specs.Regions.{Region, IsRegion, all_positive}
-use Rattle.gf_facets.proofs.SystemLaws.{all_positive-region}
+use Rattle.gf_reverse_search.specs.Whole.{EachOnce}
+use Rattle.gf_facets_theory.specs.Regions.{Region, IsRegion, all_positive}
+use Rattle.gf_facets_theory.proofs.SystemLaws.{all_positive-region}
 use Rattle.gf_weights.proofs.RegionLaws.{regions_are_one}
 use Rattle.gf_weights.specs.Roots.{IsRegionOf}
 use Rattle.gf_items.specs.Items.{IsTextOf}

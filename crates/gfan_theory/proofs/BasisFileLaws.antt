@@ -8,8 +8,8 @@ use Rattle.gf_frac.proofs.FractionLaws.{*ℚ-reciprocal_ℚ, one-*ℚ, zero-not-
 use Rattle.gf_poly.specs.Polynomial.{Terms, coefficient, times}
 use Rattle.gf_poly.specs.Marking.{MarkedPolynomial, MarkedPolynomials}
 use Rattle.gf_poly.proofs.PolynomialLaws.{times-plain}
-use Rattle.gf_int.proofs.ListLaws.{Contains-here}
-use Rattle.gf_ideal.proofs.ListLaws.{Contains-there}
+use Rattle.gf_int_theory.proofs.ListLaws.{Contains-here}
+use Rattle.gf_ideal_theory.proofs.ListLaws.{Contains-there}
 use Rattle.gf_text.specs.Machine.{Lexeme, Reads}
 use Rattle.gf_text.specs.Tokens.{lex_tokens, lexemes, ring_more, Position, IsBlank}
 use Rattle.gf_text.specs.RingText.{IsRing, ring_words, ring_text}

@@ -46,20 +46,20 @@ use Rattle.std.proofs.Math.Nat.{eq-one_of_dvd-one}
 use Rattle.std.proofs.lemmas.Int.{ints}
 use Rattle.std.proofs.lemmas.List.{get_or_default}
 use Rattle.std.proofs.lemmas.List.Elements.{All-contains}
-use Rattle.gf_int.specs.Content.{IsPrimitive, AllZero, scaled}
-use Rattle.gf_int.proofs.ListLaws.{Contains-here}
+use Rattle.gf_int_theory.specs.Content.{IsPrimitive, AllZero, scaled}
+use Rattle.gf_int_theory.proofs.ListLaws.{Contains-here}
 use Rattle.gf_vec.specs.Vector.{dot, vector_sum, combined}
 use Rattle.gf_vec.specs.Steps.{sum_steps, IsWide, IsFirstWide}
 use Rattle.gf_vec.specs.declared.error.WideVector.{WideVector}
 use Rattle.gf_vec.proofs.EntryLaws.{entry_times}
 use Rattle.gf_vec.proofs.PrimitiveLaws.{primitive_same}
 use Rattle.gf_gordan.proofs.SizeLaws.{UpTo, sum_up, up_weaker, up_none, up_tail, up_cons, up_zeros, up_times, up_sum}
-use Rattle.gf_duality.specs.Rays.{IsRays}
-use Rattle.gf_duality.specs.Generators.{Made}
-use Rattle.gf_duality.proofs.ListLaws.{none_in, in_cons, in_tail}
-use Rattle.gf_duality.proofs.Taking.{IsMultiple, single}
-use Rattle.gf_duality.proofs.Uniqueness.{face_made}
-use Rattle.gf_duality.proofs.Determined.{described_of, alone_of}
+use Rattle.gf_duality_theory.specs.Rays.{IsRays}
+use Rattle.gf_duality_theory.specs.Generators.{Made}
+use Rattle.gf_duality_theory.proofs.ListLaws.{none_in, in_cons, in_tail}
+use Rattle.gf_duality_theory.proofs.Taking.{IsMultiple, single}
+use Rattle.gf_duality_theory.proofs.Uniqueness.{face_made}
+use Rattle.gf_duality_theory.proofs.Determined.{described_of, alone_of}
 use Rattle.gf_rays.specs.Sums.{adding_steps}
 use Rattle.gfan_theory.specs.Differences.{IsDifferenceRow}
 

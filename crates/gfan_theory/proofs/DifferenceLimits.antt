@@ -42,7 +42,7 @@ use Rattle.std.proofs.lemmas.Int.{ints}
 use Rattle.std.proofs.lemmas.List.{get_or_default}
 use Rattle.std.proofs.lemmas.List.Elements.{All-nil, All-contains, Contains-append_right, Contains-append_cases}
 use Rattle.std.proofs.lemmas.List.Filters.{length-filter_both}
-use Rattle.gf_int.proofs.ListLaws.{all_by}
+use Rattle.gf_int_theory.proofs.ListLaws.{all_by}
 use Rattle.gf_vec.specs.Vector.{dot, zeros}
 use Rattle.gf_vec.specs.Steps.{IsFirstWide}
 use Rattle.gf_vec.specs.declared.error.WideVector.{WideVector}
@@ -55,18 +55,18 @@ use Rattle.gf_gordan.specs.declared.error.ConeOverflow.{ConeOverflow}
 use Rattle.gf_gordan.specs.declared.error.GordanError.TheVariants as gordan_errors
 use Rattle.gf_gordan.proofs.SizeLaws.{UpTo, up_zeros}
 use Rattle.gf_gordan.proofs.ThreeColumns.{not_refused}
-use Rattle.gf_duality.specs.Rays.{IsRays}
-use Rattle.gf_duality.specs.Faces.{sum_of}
+use Rattle.gf_duality_theory.specs.Rays.{IsRays}
+use Rattle.gf_duality_theory.specs.Faces.{sum_of}
 use Rattle.gf_rays.specs.Reached.{IsRaysStep}
 use Rattle.gf_rays.specs.Sums.{adding_steps}
 use Rattle.gf_rays.specs.Parts.{zeros_of}
 use Rattle.gf_rays.specs.Limits.{turned_bound, reached_bound, IsPointed}
 use Rattle.gf_rays.proofs.PartLaws.{zeros_part}
 use Rattle.gf_rays.proofs.ReachedSizes.{mono, next_step, small_systems_stay_within_limits}
-use Rattle.gf_facets.specs.Systems.{unit, units}
-use Rattle.gf_facets.specs.Regions.{Region}
-use Rattle.gf_facets.specs.Normals.{AreNormals}
-use Rattle.gf_facets.proofs.UnitLaws.{length-unit, dot-unit, unit_of, unit_there}
+use Rattle.gf_facets_theory.specs.Systems.{unit, units}
+use Rattle.gf_facets_theory.specs.Regions.{Region}
+use Rattle.gf_facets_theory.specs.Normals.{AreNormals}
+use Rattle.gf_facets_theory.proofs.UnitLaws.{length-unit, dot-unit, unit_of, unit_there}
 use Rattle.gf_weights.specs.Weights.{AreCutRows}
 use Rattle.gf_weights.specs.Roots.{IsRegionRefusal}
 use Rattle.gf_weights.specs.Refusals.{IsCertificateCauseIn}

@@ -2,23 +2,23 @@
 -- To cite: regions_of_binomials, certificates_of_variables. The rest are steps.
 use Rattle.std.proofs.Common.{◌≡◌, ℕ, ◌≤◌, true, false, List, [], ◌∷◌, length, None, ℤ, Contains, arith, refl, sym, ap, ◌∙◌, subst}
 use Rattle.std.proofs.lemmas.List.Elements.{All-nil}
-use Rattle.gf_exponents.specs.Orders.{gains}
-use Rattle.gf_exponents.specs.SixOrders.{MonomialOrder}
+use Rattle.gf_exponents_theory.specs.Orders.{gains}
+use Rattle.gf_exponents_theory.specs.SixOrders.{MonomialOrder}
 use Rattle.gf_poly.specs.Polynomial.{Terms}
 use Rattle.gf_poly.specs.Marking.{MarkedPolynomial, MarkedPolynomials}
-use Rattle.gf_ideal.specs.Membership.{AreInVariables}
-use Rattle.gf_ideal.specs.Reduction.{IsMonicForm}
+use Rattle.gf_ideal_theory.specs.Membership.{AreInVariables}
+use Rattle.gf_ideal_theory.specs.Reduction.{IsMonicForm}
 use Rattle.gf_gordan.specs.Sizes.{HaveEntriesUpTo}
-use Rattle.gf_duality.proofs.ListLaws.{none_in}
-use Rattle.gf_facets.specs.Regions.{Region, IsRegion, IsInRegion, all_positive}
-use Rattle.gf_facets.proofs.SystemLaws.{all_positive-region}
-use Rattle.gf_reverse.specs.Upward.{IsNodeIn}
+use Rattle.gf_duality_theory.proofs.ListLaws.{none_in}
+use Rattle.gf_facets_theory.specs.Regions.{Region, IsRegion, IsInRegion, all_positive}
+use Rattle.gf_facets_theory.proofs.SystemLaws.{all_positive-region}
+use Rattle.gf_reverse_theory.specs.Upward.{IsNodeIn}
 use Rattle.gf_tree.specs.Ideals.{ideal_by, ideal_within}
 use Rattle.gf_weights.specs.Roots.{IsRegionOf}
 use Rattle.gf_weights.specs.Refusals.{AreCertificatesFittingIn}
-use Rattle.gf_binomials.proofs.PrincipalBases.{alone_in, basis_forms, basis_short}
-use Rattle.gf_binomial_calls.proofs.LimitLaws.{runs_within}
-use Rattle.gf_binomial_calls.proofs.SystemLimits.{small_search}
+use Rattle.gf_binomials_theory.proofs.PrincipalBases.{alone_in, basis_forms, basis_short}
+use Rattle.gf_binomial_calls_theory.proofs.LimitLaws.{runs_within}
+use Rattle.gf_binomial_calls_theory.proofs.SystemLimits.{small_search}
 use Rattle.gfan_lists.specs.declared.bases.ListOptions.{ListOptions}
 use Rattle.gfan_lists.specs.BasesList.{IsGivenIn}
 use Rattle.gfan_lists.specs.Bases.{IsWithinLimit, IsGoingWithin, IsListWithin}

@@ -29,45 +29,45 @@ use Rattle.std.proofs.Common.{
 }
 use Rattle.gf_frac.specs.Fraction.{◌*ℚ◌, neg_ℚ, one_ℚ}
 use Rattle.gf_frac.proofs.FractionLaws.{*ℚ-zero}
-use Rattle.gf_int.proofs.ListLaws.{Contains-here}
-use Rattle.gf_exponents.specs.Exponents.{Exponents, same, plus, degree, NoMultiple}
-use Rattle.gf_exponents.specs.Orders.{gains, IsFacetBelow, negated_row_of}
-use Rattle.gf_exponents.proofs.ExponentsLaws.{same_trans, same_flip, same_by_entries, entry-plus}
-use Rattle.gf_exponents.proofs.WeightLaws.{degree-plus, degree-same}
+use Rattle.gf_int_theory.proofs.ListLaws.{Contains-here}
+use Rattle.gf_exponents_theory.specs.Exponents.{Exponents, same, plus, degree, NoMultiple}
+use Rattle.gf_exponents_theory.specs.Orders.{gains, IsFacetBelow, negated_row_of}
+use Rattle.gf_exponents_theory.proofs.ExponentsLaws.{same_trans, same_flip, same_by_entries, entry-plus}
+use Rattle.gf_exponents_theory.proofs.WeightLaws.{degree-plus, degree-same}
 use Rattle.gf_poly.specs.Polynomial.{Terms, times}
 use Rattle.gf_poly.specs.Marking.{MarkedPolynomial, polys}
 use Rattle.gf_poly.proofs.PolynomialLaws.{coefficient-times}
-use Rattle.gf_ideal.specs.Membership.{HasMonomial, IsInVariables, AreInVariables, IsMember, Spans}
-use Rattle.gf_ideal.specs.Marks.{IsPositive, AreMarked, Piece, value}
-use Rattle.gf_ideal.specs.MonomialOrders.{MonomialOrder, below_of, IsAdmissible, IsOfGrade}
-use Rattle.gf_ideal.specs.Bases.{IsBasis, IsReducedBasisFor, HasReducedTails, AreApart}
-use Rattle.gf_ideal.specs.Settled.{IsAt}
-use Rattle.gf_ideal.proofs.ListLaws.{Each-weaker, each_contained, contained_each, Contains-there}
-use Rattle.gf_ideal.proofs.TermLaws.{found}
-use Rattle.gf_ideal.proofs.MarkWeights.{mark-there}
-use Rattle.gf_ideal.proofs.OrderWeights.{grading}
-use Rattle.gf_ideal.proofs.SpanLaws.{Spans-equal, Spans-generator}
-use Rattle.gf_ideal.proofs.MembershipLaws.{member-generator, member-trans, spans_of_member, member_of_spans, variables_of_member}
-use Rattle.gf_ideal.proofs.PieceLaws.{Contains-marked, Contains-polys, spans_value}
-use Rattle.gf_ideal.proofs.BasisLaws.{member_pieces}
-use Rattle.gf_ideal.proofs.StepLaws.{IsClosed, IsPieceIn, sum_within, taken, monic-monomials}
-use Rattle.gf_ideal.proofs.UniquenessLaws.{apart_same}
-use Rattle.gf_bases.proofs.GradedBasisLaws.{basis-graded}
+use Rattle.gf_ideal_theory.specs.Membership.{HasMonomial, IsInVariables, AreInVariables, IsMember, Spans}
+use Rattle.gf_ideal_theory.specs.Marks.{IsPositive, AreMarked, Piece, value}
+use Rattle.gf_ideal_theory.specs.MonomialOrders.{MonomialOrder, below_of, IsAdmissible, IsOfGrade}
+use Rattle.gf_ideal_theory.specs.Bases.{IsBasis, IsReducedBasisFor, HasReducedTails, AreApart}
+use Rattle.gf_ideal_theory.specs.Settled.{IsAt}
+use Rattle.gf_ideal_theory.proofs.ListLaws.{Each-weaker, each_contained, contained_each, Contains-there}
+use Rattle.gf_ideal_theory.proofs.TermLaws.{found}
+use Rattle.gf_ideal_theory.proofs.MarkWeights.{mark-there}
+use Rattle.gf_ideal_theory.proofs.OrderWeights.{grading}
+use Rattle.gf_ideal_theory.proofs.SpanLaws.{Spans-equal, Spans-generator}
+use Rattle.gf_ideal_theory.proofs.MembershipLaws.{member-generator, member-trans, spans_of_member, member_of_spans, variables_of_member}
+use Rattle.gf_ideal_theory.proofs.PieceLaws.{Contains-marked, Contains-polys, spans_value}
+use Rattle.gf_ideal_theory.proofs.BasisLaws.{member_pieces}
+use Rattle.gf_ideal_theory.proofs.StepLaws.{IsClosed, IsPieceIn, sum_within, taken, monic-monomials}
+use Rattle.gf_ideal_theory.proofs.UniquenessLaws.{apart_same}
+use Rattle.gf_bases_theory.proofs.GradedBasisLaws.{basis-graded}
 use Rattle.gf_division.specs.Autoreduction.{AreNeededForms}
 use Rattle.gf_buchberger.specs.Pairs.{pairs_below}
-use Rattle.gf_facets.specs.Rows.{negated}
-use Rattle.gf_facets.specs.Regions.{Region}
-use Rattle.gf_facets.specs.Facets.{IsFlippable}
-use Rattle.gf_facets.specs.MarkedBases.{IsBasisInRegion}
-use Rattle.gf_initial.specs.Parts.{IsPartAlong}
-use Rattle.gf_initial.specs.Lifts.{IsLift, AreLifts}
-use Rattle.gf_initial.proofs.MatchingLaws.{matched-from}
-use Rattle.gf_initial.proofs.PartLaws.{part-there}
-use Rattle.gf_initial.proofs.SideLaws.{IsSide, level_of_along}
-use Rattle.gf_initial.proofs.FlipLaws.{side_of_inside, along_negated, part_facts}
+use Rattle.gf_facets_theory.specs.Rows.{negated}
+use Rattle.gf_facets_theory.specs.Regions.{Region}
+use Rattle.gf_facets_theory.specs.Facets.{IsFlippable}
+use Rattle.gf_facets_theory.specs.MarkedBases.{IsBasisInRegion}
+use Rattle.gf_initial_theory.specs.Parts.{IsPartAlong}
+use Rattle.gf_initial_theory.specs.Lifts.{IsLift, AreLifts}
+use Rattle.gf_initial_theory.proofs.MatchingLaws.{matched-from}
+use Rattle.gf_initial_theory.proofs.PartLaws.{part-there}
+use Rattle.gf_initial_theory.proofs.SideLaws.{IsSide, level_of_along}
+use Rattle.gf_initial_theory.proofs.FlipLaws.{side_of_inside, along_negated, part_facts}
 use Rattle.gf_lines.specs.Along.{AreAlong, IsBasisOfParts}
 use Rattle.gf_flip.specs.Operations.{IsFlipExponents, IsFlipWithinLimits}
-use Rattle.gf_binomial_calls.proofs.FlipLaws.{flip_fits}
+use Rattle.gf_binomial_calls_theory.proofs.FlipLaws.{flip_fits}
 use Rattle.gfan_theory.specs.Linear.{IsLinear, AreLinearForms, AreLinearDifferences}
 use Rattle.gfan_theory.proofs.LinearRuns.{
   same_or_not,

@@ -29,22 +29,22 @@ use Rattle.std.proofs.Common.{
   inr,
 }
 use Rattle.std.proofs.lemmas.List.Elements.{All-nil, All-contains, Contains-append_cases}
-use Rattle.gf_exponents.specs.Exponents.{Exponents, entry, plus, join, degree}
-use Rattle.gf_exponents.proofs.WeightLaws.{degree-plus, degree-same}
-use Rattle.gf_int.proofs.ListLaws.{all_by}
+use Rattle.gf_exponents_theory.specs.Exponents.{Exponents, entry, plus, join, degree}
+use Rattle.gf_exponents_theory.proofs.WeightLaws.{degree-plus, degree-same}
+use Rattle.gf_int_theory.proofs.ListLaws.{all_by}
 use Rattle.gf_poly.specs.declared.error.PolyError.{PolyError}
 use Rattle.gf_poly.specs.declared.error.PolyError.TheVariants as errors
 use Rattle.gf_poly.specs.Polynomial.{Terms}
 use Rattle.gf_poly.specs.Marking.{MarkedPolynomial, MarkedPolynomials, HaveVariables, HasMarkedTerm, Each, polys, IsArranged}
-use Rattle.gf_ideal.specs.Reduction.{IsMonicForm}
-use Rattle.gf_ideal.specs.Operands.{IsShiftOperation, IsSPolynomialExponents}
+use Rattle.gf_ideal_theory.specs.Reduction.{IsMonicForm}
+use Rattle.gf_ideal_theory.specs.Operands.{IsShiftOperation, IsSPolynomialExponents}
 use Rattle.gf_division.specs.SPolynomials.{AreMadeMonic}
-use Rattle.gf_ideal.proofs.ListLaws.{each_contained}
-use Rattle.gf_ideal.proofs.PieceLaws.{Contains-marked}
-use Rattle.gf_ideal.proofs.StepLaws.{IsWithin, taken, monic-monomials}
-use Rattle.gf_bases.proofs.LawsHold.{only_ideals_count, marked_bases_are_reduced}
-use Rattle.gf_facets.specs.Regions.{all_positive}
-use Rattle.gf_facets.specs.MarkedBases.{IsBasisInRegion, IsMarkedReducedBasis}
+use Rattle.gf_ideal_theory.proofs.ListLaws.{each_contained}
+use Rattle.gf_ideal_theory.proofs.PieceLaws.{Contains-marked}
+use Rattle.gf_ideal_theory.proofs.StepLaws.{IsWithin, taken, monic-monomials}
+use Rattle.gf_bases_theory.proofs.LawsHold.{only_ideals_count, marked_bases_are_reduced}
+use Rattle.gf_facets_theory.specs.Regions.{all_positive}
+use Rattle.gf_facets_theory.specs.MarkedBases.{IsBasisInRegion, IsMarkedReducedBasis}
 use Rattle.gf_reduced.specs.Forms.{monic_of, monic_set, IsFormRefusal}
 use Rattle.gf_reduced.specs.Markings.{IsMarkedGroebnerBasis}
 use Rattle.gf_reduced.specs.Terms.{AreReduced}
@@ -55,10 +55,10 @@ use Rattle.gf_reduced.proofs.ReducedLaws.{reduced_of}
 use Rattle.gf_weights.specs.Refusals.{IsWeightWithinLimits, AreCertificatesFittingIn}
 use Rattle.gf_weights.specs.declared.error.WeightError.{WeightError}
 use Rattle.gf_weights.specs.declared.error.WeightError.TheVariants as weight_errors
-use Rattle.gf_duality.proofs.ListLaws.{none_in}
-use Rattle.gf_binomial_calls.specs.Sets.{IsBinomialSet}
-use Rattle.gf_binomial_calls.proofs.CheckLaws.{head_there, member_fits, polys_binomial, forms_binomial, pairs_fit}
-use Rattle.gf_binomial_calls.proofs.SystemLimits.{marking_within}
+use Rattle.gf_duality_theory.proofs.ListLaws.{none_in}
+use Rattle.gf_binomial_calls_theory.specs.Sets.{IsBinomialSet}
+use Rattle.gf_binomial_calls_theory.proofs.CheckLaws.{head_there, member_fits, polys_binomial, forms_binomial, pairs_fit}
+use Rattle.gf_binomial_calls_theory.proofs.SystemLimits.{marking_within}
 use Rattle.gfan_sets.specs.WeightVector.{IsWeighedWithin}
 use Rattle.gfan_theory.specs.Linear.{IsLinear, AreLinearDifferences, IsLinearSet, LinearWeightsStayWithinLimits}
 use Rattle.gfan_theory.proofs.LinearRuns.{IsOfDegree, AreLinearMarked, closed-degree, entry_low, join_low, shift_short, step_short, s_polynomial_degree}

@@ -32,37 +32,37 @@ use Rattle.std.proofs.Common.{
 use Rattle.std.proofs.lemmas.Int.{ints}
 use Rattle.std.proofs.lemmas.List.{get_or_default}
 use Rattle.std.proofs.lemmas.List.Elements.{All-nil, All-contains, Contains-get_or, Contains-append_cases}
-use Rattle.gf_exponents.specs.Exponents.{Exponents, entry}
-use Rattle.gf_exponents.specs.Orders.{gains}
-use Rattle.gf_int.proofs.ListLaws.{all_by}
+use Rattle.gf_exponents_theory.specs.Exponents.{Exponents, entry}
+use Rattle.gf_exponents_theory.specs.Orders.{gains}
+use Rattle.gf_int_theory.proofs.ListLaws.{all_by}
 use Rattle.gf_poly.specs.Marking.{MarkedPolynomial, MarkedPolynomials}
 use Rattle.gf_poly.specs.Polynomial.{Terms}
-use Rattle.gf_ideal.specs.MonomialOrders.{MonomialOrder}
-use Rattle.gf_ideal.proofs.KeptForms.{term_there}
-use Rattle.gf_ideal.proofs.SmallBases.{only}
+use Rattle.gf_ideal_theory.specs.MonomialOrders.{MonomialOrder}
+use Rattle.gf_ideal_theory.proofs.KeptForms.{term_there}
+use Rattle.gf_ideal_theory.proofs.SmallBases.{only}
 use Rattle.gf_gordan.specs.Alternative.{AreRows}
 use Rattle.gf_gordan.specs.Sizes.{HaveEntriesUpTo}
 use Rattle.gf_gordan.specs.declared.error.ConeOverflow.{ConeOverflow}
 use Rattle.gf_gordan.specs.declared.error.GordanError.TheVariants.{Cone, Memory}
 use Rattle.gf_gordan.proofs.SizeLaws.{UpTo, up_none, up_cons, up_zeros, up_divided}
 use Rattle.gf_gordan.proofs.ThreeColumns.{not_refused}
-use Rattle.gf_facets.specs.Rows.{differences, IsNormal}
-use Rattle.gf_facets.specs.Systems.{unit, units}
-use Rattle.gf_facets.specs.Normals.{others_of}
-use Rattle.gf_facets.specs.Regions.{IsInRegion, all_positive}
-use Rattle.gf_facets.specs.MarkedBases.{AreCanonical, IsBasisInRegion}
-use Rattle.gf_facets.proofs.RowLaws.{IsTermRow, row-from}
-use Rattle.gf_facets.proofs.NormalLaws.{normal-length}
-use Rattle.gf_facets.proofs.NormalListLaws.{others_only}
-use Rattle.gf_facets.proofs.SystemLaws.{region_rows_wide, all_positive-region}
-use Rattle.gf_facets.proofs.UnitLaws.{unit_of}
+use Rattle.gf_facets_theory.specs.Rows.{differences, IsNormal}
+use Rattle.gf_facets_theory.specs.Systems.{unit, units}
+use Rattle.gf_facets_theory.specs.Normals.{others_of}
+use Rattle.gf_facets_theory.specs.Regions.{IsInRegion, all_positive}
+use Rattle.gf_facets_theory.specs.MarkedBases.{AreCanonical, IsBasisInRegion}
+use Rattle.gf_facets_theory.proofs.RowLaws.{IsTermRow, row-from}
+use Rattle.gf_facets_theory.proofs.NormalLaws.{normal-length}
+use Rattle.gf_facets_theory.proofs.NormalListLaws.{others_only}
+use Rattle.gf_facets_theory.proofs.SystemLaws.{region_rows_wide, all_positive-region}
+use Rattle.gf_facets_theory.proofs.UnitLaws.{unit_of}
 use Rattle.gf_cone.specs.Cones.{ConeRows, normal_at, other_rows}
-use Rattle.gf_reverse.specs.Upward.{Fan, IsNodeIn}
+use Rattle.gf_reverse_theory.specs.Upward.{Fan, IsNodeIn}
 use Rattle.gf_tree.specs.Refusals.{IsConeStep, IsTreeWithinLimits}
 use Rattle.gf_tree.specs.Ideals.{ideal_by, ideal_within}
 use Rattle.gf_buchberger.specs.Pairs.{pairs_below}
 use Rattle.gf_weights.specs.Refusals.{AreCertificatesFittingIn}
-use Rattle.gf_duality.proofs.ListLaws.{none_in}
+use Rattle.gf_duality_theory.proofs.ListLaws.{none_in}
 use Rattle.gfan_lists.specs.declared.bases.ListOptions.{ListOptions}
 use Rattle.gfan_lists.specs.BasesList.{IsGivenIn}
 use Rattle.gfan_lists.proofs.BasesListLaws.{given_in_node}

@@ -36,33 +36,33 @@ use Rattle.std.proofs.Common.{
 }
 use Rattle.std.proofs.lemmas.Bool.{cases_lt}
 use Rattle.gf_frac.specs.Fraction.{zero_ℚ, one_ℚ}
-use Rattle.gf_int.proofs.ListLaws.{Contains-here}
+use Rattle.gf_int_theory.proofs.ListLaws.{Contains-here}
 use Rattle.gf_vec.specs.Vector.{dot}
 use Rattle.gf_vec.specs.Primitive.{IsPrimitivePart}
 use Rattle.gf_vec.proofs.VectorLaws.{dot_comm}
-use Rattle.gf_duality.proofs.ListLaws.{in_tail}
-use Rattle.gf_exponents.specs.Exponents.{Exponents, entry, same, degree, IsInRing}
-use Rattle.gf_exponents.proofs.ExponentsLaws.{same_flip, same_trans, entries_same}
+use Rattle.gf_duality_theory.proofs.ListLaws.{in_tail}
+use Rattle.gf_exponents_theory.specs.Exponents.{Exponents, entry, same, degree, IsInRing}
+use Rattle.gf_exponents_theory.proofs.ExponentsLaws.{same_flip, same_trans, entries_same}
 use Rattle.gf_poly.specs.Polynomial.{Terms}
 use Rattle.gf_poly.specs.Marking.{MarkedPolynomial}
-use Rattle.gf_ideal.specs.Membership.{HasMonomial}
-use Rattle.gf_ideal.proofs.Identities.{one_not_zero}
-use Rattle.gf_ideal.proofs.MarkWeights.{mark-there}
-use Rattle.gf_ideal.proofs.MembershipLaws.{variables_of_member}
-use Rattle.gf_ideal.proofs.UniquenessLaws.{apart_same}
-use Rattle.gf_exponents.specs.Orders.{gains, lighter}
-use Rattle.gf_facets.specs.Rows.{differences, IsNormal}
-use Rattle.gf_facets.specs.Systems.{unit}
-use Rattle.gf_facets.specs.LexPositive.{IsBefore}
-use Rattle.gf_facets.specs.Normals.{AreNormals}
-use Rattle.gf_facets.specs.Regions.{Region}
-use Rattle.gf_facets.specs.MarkedBases.{AreCanonical, IsBasisInRegion}
-use Rattle.gf_facets.proofs.NormalLaws.{IsNormalOf, normal_of, normal-length}
-use Rattle.gf_facets.proofs.UnitLaws.{dot-unit}
-use Rattle.gf_facets.proofs.VectorOrder.{before_strict}
-use Rattle.gf_binomials.specs.Binomials.{indicator, IsMarkedBinomial, AreMarkedBinomials}
-use Rattle.gf_binomials.proofs.MonomialLaws.{IsTheMonomial, IsFirst, one_of_two}
-use Rattle.gf_binomial_bases.proofs.LawsHold.{bases_of_binomials}
+use Rattle.gf_ideal_theory.specs.Membership.{HasMonomial}
+use Rattle.gf_ideal_theory.proofs.Identities.{one_not_zero}
+use Rattle.gf_ideal_theory.proofs.MarkWeights.{mark-there}
+use Rattle.gf_ideal_theory.proofs.MembershipLaws.{variables_of_member}
+use Rattle.gf_ideal_theory.proofs.UniquenessLaws.{apart_same}
+use Rattle.gf_exponents_theory.specs.Orders.{gains, lighter}
+use Rattle.gf_facets_theory.specs.Rows.{differences, IsNormal}
+use Rattle.gf_facets_theory.specs.Systems.{unit}
+use Rattle.gf_facets_theory.specs.LexPositive.{IsBefore}
+use Rattle.gf_facets_theory.specs.Normals.{AreNormals}
+use Rattle.gf_facets_theory.specs.Regions.{Region}
+use Rattle.gf_facets_theory.specs.MarkedBases.{AreCanonical, IsBasisInRegion}
+use Rattle.gf_facets_theory.proofs.NormalLaws.{IsNormalOf, normal_of, normal-length}
+use Rattle.gf_facets_theory.proofs.UnitLaws.{dot-unit}
+use Rattle.gf_facets_theory.proofs.VectorOrder.{before_strict}
+use Rattle.gf_binomials_theory.specs.Binomials.{indicator, IsMarkedBinomial, AreMarkedBinomials}
+use Rattle.gf_binomials_theory.proofs.MonomialLaws.{IsTheMonomial, IsFirst, one_of_two}
+use Rattle.gf_binomial_bases_theory.proofs.LawsHold.{bases_of_binomials}
 use Rattle.gfan_theory.specs.Differences.{IsDifferenceRow, AreDifferenceRows}
 use Rattle.gfan_theory.specs.Everyday.{IsVariable}
 use Rattle.gfan_theory.specs.Linear.{AreLinearDifferences}

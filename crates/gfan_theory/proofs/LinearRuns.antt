@@ -35,29 +35,29 @@ use Rattle.std.proofs.Common.{
 use Rattle.std.proofs.lemmas.Bool.{cases_lt}
 use Rattle.std.proofs.lemmas.List.{get_or_default, get_or_append_left}
 use Rattle.gf_frac.specs.Fraction.{neg_ℚ, one_ℚ}
-use Rattle.gf_int.proofs.ListLaws.{Contains-last}
-use Rattle.gf_exponents.specs.Exponents.{Exponents, entry, same, plus, join, degree, weight, AreCoprime, IsInRing}
-use Rattle.gf_exponents.proofs.ExponentsLaws.{same_flip, same_by_entries}
-use Rattle.gf_exponents.proofs.WeightLaws.{degree-plus, degree-same}
+use Rattle.gf_int_theory.proofs.ListLaws.{Contains-last}
+use Rattle.gf_exponents_theory.specs.Exponents.{Exponents, entry, same, plus, join, degree, weight, AreCoprime, IsInRing}
+use Rattle.gf_exponents_theory.proofs.ExponentsLaws.{same_flip, same_by_entries}
+use Rattle.gf_exponents_theory.proofs.WeightLaws.{degree-plus, degree-same}
 use Rattle.gf_poly.specs.Polynomial.{Terms, times}
 use Rattle.gf_poly.specs.Marking.{MarkedPolynomial, polys}
-use Rattle.gf_ideal.specs.Membership.{HasMonomial, IsInVariables, AreInVariables, IsMember}
-use Rattle.gf_ideal.specs.Marks.{IsMarked, AreMarked}
-use Rattle.gf_ideal.specs.MonomialOrders.{MonomialOrder, below_of, IsAdmissible, IsHomogeneous, Comparison}
-use Rattle.gf_ideal.specs.Reduction.{IsDivisible, Reached, IsSPolynomial, IsMonicForm}
-use Rattle.gf_ideal.specs.Operands.{AreThese, IsShiftOperation, IsStepExponents}
-use Rattle.gf_ideal.specs.Bases.{IsGroebnerBasisFor}
-use Rattle.gf_ideal.specs.Settled.{IsAt, ArePairsSettled}
-use Rattle.gf_ideal.specs.WorkLists.{IsOrigin, IsWorkList, IsTail, IsRunExponents}
-use Rattle.gf_ideal.proofs.LawsOfBasesHold.{buchbergers_criterion, pairs_are_settled}
-use Rattle.gf_ideal.proofs.MarkWeights.{mark-there}
-use Rattle.gf_ideal.proofs.MembershipLaws.{member-generator, variables_of_member}
-use Rattle.gf_ideal.proofs.PieceLaws.{Contains-marked, Contains-polys}
-use Rattle.gf_ideal.proofs.StepLaws.{IsClosed, IsWithin, reached-one, multiple_within, sum_within, taken, monic-monomials, member-reached, member-s_polynomial}
-use Rattle.gf_ideal.proofs.WorkLaws.{work-marked, work-members}
+use Rattle.gf_ideal_theory.specs.Membership.{HasMonomial, IsInVariables, AreInVariables, IsMember}
+use Rattle.gf_ideal_theory.specs.Marks.{IsMarked, AreMarked}
+use Rattle.gf_ideal_theory.specs.MonomialOrders.{MonomialOrder, below_of, IsAdmissible, IsHomogeneous, Comparison}
+use Rattle.gf_ideal_theory.specs.Reduction.{IsDivisible, Reached, IsSPolynomial, IsMonicForm}
+use Rattle.gf_ideal_theory.specs.Operands.{AreThese, IsShiftOperation, IsStepExponents}
+use Rattle.gf_ideal_theory.specs.Bases.{IsGroebnerBasisFor}
+use Rattle.gf_ideal_theory.specs.Settled.{IsAt, ArePairsSettled}
+use Rattle.gf_ideal_theory.specs.WorkLists.{IsOrigin, IsWorkList, IsTail, IsRunExponents}
+use Rattle.gf_ideal_theory.proofs.LawsOfBasesHold.{buchbergers_criterion, pairs_are_settled}
+use Rattle.gf_ideal_theory.proofs.MarkWeights.{mark-there}
+use Rattle.gf_ideal_theory.proofs.MembershipLaws.{member-generator, variables_of_member}
+use Rattle.gf_ideal_theory.proofs.PieceLaws.{Contains-marked, Contains-polys}
+use Rattle.gf_ideal_theory.proofs.StepLaws.{IsClosed, IsWithin, reached-one, multiple_within, sum_within, taken, monic-monomials, member-reached, member-s_polynomial}
+use Rattle.gf_ideal_theory.proofs.WorkLaws.{work-marked, work-members}
 use Rattle.gf_buchberger.specs.Pairs.{pairs_below}
-use Rattle.gf_binomials.proofs.PrincipalRuns.{form_to}
-use Rattle.gf_binomials.proofs.RunLaws.{run_fits}
+use Rattle.gf_binomials_theory.proofs.PrincipalRuns.{form_to}
+use Rattle.gf_binomials_theory.proofs.RunLaws.{run_fits}
 use Rattle.gfan_theory.specs.Linear.{IsLinear, AreLinearForms, LinearRunsStayWithinLimits}
 
 -- ---- numbers

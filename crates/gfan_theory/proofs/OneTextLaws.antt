@@ -2,13 +2,13 @@
 -- To cite: AnswerAt, answer_at, all_moved, all_texts, one_ideal. The rest are steps.
 use Rattle.std.specs.Prelude.{◌≡◌, ℕ, Bool, List, ◌++◌, length}
 use Rattle.std.proofs.Common.{sym, ap, ◌∙◌, subst}
-use Rattle.gf_exponents.specs.Exponents.{Exponents}
-use Rattle.gf_exponents.specs.Orders.{gains, lighter, IsWeightedBelow}
+use Rattle.gf_exponents_theory.specs.Exponents.{Exponents}
+use Rattle.gf_exponents_theory.specs.Orders.{gains, lighter, IsWeightedBelow}
 use Rattle.gf_poly.specs.Polynomial.{Terms}
 use Rattle.gf_poly.specs.Marking.{MarkedPolynomial, MarkedPolynomials}
-use Rattle.gf_ideal.specs.Membership.{AreSameIdeal}
-use Rattle.gf_ideal.specs.Bases.{IsHeaviest, IsGreatest, IsReducedBy}
-use Rattle.gf_facets.specs.Regions.{Region}
+use Rattle.gf_ideal_theory.specs.Membership.{AreSameIdeal}
+use Rattle.gf_ideal_theory.specs.Bases.{IsHeaviest, IsGreatest, IsReducedBy}
+use Rattle.gf_facets_theory.specs.Regions.{Region}
 use Rattle.gfan_lists.specs.BasesList.{IsGivenIn, AreAllBasesIn}
 use Rattle.gfan_lists.specs.Bases.{AreItemTextsIn, IsTextBehind, list_text}
 use Rattle.gfan_lists.proofs.OneListLaws.{one_list_in}

@@ -40,33 +40,33 @@ use Rattle.std.proofs.Math.Nat.{eq-one_of_dvd-one}
 use Rattle.std.proofs.lemmas.Int.{ints}
 use Rattle.std.proofs.lemmas.List.{get_or_default}
 use Rattle.gf_frac.specs.Fraction.{zero_ℚ, one_ℚ}
-use Rattle.gf_int.specs.Content.{scaled}
-use Rattle.gf_int.proofs.ListLaws.{Contains-here}
+use Rattle.gf_int_theory.specs.Content.{scaled}
+use Rattle.gf_int_theory.proofs.ListLaws.{Contains-here}
 use Rattle.gf_vec.specs.Vector.{dot}
-use Rattle.gf_duality.proofs.ListLaws.{in_tail}
+use Rattle.gf_duality_theory.proofs.ListLaws.{in_tail}
 use Rattle.gf_vec.specs.Primitive.{IsPrimitivePart}
 use Rattle.gf_vec.proofs.VectorLaws.{dot_comm}
 use Rattle.gf_vec.proofs.DotLaws.{dot-times_right}
-use Rattle.gf_exponents.specs.Exponents.{Exponents, entry, same, plus, Divides, whole_weight}
-use Rattle.gf_exponents.proofs.ExponentsLaws.{same_flip, same_trans, entries_same, entry-plus}
+use Rattle.gf_exponents_theory.specs.Exponents.{Exponents, entry, same, plus, Divides, whole_weight}
+use Rattle.gf_exponents_theory.proofs.ExponentsLaws.{same_flip, same_trans, entries_same, entry-plus}
 use Rattle.gf_poly.specs.Polynomial.{Terms}
 use Rattle.gf_poly.specs.Marking.{MarkedPolynomial}
-use Rattle.gf_ideal.specs.Membership.{HasMonomial, IsInVariables}
-use Rattle.gf_ideal.specs.Reduction.{IsMonicForm}
-use Rattle.gf_ideal.proofs.Identities.{one_not_zero}
-use Rattle.gf_ideal.proofs.StepLaws.{monic-monomials}
-use Rattle.gf_facets.specs.Rows.{differences, IsNormal}
-use Rattle.gf_facets.specs.Systems.{unit}
-use Rattle.gf_facets.specs.LexPositive.{IsBefore}
-use Rattle.gf_facets.specs.Normals.{AreNormals}
-use Rattle.gf_facets.specs.MarkedBases.{AreCanonical}
-use Rattle.gf_facets.proofs.RowLaws.{length-differences, get-differences, dot-differences}
-use Rattle.gf_facets.proofs.NormalLaws.{normal_of, normal-length}
-use Rattle.gf_facets.proofs.UnitLaws.{dot-unit}
-use Rattle.gf_facets.proofs.VectorOrder.{before_strict}
-use Rattle.gf_binomials.proofs.MonomialLaws.{IsTheMonomial, one_of_two}
-use Rattle.gf_binomial_calls.specs.Limits.{IsPlainGenerator, HasExponentsUpTo}
-use Rattle.gf_binomial_calls.proofs.LimitLaws.{plain_difference}
+use Rattle.gf_ideal_theory.specs.Membership.{HasMonomial, IsInVariables}
+use Rattle.gf_ideal_theory.specs.Reduction.{IsMonicForm}
+use Rattle.gf_ideal_theory.proofs.Identities.{one_not_zero}
+use Rattle.gf_ideal_theory.proofs.StepLaws.{monic-monomials}
+use Rattle.gf_facets_theory.specs.Rows.{differences, IsNormal}
+use Rattle.gf_facets_theory.specs.Systems.{unit}
+use Rattle.gf_facets_theory.specs.LexPositive.{IsBefore}
+use Rattle.gf_facets_theory.specs.Normals.{AreNormals}
+use Rattle.gf_facets_theory.specs.MarkedBases.{AreCanonical}
+use Rattle.gf_facets_theory.proofs.RowLaws.{length-differences, get-differences, dot-differences}
+use Rattle.gf_facets_theory.proofs.NormalLaws.{normal_of, normal-length}
+use Rattle.gf_facets_theory.proofs.UnitLaws.{dot-unit}
+use Rattle.gf_facets_theory.proofs.VectorOrder.{before_strict}
+use Rattle.gf_binomials_theory.proofs.MonomialLaws.{IsTheMonomial, one_of_two}
+use Rattle.gf_binomial_calls_theory.specs.Limits.{IsPlainGenerator, HasExponentsUpTo}
+use Rattle.gf_binomial_calls_theory.proofs.LimitLaws.{plain_difference}
 use Rattle.gfan_theory.specs.Differences.{IsDifferenceRow, AreDifferenceRows}
 use Rattle.gfan_theory.specs.Everyday.{IsVariable, IsDifferenceOfVariables}
 use Rattle.gfan_theory.proofs.BinaryRays.{by_entry}

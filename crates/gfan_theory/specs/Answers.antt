@@ -2,8 +2,8 @@
 use Rattle.std.specs.Prelude.{◌≡◌, ℕ, Bool, List, [], ◌∷◌, ◌++◌, length, Option, None, Some, ℤ}
 use Rattle.gf_poly.specs.Polynomial.{Terms}
 use Rattle.gf_poly.specs.Marking.{MarkedPolynomials}
-use Rattle.gf_ideal.specs.Membership.{AreInVariables}
-use Rattle.gf_facets.specs.Regions.{Region, IsRegion, all_positive}
+use Rattle.gf_ideal_theory.specs.Membership.{AreInVariables}
+use Rattle.gf_facets_theory.specs.Regions.{Region, IsRegion, all_positive}
 use Rattle.gf_weights.specs.Roots.{IsRegionOf}
 use Rattle.gf_front.specs.declared.command_line.Job.{Job}
 use Rattle.gf_front.specs.declared.command_line.Job.TheVariants as jobs

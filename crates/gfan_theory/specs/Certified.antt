@@ -4,7 +4,7 @@ use Rattle.std.specs.Prelude.{◌≡◌, ℕ, true, List, ◌++◌, length}
 use Rattle.std.specs.List.{AllZip}
 use Rattle.gf_poly.specs.Polynomial.{Terms}
 use Rattle.gf_poly.specs.Marking.{MarkedPolynomials}
-use Rattle.gf_facets.specs.Regions.{Region}
+use Rattle.gf_facets_theory.specs.Regions.{Region}
 use Rattle.gfan_lists.specs.BasesList.{AreAllBasesIn}
 use Rattle.gfan_lists.specs.Bases.{list_text}
 use Rattle.gfan.specs.CertifiedBases.{HasCertificatesIn}

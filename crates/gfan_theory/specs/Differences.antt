@@ -3,8 +3,8 @@
 use Rattle.std.specs.Prelude.{◌≡◌, ℕ, ◌+◌, ◌<◌, ◌≤◌, List, length, slice_index_or, ℤ, pos, ◌-ℤ◌, Contains}
 use Rattle.gf_vec.specs.Vector.{dot}
 use Rattle.gf_poly.specs.Marking.{MarkedPolynomial}
-use Rattle.gf_facets.specs.Regions.{Region, IsInRegion}
-use Rattle.gf_facets.specs.Normals.{AreNormals}
+use Rattle.gf_facets_theory.specs.Regions.{Region, IsInRegion}
+use Rattle.gf_facets_theory.specs.Normals.{AreNormals}
 use Rattle.gf_weights.specs.Roots.{IsRegionWithinLimits}
 use Rattle.gf_weights.specs.Refusals.{AreCertificatesFittingIn}
 

@@ -1,11 +1,11 @@
 -- Everyday inputs that meet the premises of completeness of `_bases --within` and `_bases --certificates`. Laws: proofs/VariableLaws.antt,
 -- proofs/EverydayLaws.antt.
 use Rattle.std.specs.Prelude.{◌≡◌, ℕ, ◌<◌, ◌≤◌, false, List, [], ◌∷◌, length, None, Some, ℤ}
-use Rattle.gf_exponents.specs.Exponents.{Exponents, entry}
+use Rattle.gf_exponents_theory.specs.Exponents.{Exponents, entry}
 use Rattle.gf_poly.specs.Polynomial.{Terms}
-use Rattle.gf_facets.specs.Regions.{IsInRegion}
-use Rattle.gf_binomials.specs.Binomials.{IsBinomialOf}
-use Rattle.gf_binomial_calls.specs.Limits.{IsPlainGenerator, HasExponentsUpTo}
+use Rattle.gf_facets_theory.specs.Regions.{IsInRegion}
+use Rattle.gf_binomials_theory.specs.Binomials.{IsBinomialOf}
+use Rattle.gf_binomial_calls_theory.specs.Limits.{IsPlainGenerator, HasExponentsUpTo}
 use Rattle.gfan_lists.specs.declared.bases.ListOptions.{ListOptions}
 use Rattle.gfan_lists.specs.Bases.{IsListWithin}
 use Rattle.gfan_lists.specs.Within.{IsWithinRegion}

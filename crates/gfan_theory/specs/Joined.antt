@@ -5,7 +5,7 @@ use Rattle.gf_poly.specs.Marking.{MarkedPolynomials}
 use Rattle.gf_text.specs.RingText.{ring_text}
 use Rattle.gf_text.specs.PrintedSets.{basis_text}
 use Rattle.gf_text.specs.WrittenText.{AreKept}
-use Rattle.gf_facets.specs.Regions.{Region}
+use Rattle.gf_facets_theory.specs.Regions.{Region}
 use Rattle.gf_front.specs.declared.refusal.Refusal.{Refusal}
 use Rattle.gf_frame.specs.Commands.{IsBegunFor}
 use Rattle.gfan_lists.specs.declared.bases.ListOptions.{ListOptions}

@@ -1,25 +1,25 @@
 -- Ideals that differences of variables generate: their runs, flips and searches stay within their limits.
 -- Laws: proofs/LinearRuns.antt, proofs/LinearBases.antt, proofs/LinearLimits.antt.
 use Rattle.std.specs.Prelude.{◌≡◌, ℕ, ◌≤◌, false, List, length, None, replicate, Contains, ℤ}
-use Rattle.gf_exponents.specs.Exponents.{Exponents, degree}
+use Rattle.gf_exponents_theory.specs.Exponents.{Exponents, degree}
 use Rattle.gf_poly.specs.Polynomial.{Terms}
-use Rattle.gf_ideal.specs.Membership.{HasMonomial, AreInVariables}
-use Rattle.gf_ideal.specs.MonomialOrders.{MonomialOrder, IsAdmissible}
-use Rattle.gf_binomials.specs.Binomials.{AreBinomials}
+use Rattle.gf_ideal_theory.specs.Membership.{HasMonomial, AreInVariables}
+use Rattle.gf_ideal_theory.specs.MonomialOrders.{MonomialOrder, IsAdmissible}
+use Rattle.gf_binomials_theory.specs.Binomials.{AreBinomials}
 use Rattle.gf_buchberger.specs.Pairs.{pairs_below}
 use Rattle.gf_buchberger.specs.Bases.{AreRunsWithinLimits}
 use Rattle.gf_poly.specs.Marking.{MarkedPolynomial, MarkedPolynomials}
 use Rattle.gf_reduced.specs.Markings.{IsMarkedGroebnerBasis}
 use Rattle.gf_reduced.specs.Terms.{AreReduced}
 use Rattle.gf_reduced.specs.Refusals.{AreChecksWithinLimits}
-use Rattle.gf_binomial_calls.specs.Sets.{IsBinomialSet}
+use Rattle.gf_binomial_calls_theory.specs.Sets.{IsBinomialSet}
 use Rattle.gfan_sets.specs.WeightVector.{IsWeighedWithin}
 use Rattle.gf_gordan.specs.Sizes.{HaveEntriesUpTo}
-use Rattle.gf_facets.specs.Regions.{Region, IsInRegion}
-use Rattle.gf_facets.specs.Facets.{IsFlippable}
-use Rattle.gf_facets.specs.MarkedBases.{IsBasisInRegion}
+use Rattle.gf_facets_theory.specs.Regions.{Region, IsInRegion}
+use Rattle.gf_facets_theory.specs.Facets.{IsFlippable}
+use Rattle.gf_facets_theory.specs.MarkedBases.{IsBasisInRegion}
 use Rattle.gf_flip.specs.Operations.{IsFlipWithinLimits}
-use Rattle.gf_reverse.specs.Upward.{Fan}
+use Rattle.gf_reverse_theory.specs.Upward.{Fan}
 use Rattle.gf_tree.specs.Refusals.{IsTreeWithinLimits}
 use Rattle.gfan_lists.specs.declared.bases.ListOptions.{ListOptions}
 use Rattle.gfan_lists.specs.Bases.{IsListWithin}

@@ -1,7 +1,7 @@
 -- What `_bases` writes is determined by what it reads, and depends on the ideal alone. Laws: proofs/OneTextLaws.antt.
 use Rattle.std.specs.Prelude.{◌≡◌, ℕ, List, length}
 use Rattle.gf_poly.specs.Polynomial.{Terms}
-use Rattle.gf_ideal.specs.Membership.{AreSameIdeal}
+use Rattle.gf_ideal_theory.specs.Membership.{AreSameIdeal}
 use Rattle.gfan.specs.ListSources.{HasPolynomials}
 use Rattle.gfan_theory.specs.Answers.{Request, bytes_of, IsBasesAnswer}
 

@@ -1,14 +1,14 @@
 -- What the list of an answer has for each weight of its region. Laws: proofs/ServedLaws.antt.
 -- Source: Fukuda, Jensen, Thomas, Computing Gröbner fans, 2.
 use Rattle.std.specs.Prelude.{◌≡◌, ◌↔◌, ℕ, List, ◌++◌, length, ℤ}
-use Rattle.gf_exponents.specs.Orders.{gains}
+use Rattle.gf_exponents_theory.specs.Orders.{gains}
 use Rattle.gf_poly.specs.Polynomial.{Terms}
 use Rattle.gf_poly.specs.Marking.{MarkedPolynomials}
-use Rattle.gf_ideal.specs.Bases.{IsReducedBasis}
-use Rattle.gf_walk.specs.Listing.{Among}
-use Rattle.gf_facets.specs.Regions.{Region, IsInRegion}
-use Rattle.gf_facets.specs.Facets.{IsInClosedCone}
-use Rattle.gf_facets.specs.InitialIdeals.{IsMonomialAt}
+use Rattle.gf_ideal_theory.specs.Bases.{IsReducedBasis}
+use Rattle.gf_reverse_search.specs.Listing.{Among}
+use Rattle.gf_facets_theory.specs.Regions.{Region, IsInRegion}
+use Rattle.gf_facets_theory.specs.Facets.{IsInClosedCone}
+use Rattle.gf_facets_theory.specs.InitialIdeals.{IsMonomialAt}
 use Rattle.gfan_lists.specs.BasesList.{IsGivenIn}
 use Rattle.gfan_theory.specs.Answers.{Request, IsBasesAnswer, IsListAnswer}
 

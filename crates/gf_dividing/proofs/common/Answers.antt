@@ -1,5 +1,5 @@
 use Rattle.std.proofs.Common.{◌≤◌, ℕ, length, take, sym, subst, ap, arith, ◌∙◌}
-use Rattle.gf_exponents.specs.Exponents.{entry}
+use Rattle.gf_exponents_theory.specs.Exponents.{entry}
 use Rattle.gf_poly.specs.declared.Term.{Term}
 use Rattle.gf_poly.proofs.ProductLaws.{HasVariables-at}
 use Rattle.gf_dividing.proofs.DividingLaws.{each_more, each_weaker, each_front, each_last}

@@ -1,5 +1,5 @@
 use Rattle.std.proofs.Common.{◌≡◌, ◌≤◌, length, sym, subst, ap, ◌∙◌}
-use Rattle.gf_exponents.specs.Exponents.{Exponents, entry, join, minus, Divides}
+use Rattle.gf_exponents_theory.specs.Exponents.{Exponents, entry, join, minus, Divides}
 use Rattle.gf_poly.proofs.MonomialLaws.{length-join, length-minus}
 use Rattle.gf_dividing.proofs.DividingLaws.{shared_divides, rest_divides, rest_long, shared_left, shared_right, shared_greatest}
 use Rattle.gf_dividing.proofs.shared.Goals as goal

@@ -1,6 +1,6 @@
 use Rattle.std.proofs.Common.{◌≡◌, ℕ, map, length, sym, subst, ap, ◌∙◌}
 use Rattle.gf_frac.specs.Fraction.{one_ℚ}
-use Rattle.gf_exponents.specs.Exponents.{Exponents}
+use Rattle.gf_exponents_theory.specs.Exponents.{Exponents}
 use Rattle.gf_poly.specs.Polynomial.{Terms, HasVariables, IsDescending, times}
 use Rattle.gf_dividing.specs.Dividing.{DividesAll, IsGreatest, divided_term, IsStripped}
 use Rattle.gf_dividing.proofs.DividingLaws.{divided_back, divided_variables, divided_descending}

@@ -1,7 +1,7 @@
 //! Initial forms: the terms of greatest weight.
 
 ghost use Rattle.std.specs.Prelude.{◌≡◌, ◌≤◌, ◌^◌, All, IfOk, unsigned_abs, length};
-ghost use Rattle.gf_exponents.specs.Exponents.{whole_weight};
+ghost use Rattle.gf_exponents_theory.specs.Exponents.{whole_weight};
 ghost use Rattle.gf_poly.specs.Polynomial.{IsDescending, HasVariables, KeepsVariables};
 ghost use Rattle.gf_poly.specs.InitialForms.{IsInitialForm};
 

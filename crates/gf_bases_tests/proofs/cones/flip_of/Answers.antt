@@ -1,7 +1,7 @@
 use Rattle.std.proofs.Common.{◌≡◌, List, [], ◌++◌, ℤ, sym, ap, ◌∙◌, subst}
 use Rattle.gf_gordan.specs.Alternative.{IsSolvable}
-use Rattle.gf_facets.specs.Regions.{Region}
-use Rattle.gf_facets.specs.Systems.{units}
+use Rattle.gf_facets_theory.specs.Regions.{Region}
+use Rattle.gf_facets_theory.specs.Systems.{units}
 use Rattle.gf_bases_tests.proofs.cones.flip_of.Goals as goal
 
 pub flippable-requires-clause-interior : goal.flippable-requires-clause-interior

@@ -1,5 +1,5 @@
 use Rattle.std.specs.Prelude.{◌≡◌}
-use Rattle.gf_facets.specs.Regions.{all_positive}
+use Rattle.gf_facets_theory.specs.Regions.{all_positive}
 use Rattle.gf_bases_tests.proofs.trees.basis_at.Given as goal
 
 abbrev pub invariant-steps : goal.invariant-steps

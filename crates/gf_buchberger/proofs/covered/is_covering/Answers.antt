@@ -1,5 +1,5 @@
 use Rattle.std.proofs.Common.{sym, ap, ◌∙◌, length, subst}
-use Rattle.gf_exponents.specs.Exponents.{Exponents, Divides, join}
+use Rattle.gf_exponents_theory.specs.Exponents.{Exponents, Divides, join}
 use Rattle.gf_poly.proofs.MonomialLaws.{length-join}
 use Rattle.gf_buchberger.specs.declared.covered.Rank.{Rank}
 use Rattle.gf_buchberger.specs.Covered.{AreCoprimeOrBelow, rank_of}

@@ -1,6 +1,6 @@
 use Rattle.std.proofs.Common.{arith, length}
-use Rattle.gf_facets.specs.Systems.{unit}
-use Rattle.gf_facets.proofs.UnitLaws.{length-unit}
+use Rattle.gf_facets_theory.specs.Systems.{unit}
+use Rattle.gf_facets_theory.proofs.UnitLaws.{length-unit}
 use Rattle.gf_cone.proofs.CrossingLaws.{sum_by_entries}
 use Rattle.gf_cone.proofs.checks.is_raised.Goals as goal
 

@@ -1,5 +1,5 @@
 use Rattle.std.proofs.Common.{ℕ, ◌<◌, pos, get_or, length, ◌≡◌, ◌+ℤ◌}
-use Rattle.gf_facets.specs.Systems.{unit}
+use Rattle.gf_facets_theory.specs.Systems.{unit}
 use Rattle.gf_cone.proofs.checks.is_raised.Given as goal
 
 abbrev pub invariant-loop-i : goal.invariant-loop-i

@@ -1,6 +1,6 @@
 use Rattle.std.proofs.Common.{◌≡◌, arith, sym, ap, subst, ◌∙◌, List, ℤ, length}
 use Rattle.gf_vec.specs.Vector.{vector_sum}
-use Rattle.gf_facets.specs.Systems.{unit, units}
+use Rattle.gf_facets_theory.specs.Systems.{unit, units}
 use Rattle.gf_cone.proofs.AnswerLaws.{row_read}
 use Rattle.gf_cone.proofs.CrossingLaws.{raised_at}
 use Rattle.gf_cone.proofs.checks.is_raised_to.Goals as goal

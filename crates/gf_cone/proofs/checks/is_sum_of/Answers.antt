@@ -1,6 +1,6 @@
 use Rattle.std.proofs.Common.{arith, sym, ap₂, ◌∙◌}
 use Rattle.gf_vec.specs.Vector.{vector_sum}
-use Rattle.gf_facets.specs.Systems.{units}
+use Rattle.gf_facets_theory.specs.Systems.{units}
 use Rattle.gf_cone.proofs.AnswerLaws.{row_read}
 use Rattle.gf_cone.proofs.CrossingLaws.{sum_at}
 use Rattle.gf_cone.proofs.checks.is_sum_of.Goals as goal

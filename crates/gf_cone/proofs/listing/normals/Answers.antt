@@ -1,6 +1,6 @@
 use Rattle.std.proofs.Common.{refl, subst, [], ◌++◌, ◌+◌, take, List, ℤ}
-use Rattle.gf_facets.proofs.SystemLaws.{canonical_all}
-use Rattle.gf_facets.specs.Rows.{rows_of_terms, rows_of_polynomials}
+use Rattle.gf_facets_theory.proofs.SystemLaws.{canonical_all}
+use Rattle.gf_facets_theory.specs.Rows.{rows_of_terms, rows_of_polynomials}
 use Rattle.gf_cone.specs.Placing.{Gathers}
 use Rattle.gf_cone.proofs.RowsLaws.{Collecting, Collecting-more, all_collected, collected_marked, some_variables}
 use Rattle.gf_cone.proofs.ListingLaws.{gathers_append, gathered}

@@ -1,5 +1,5 @@
 use Rattle.std.proofs.Common.{refl, subst, [], ◌++◌, take, List, ℤ, ◌∙◌}
-use Rattle.gf_facets.specs.Rows.{row_between, rows_of_terms}
+use Rattle.gf_facets_theory.specs.Rows.{row_between, rows_of_terms}
 use Rattle.gf_cone.specs.Placing.{Gathers}
 use Rattle.gf_cone.proofs.RowsLaws.{lengths_at, rows_more}
 use Rattle.gf_cone.proofs.ListingLaws.{gathers_append}

@@ -1,5 +1,5 @@
 use Rattle.std.proofs.Common.{◌≡◌, ◌++◌, take, All}
-use Rattle.gf_facets.specs.Rows.{rows_of_terms}
+use Rattle.gf_facets_theory.specs.Rows.{rows_of_terms}
 use Rattle.gf_cone.specs.Small.{IsSmall}
 use Rattle.gf_cone.proofs.marking.with_member.Given as goal
 

@@ -1,5 +1,5 @@
 use Rattle.std.proofs.Common.{rules, ◌≡◌, ◌-◌, [], length, pos, arith, ap, ◌∙◌, get_or, ℕ}
-use Rattle.gf_facets.specs.Systems.{unit}
+use Rattle.gf_facets_theory.specs.Systems.{unit}
 use Rattle.gf_cone.specs.Cones.{all_rows}
 use Rattle.gf_cone.proofs.SpanLaws.{unit_entry_in}
 use Rattle.gf_cone.proofs.spans.entry_at.Goals as goal

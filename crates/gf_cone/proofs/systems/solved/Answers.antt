@@ -1,10 +1,10 @@
 use Rattle.std.proofs.Common.{rules, ◌≡◌, sym, subst, ℤ, List, [], ◌∷◌, neg_ℤ, FitsSigned, get_or, pos}
 use Rattle.std.specs.Int.{w128}
 use Rattle.std.proofs.lemmas.Int.{to_z-of_z}
-use Rattle.gf_facets.specs.Combinations.{IsCombination}
+use Rattle.gf_facets_theory.specs.Combinations.{IsCombination}
 use Rattle.gf_gordan.specs.Answers.{IsAlternative}
 use Rattle.gf_gordan.specs.Alternative.{IsFarkas}
-use Rattle.gf_facets.proofs.FacetSystems.{combination_of_farkas}
+use Rattle.gf_facets_theory.proofs.FacetSystems.{combination_of_farkas}
 use Rattle.gf_cone.proofs.AnswerLaws.{one_equation}
 use Rattle.gf_cone.proofs.systems.solved.Goals as goal
 

@@ -1,6 +1,6 @@
 use Rattle.std.proofs.Common.{◌^◌}
 use Rattle.gf_poly.specs.declared.TheConstants.{ROOM}
-use Rattle.gf_ideal.specs.Measure.{work_left}
+use Rattle.gf_ideal_theory.specs.Measure.{work_left}
 use Rattle.gf_division.specs.Dividends.{split_of, joined_terms}
 use Rattle.gf_division.specs.Divisions.{lists_of}
 use Rattle.gf_division.proofs.DivisionLaws.{Dividing}

@@ -1,6 +1,6 @@
 use Rattle.std.proofs.Common.{sym, subst}
 use Rattle.gf_gordan.specs.Alternative.{AreRows}
-use Rattle.gf_duality.specs.Rays.{IsRays}
+use Rattle.gf_duality_theory.specs.Rays.{IsRays}
 use Rattle.gf_fan.proofs.SettledLaws.{wide_rows, apart_of, settled_as, separating_as}
 use Rattle.gf_fan.proofs.apart.are_apart_by_products.Goals as goal
 

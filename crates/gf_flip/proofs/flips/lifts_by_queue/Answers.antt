@@ -1,7 +1,7 @@
 use Rattle.std.proofs.Common.{◌≡◌, List, IfSome, length, map, ◌==◌, refl, sym, ap, ◌∙◌, subst}
 use Rattle.gf_poly.specs.Polynomial.{Terms}
 use Rattle.gf_poly.specs.Marking.{MarkedPolynomial}
-use Rattle.gf_initial.specs.Lifts.{AreTopLifts}
+use Rattle.gf_initial_theory.specs.Lifts.{AreTopLifts}
 use Rattle.gf_lines.specs.Along.{HasNonzero, AreAlong, AreSmall}
 use Rattle.gf_lines.specs.Members.{AreMonic}
 use Rattle.gf_flip.specs.Chosen.{AreAloneWhere}

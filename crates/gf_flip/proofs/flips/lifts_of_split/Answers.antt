@@ -1,6 +1,6 @@
 use Rattle.std.proofs.Common.{IfSome, Bool, List, subst, length}
-use Rattle.gf_initial.specs.Lifts.{AreTopLifts}
-use Rattle.gf_ideal.proofs.ListLaws.{each_contained}
+use Rattle.gf_initial_theory.specs.Lifts.{AreTopLifts}
+use Rattle.gf_ideal_theory.proofs.ListLaws.{each_contained}
 use Rattle.gf_poly.specs.Polynomial.{HasVariables}
 use Rattle.gf_poly.specs.Marking.{MarkedPolynomial}
 use Rattle.gf_lines.specs.declared.lines.Line.{Line}

@@ -1,6 +1,6 @@
 use Rattle.std.proofs.Common.{ℕ, ◌≡◌, ◌<◌, ◌≤◌, subst, sym}
 use Rattle.std.proofs.lemmas.Nat.Gcd.{le_of_dvd, IsGcd-from_mod}
-use Rattle.gf_int.specs.Gcd.{gcd, gcd-is, gcd-same, gcd-positive}
+use Rattle.gf_int_theory.specs.Gcd.{gcd, gcd-is, gcd-same, gcd-positive}
 use Rattle.gf_frac.proofs.working.common.Goals as goal
 
 -- what a greatest common divisor is besides

@@ -2,7 +2,7 @@ use Rattle.std.proofs.Common.{FitsSigned, pos, ℤ, ◌≡◌, rules, ◌∙◌,
 use Rattle.std.specs.Int.RustNames.{unsigned_abs, int_div}
 use Rattle.std.specs.Int.{w128}
 use Rattle.std.proofs.lemmas.Int.{to_z-of_z}
-use Rattle.gf_int.specs.Gcd.{gcd}
+use Rattle.gf_int_theory.specs.Gcd.{gcd}
 use Rattle.gf_frac.specs.Fits.{IsReduced}
 use Rattle.gf_frac.proofs.PartsLaws.{through, reduced_by, reduced_one}
 use Rattle.gf_frac.proofs.working.lowest_by.Goals as goal

@@ -1,7 +1,7 @@
 use Rattle.std.proofs.Common.{◌≡◌, ◌∙◌}
 use Rattle.std.specs.Int.{w64, w128}
 use Rattle.std.proofs.lemmas.Int.{to_z-of_z}
-use Rattle.gf_int.proofs.NarrowLaws.{widened, product_fits, product_range}
+use Rattle.gf_int_theory.proofs.NarrowLaws.{widened, product_fits, product_range}
 use Rattle.gf_frac.proofs.working.narrow_product.Goals as goal
 
 pub overflow_mul-result : goal.overflow_mul-result

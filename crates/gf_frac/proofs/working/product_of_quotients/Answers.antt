@@ -2,7 +2,7 @@ use Rattle.std.proofs.Common.{FitsSigned, ◌≡◌, rules, ◌∙◌, ap}
 use Rattle.std.specs.Int.RustNames.{unsigned_abs}
 use Rattle.std.specs.Int.{w128}
 use Rattle.std.proofs.lemmas.Int.{to_z-of_z}
-use Rattle.gf_int.specs.Gcd.{gcd}
+use Rattle.gf_int_theory.specs.Gcd.{gcd}
 use Rattle.gf_frac.proofs.WorkingLaws.{product_made}
 use Rattle.gf_frac.proofs.working.product_of_quotients.Goals as goal
 

@@ -1,8 +1,8 @@
 use Rattle.std.proofs.Common.{FitsSigned, ℕ, ℤ, pos, ◌≡◌, ◌<◌, ◌^◌, ◌*◌, ◌/◌, ◌+ℤ◌, ◌*ℤ◌, arith, rules, ap, ap₂, sym, subst, ◌∙◌}
 use Rattle.std.specs.Int.{w128}
 use Rattle.std.proofs.lemmas.Int.{to_z-of_z}
-use Rattle.gf_int.specs.Gcd.{gcd}
-use Rattle.gf_int.specs.Range.{InRange}
+use Rattle.gf_int_theory.specs.Gcd.{gcd}
+use Rattle.gf_int_theory.specs.Range.{InRange}
 use Rattle.gf_frac.specs.Fits.{FitsSum, IsSumWorking, sum_numerator, sum_denominator}
 use Rattle.gf_frac.proofs.working.sum_working.Goals as goal
 

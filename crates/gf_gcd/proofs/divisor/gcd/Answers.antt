@@ -2,7 +2,7 @@ use Rattle.std.proofs.Common.{ℕ, ◌≡◌, arith, subst, sym}
 use Rattle.std.specs.Int.{IsGcd}
 use Rattle.std.proofs.Math.Nat.{one-dvd}
 use Rattle.std.proofs.lemmas.Nat.Gcd.{IsGcd-from_zero, IsGcd-from_mod}
-use Rattle.gf_int.specs.Gcd.{gcd-same}
+use Rattle.gf_int_theory.specs.Gcd.{gcd-same}
 use Rattle.gf_gcd.proofs.divisor.gcd.Goals as goal
 
 -- 1 is the greatest common divisor of itself and each number

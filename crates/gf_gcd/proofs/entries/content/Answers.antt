@@ -1,6 +1,6 @@
 use Rattle.std.proofs.Common.{subst}
-use Rattle.gf_int.specs.Content.{IsGcdOfAll}
-use Rattle.gf_int.proofs.ContentLaws.{IsContent-zero}
+use Rattle.gf_int_theory.specs.Content.{IsGcdOfAll}
+use Rattle.gf_int_theory.proofs.ContentLaws.{IsContent-zero}
 use Rattle.gf_gcd.proofs.entries.content.Goals as goal
 
 pub returns-then-common-eq0-clause-content : goal.returns-then-common-eq0-clause-content

@@ -1,8 +1,8 @@
 use Rattle.std.proofs.Common.{rules, ◌≡◌, pos, get_or, FitsSigned, unsigned_abs, arith, subst, ap, ◌∙◌}
 use Rattle.std.specs.Int.{w128, IsGcd}
 use Rattle.std.proofs.lemmas.Int.{to_z-of_z}
-use Rattle.gf_int.specs.Range.{InRange}
-use Rattle.gf_int.proofs.ContentLaws.{IsGcdOfAll_more}
+use Rattle.gf_int_theory.specs.Range.{InRange}
+use Rattle.gf_int_theory.proofs.ContentLaws.{IsGcdOfAll_more}
 use Rattle.gf_gcd.proofs.entries.gcd_of_all.Goals as goal
 
 pub entries-preserved : goal.entries-preserved

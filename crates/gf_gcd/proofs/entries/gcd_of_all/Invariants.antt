@@ -1,5 +1,5 @@
 use Rattle.std.proofs.Common.{◌<◌, ◌^◌, take}
-use Rattle.gf_int.specs.Content.{IsGcdOfAll}
+use Rattle.gf_int_theory.specs.Content.{IsGcdOfAll}
 use Rattle.gf_gcd.proofs.entries.gcd_of_all.Given as goal
 
 -- the greatest common divisor of the entries before this one

@@ -1,7 +1,7 @@
 use Rattle.std.proofs.Common.{◌≡◌, ◌++◌, length, ap₂, sym, ◌∙◌, subst}
 use Rattle.std.proofs.lemmas.List.{take-append-drop}
-use Rattle.gf_int.specs.Content.{IsContent}
-use Rattle.gf_int.proofs.ContentLaws.{IsContent-one}
+use Rattle.gf_int_theory.specs.Content.{IsContent}
+use Rattle.gf_int_theory.proofs.ContentLaws.{IsContent-one}
 use Rattle.gf_vec.proofs.PrimitiveLaws.{primitive_of}
 use Rattle.gf_gordan.proofs.feasibility.judged.Goals as goal
 

@@ -1,7 +1,7 @@
 use Rattle.std.specs.Prelude.{IfOk}
 use Rattle.std.proofs.Common.{◌≡◌, ◌∙◌, ap, subst, ◌++◌, List, ℤ}
 use Rattle.gf_rays.specs.Cones.{RowsAndRays, rows_of}
-use Rattle.gf_duality.specs.Rays.{IsRays}
+use Rattle.gf_duality_theory.specs.Rays.{IsRays}
 use Rattle.gf_initial_monomials.proofs.CutLaws.{cut_of}
 use Rattle.gf_initial_monomials.proofs.cones.cut_by.Goals as goal
 

@@ -2,8 +2,8 @@ use Rattle.std.proofs.Common.{◌≡◌, ◌∙◌, ℕ, List, All, ◌<◌, len
 use Rattle.std.proofs.lemmas.Result.{err_from_is_err_and}
 use Rattle.gf_vec.specs.Vector.{zeros}
 use Rattle.gf_vec.specs.Steps.{IsFirstWide, IfWide}
-use Rattle.gf_duality.specs.Faces.{sum_of}
-use Rattle.gf_fans.specs.FaceLists.{numbered}
+use Rattle.gf_duality_theory.specs.Faces.{sum_of}
+use Rattle.gf_fans_theory.specs.FaceLists.{numbered}
 use Rattle.gf_rays.specs.Sums.{adding_steps}
 use Rattle.gf_rays.specs.declared.faces.Face.{Face}
 use Rattle.gf_saturate.proofs.StepLaws.{contains_at}

@@ -2,7 +2,7 @@ use Rattle.std.proofs.Common.{List, Contains, length, sym, subst}
 use Rattle.gf_poly.specs.Polynomial.{Terms, HasVariables}
 use Rattle.gf_poly.specs.Marking.{MarkedPolynomial}
 use Rattle.gf_poly.specs.InitialForms.{IsInitialForm}
-use Rattle.gf_ideal.proofs.ListLaws.{contained_each}
+use Rattle.gf_ideal_theory.proofs.ListLaws.{contained_each}
 use Rattle.gf_saturate.proofs.StepLaws.{contains_at}
 use Rattle.gf_initial_monomials.specs.Outcomes.{AreFormsAt}
 use Rattle.gf_initial_monomials.proofs.FormLaws.{forms_none, forms_more, forms_all, ring_none, ring_more}

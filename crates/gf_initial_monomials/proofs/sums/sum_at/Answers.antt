@@ -4,7 +4,7 @@ use Rattle.std.proofs.lemmas.Result.{err_from_is_err_and}
 use Rattle.gf_gordan.specs.Alternative.{AreRows}
 use Rattle.gf_vec.specs.Vector.{zeros}
 use Rattle.gf_vec.specs.Steps.{sum_steps, IsFirstWide}
-use Rattle.gf_fans.specs.FaceLists.{numbered}
+use Rattle.gf_fans_theory.specs.FaceLists.{numbered}
 use Rattle.gf_rays.specs.Sums.{adding_steps}
 use Rattle.gf_rays.proofs.SumLaws.{IfWide-weaker}
 use Rattle.gf_initial_monomials.proofs.SumLaws.{sum_none, sum_more, sum_all, sum_wide, ray_long}

@@ -1,7 +1,7 @@
 use Rattle.std.specs.Prelude.{IsTrue}
 use Rattle.std.proofs.Common.{◌↔◌, sym, subst, List}
 use Rattle.gf_poly.specs.Polynomial.{Terms}
-use Rattle.gf_saturation.specs.Saturations.{HasOneTermMember}
+use Rattle.gf_saturation_theory.specs.Saturations.{HasOneTermMember}
 use Rattle.gf_saturate.specs.Saturating.{IsSaturateRefusal}
 use Rattle.gf_initial_monomials.specs.Outcomes.{TellsMonomial}
 use Rattle.gf_initial_monomials.proofs.FaceLaws.{told_of}

@@ -1,6 +1,6 @@
 use Rattle.std.proofs.Common.{sym, subst}
 use Rattle.gf_poly.specs.Marking.{MarkedPolynomials}
-use Rattle.gf_ideal.specs.Marks.{IsRealisable}
+use Rattle.gf_ideal_theory.specs.Marks.{IsRealisable}
 use Rattle.gf_lifts.proofs.LiftsInTurnLaws.{reduced_as}
 use Rattle.gf_lifts.proofs.wide.autoreduced.Goals as goal
 

@@ -1,7 +1,7 @@
 use Rattle.std.proofs.Common.{[], ℕ, to_z, of_z, FitsSigned, rules, length, ap, sym, subst, ◌∙◌}
 use Rattle.std.specs.Int.{w32}
 use Rattle.std.proofs.lemmas.Int.{to_z-of_z}
-use Rattle.gf_exponents.specs.Exponents.{Exponents}
+use Rattle.gf_exponents_theory.specs.Exponents.{Exponents}
 use Rattle.gf_poly.specs.Marking.{HaveVariables}
 use Rattle.gf_lines.specs.declared.lines.Point.{Point}
 use Rattle.gf_lines.specs.Lines.{moved}

@@ -1,6 +1,6 @@
 use Rattle.std.proofs.Common.{[], ◌+◌, length, ap, refl, sym, subst, inr, ◌∙◌}
-use Rattle.gf_exponents.specs.Exponents.{Exponents, AreCoprime}
-use Rattle.gf_ideal.proofs.ListLaws.{contained_each}
+use Rattle.gf_exponents_theory.specs.Exponents.{Exponents, AreCoprime}
+use Rattle.gf_ideal_theory.proofs.ListLaws.{contained_each}
 use Rattle.gf_lines.specs.Lines.{IsLineOf, facet_order, line_member, line_members}
 use Rattle.gf_lines.specs.Monomials.{monomial_member, with_monomials}
 use Rattle.gf_line_runs.specs.Turns.{IsPairTaken}

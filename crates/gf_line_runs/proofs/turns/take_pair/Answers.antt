@@ -1,8 +1,8 @@
 use Rattle.std.proofs.Common.{[], ℕ, List, ◌+◌, length, take, arith, ap, refl, sym, subst, ◌∙◌}
 use Rattle.std.proofs.lemmas.Option.{IfSome_then}
-use Rattle.gf_exponents.specs.Exponents.{Exponents, join}
+use Rattle.gf_exponents_theory.specs.Exponents.{Exponents, join}
 use Rattle.gf_poly.specs.Marking.{HaveVariables}
-use Rattle.gf_ideal.proofs.ListLaws.{contained_each}
+use Rattle.gf_ideal_theory.proofs.ListLaws.{contained_each}
 use Rattle.gf_lines.specs.declared.lines.Point.{Point}
 use Rattle.gf_lines.specs.Lines.{IsLineOf, IsSubtracted, facet_order, line_member, line_members}
 use Rattle.gf_lines.specs.Monomials.{with_monomials}

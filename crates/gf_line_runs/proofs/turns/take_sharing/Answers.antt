@@ -1,8 +1,8 @@
 use Rattle.std.proofs.Common.{[], ℕ, ◌+◌, length, take, map, arith, ap, refl, sym, subst, ◌∙◌}
 use Rattle.std.proofs.lemmas.Option.{IfSome_then}
-use Rattle.gf_exponents.specs.Exponents.{Exponents, Divides, join}
+use Rattle.gf_exponents_theory.specs.Exponents.{Exponents, Divides, join}
 use Rattle.gf_poly.specs.Marking.{Each, HaveVariables}
-use Rattle.gf_ideal.proofs.ListLaws.{contained_each}
+use Rattle.gf_ideal_theory.proofs.ListLaws.{contained_each}
 use Rattle.gf_lines.specs.declared.lines.Point.{Point}
 use Rattle.gf_lines.specs.Lines.{AreFalling, AreSpots, IsLineOf, facet_order, line_member, line_members, moved, negated_point}
 use Rattle.gf_lines.specs.Monomials.{monomial_member, with_monomials}

@@ -1,5 +1,5 @@
 use Rattle.std.specs.Prelude.{◌≡◌, ℕ, ◌<◌, get_or, pos, ◌+ℤ◌, ◌*ℤ◌}
-use Rattle.gf_exponents.specs.Exponents.{entry}
+use Rattle.gf_exponents_theory.specs.Exponents.{entry}
 use Rattle.gf_lines.proofs.along.distance.Given as goal
 
 abbrev pub invariant-entries : goal.invariant-entries

@@ -1,5 +1,5 @@
 use Rattle.std.proofs.Common.{sym, subst}
-use Rattle.gf_exponents.specs.Exponents.{Divides}
+use Rattle.gf_exponents_theory.specs.Exponents.{Divides}
 use Rattle.gf_lines.specs.declared.lines.Line.{Line}
 use Rattle.gf_lines.proofs.LineMarks.{line_divided}
 use Rattle.gf_lines.proofs.forms.is_left.Goals as goal

@@ -1,5 +1,5 @@
 use Rattle.std.proofs.Common.{sym, subst}
-use Rattle.gf_exponents.specs.Exponents.{Divides}
+use Rattle.gf_exponents_theory.specs.Exponents.{Divides}
 use Rattle.gf_lines.specs.declared.lines.Line.{Line}
 use Rattle.gf_lines.proofs.FormLaws.{line_found}
 use Rattle.gf_lines.proofs.forms.line_below.Goals as goal

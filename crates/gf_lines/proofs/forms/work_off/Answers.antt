@@ -2,8 +2,8 @@ use Rattle.std.proofs.Common.{◌≡◌, ◌∙◌, List, [], ◌∷◌, ◌++�
 use Rattle.std.specs.Int.{w32}
 use Rattle.std.proofs.lemmas.Int.{to_z-of_z}
 use Rattle.std.proofs.lemmas.Option.{IfSome_then}
-use Rattle.gf_exponents.specs.Exponents.{Exponents}
-use Rattle.gf_ideal.specs.Reduction.{IsDivisible}
+use Rattle.gf_exponents_theory.specs.Exponents.{Exponents}
+use Rattle.gf_ideal_theory.specs.Reduction.{IsDivisible}
 use Rattle.gf_lines.specs.declared.lines.Line.{Line}
 use Rattle.gf_lines.specs.declared.lines.Point.{Point}
 use Rattle.gf_lines.specs.Lines.{KeepsWork, NoLineBelow, HasLineBelow, IsSubtracted, line_members, moved}

@@ -3,8 +3,8 @@ use Rattle.std.specs.Int.{w32}
 use Rattle.std.proofs.lemmas.Int.{to_z-of_z}
 use Rattle.std.proofs.lemmas.List.{length-replicate}
 use Rattle.std.proofs.lemmas.List.Elements.{All-replicate}
-use Rattle.gf_exponents.specs.Exponents.{Exponents}
-use Rattle.gf_exponents.proofs.ExponentsLaws.{entry-get_or}
+use Rattle.gf_exponents_theory.specs.Exponents.{Exponents}
+use Rattle.gf_exponents_theory.proofs.ExponentsLaws.{entry-get_or}
 use Rattle.gf_poly.specs.declared.TheConstants.{ROOM}
 use Rattle.gf_lines.specs.Lines.{moved, IsSpot}
 use Rattle.gf_lines.proofs.MultipleLaws.{narrow_entry}

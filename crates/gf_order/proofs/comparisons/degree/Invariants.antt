@@ -1,5 +1,5 @@
 use Rattle.std.proofs.Common.{◌≡◌, ◌≤◌, ◌+◌, ◌*◌, ◌^◌, drop}
-use Rattle.gf_exponents.specs.Exponents.{degree}
+use Rattle.gf_exponents_theory.specs.Exponents.{degree}
 use Rattle.gf_order.proofs.comparisons.degree.Given as goal
 
 abbrev pub invariant-loop-e : goal.invariant-loop-e

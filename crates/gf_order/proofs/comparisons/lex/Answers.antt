@@ -1,7 +1,7 @@
 use Rattle.std.proofs.Common.{sym, subst}
 use Rattle.std.specs.declared.cmp.Ordering.{Ordering}
-use Rattle.gf_exponents.specs.SixOrders.{MonomialOrder}
-use Rattle.gf_exponents.proofs.OrderLaws.{lex-compares}
+use Rattle.gf_exponents_theory.specs.SixOrders.{MonomialOrder}
+use Rattle.gf_exponents_theory.proofs.OrderLaws.{lex-compares}
 use Rattle.gf_order.specs.Comparisons.{IsOutcome}
 use Rattle.gf_order.proofs.comparisons.lex.Goals as goal
 

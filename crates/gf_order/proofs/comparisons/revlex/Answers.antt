@@ -1,5 +1,5 @@
 use Rattle.std.proofs.Common.{sym, ◌∙◌, arith}
-use Rattle.gf_exponents.proofs.ExponentsLaws.{entry-past, same_lists}
+use Rattle.gf_exponents_theory.proofs.ExponentsLaws.{entry-past, same_lists}
 use Rattle.gf_order.proofs.ComparisonLaws.{revlex_at, same_before}
 use Rattle.gf_order.proofs.comparisons.revlex.Goals as goal
 

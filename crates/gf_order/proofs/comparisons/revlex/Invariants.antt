@@ -1,5 +1,5 @@
 use Rattle.std.proofs.Common.{◌≡◌, ◌≤◌, ℕ, length}
-use Rattle.gf_exponents.specs.Exponents.{entry}
+use Rattle.gf_exponents_theory.specs.Exponents.{entry}
 use Rattle.gf_order.proofs.comparisons.revlex.Given as goal
 
 abbrev pub invariant-entries : goal.invariant-entries

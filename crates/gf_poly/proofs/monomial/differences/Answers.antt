@@ -1,6 +1,6 @@
 use Rattle.std.proofs.Common.{ℕ, ◌-◌, arith, ◌∙◌, sym}
-use Rattle.gf_exponents.specs.Exponents.{minus}
-use Rattle.gf_exponents.proofs.ExponentsLaws.{entry-minus}
+use Rattle.gf_exponents_theory.specs.Exponents.{minus}
+use Rattle.gf_exponents_theory.proofs.ExponentsLaws.{entry-minus}
 use Rattle.gf_poly.proofs.MonomialLaws.{AreEntries-more, AreEntries-all, entry-get_or, entries_by_divides, length-minus}
 use Rattle.gf_poly.proofs.monomial.differences.Goals as goal
 

@@ -1,7 +1,7 @@
 use Rattle.std.proofs.Common.{ℕ, arith, ◌∙◌, sym}
 use Rattle.std.specs.Prelude.{max}
-use Rattle.gf_exponents.specs.Exponents.{join}
-use Rattle.gf_exponents.proofs.ExponentsLaws.{entry-join}
+use Rattle.gf_exponents_theory.specs.Exponents.{join}
+use Rattle.gf_exponents_theory.proofs.ExponentsLaws.{entry-join}
 use Rattle.gf_poly.proofs.MonomialLaws.{AreEntries-more, AreEntries-all, entry-get_or, length-join}
 use Rattle.gf_poly.proofs.monomial.maxima.Goals as goal
 use Rattle.gf_poly.proofs.monomial.maxima.Goals.{then-x-i, else-x-i}

@@ -1,6 +1,6 @@
 use Rattle.std.proofs.Common.{ℕ, ◌+◌, arith, sym, ◌∙◌}
-use Rattle.gf_exponents.specs.Exponents.{plus}
-use Rattle.gf_exponents.proofs.ExponentsLaws.{entry-plus}
+use Rattle.gf_exponents_theory.specs.Exponents.{plus}
+use Rattle.gf_exponents_theory.proofs.ExponentsLaws.{entry-plus}
 use Rattle.gf_poly.proofs.MonomialLaws.{AreEntries-more, AreEntries-all, FitsBelow-end, IsFitting-more, entry-get_or, length-plus}
 use Rattle.gf_poly.proofs.monomial.sums.Goals as goal
 

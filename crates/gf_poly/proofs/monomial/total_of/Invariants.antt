@@ -1,5 +1,5 @@
 use Rattle.std.proofs.Common.{◌≡◌, ◌≤◌, ◌*◌, ◌^◌, take}
-use Rattle.gf_exponents.specs.Exponents.{degree}
+use Rattle.gf_exponents_theory.specs.Exponents.{degree}
 use Rattle.gf_poly.proofs.monomial.total_of.Given as goal
 
 abbrev pub invariant-entries : goal.invariant-entries

@@ -1,5 +1,5 @@
 use Rattle.std.proofs.Common.{Some, refl, sym}
-use Rattle.gf_exponents.specs.Exponents.{same}
+use Rattle.gf_exponents_theory.specs.Exponents.{same}
 use Rattle.gf_division.proofs.ReducerLaws.{beside_by_test, not_beside_by_test}
 use Rattle.gf_reduced.proofs.TermLaws.{not_false}
 use Rattle.gf_reduced.proofs.terms.are_different.Goals as goal

@@ -1,6 +1,6 @@
 use Rattle.std.proofs.Common.{subst}
 use Rattle.gf_gordan.specs.Alternative.{AreRows}
-use Rattle.gf_duality.specs.Rays.{IsRays}
+use Rattle.gf_duality_theory.specs.Rays.{IsRays}
 use Rattle.gf_rays.specs.Cones.{rows_of}
 use Rattle.gf_refine.proofs.InsideLaws.{rays_inside, up_as, zero_as}
 use Rattle.gf_refine.proofs.inside.lies_inside.Goals as goal

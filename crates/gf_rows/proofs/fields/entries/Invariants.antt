@@ -1,5 +1,5 @@
 use Rattle.std.proofs.Common.{All}
-use Rattle.gf_int.specs.Range.{InRange}
+use Rattle.gf_int_theory.specs.Range.{InRange}
 use Rattle.gf_rows.proofs.fields.entries.Given as goal
 
 abbrev pub invariant-loop-word : goal.invariant-loop-word

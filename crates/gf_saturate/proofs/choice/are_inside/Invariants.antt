@@ -1,5 +1,5 @@
 use Rattle.std.specs.Prelude.{◌≡◌, ◌<◌, ℕ}
-use Rattle.gf_exponents.specs.Exponents.{entry}
+use Rattle.gf_exponents_theory.specs.Exponents.{entry}
 use Rattle.gf_saturate.proofs.choice.are_inside.Given as goal
 
 abbrev pub invariant-variables : goal.invariant-variables

@@ -1,5 +1,5 @@
 use Rattle.std.proofs.Common.{sym, ◌∙◌}
-use Rattle.gf_saturation.specs.Saturations.{product_power}
+use Rattle.gf_saturation_theory.specs.Saturations.{product_power}
 use Rattle.gf_saturate.proofs.ChoiceLaws.{enough_all, enough_twice}
 use Rattle.gf_saturate.proofs.choice.is_enough.Goals as goal
 

@@ -1,6 +1,6 @@
 use Rattle.std.proofs.Common.{nat_eq, slice_index_or, ap, ◌∙◌}
-use Rattle.gf_exponents.specs.Exponents.{Exponents}
-use Rattle.gf_exponents.proofs.ExponentsLaws.{entry-get_or}
+use Rattle.gf_exponents_theory.specs.Exponents.{Exponents}
+use Rattle.gf_exponents_theory.proofs.ExponentsLaws.{entry-get_or}
 use Rattle.gf_saturate.proofs.elimination.is_free.Goals as goal
 
 pub returns : goal.returns

@@ -1,10 +1,10 @@
 use Rattle.std.proofs.Common.{◌≡◌, ◌+◌, arith, length, ℤ, List}
 use Rattle.std.proofs.lemmas.Result.{IfOk-weaker}
-use Rattle.gf_int.specs.Range.{InRange}
-use Rattle.gf_exponents.specs.Orders.{gains}
+use Rattle.gf_int_theory.specs.Range.{InRange}
+use Rattle.gf_exponents_theory.specs.Orders.{gains}
 use Rattle.gf_order.specs.Weights.{AreBounded}
 use Rattle.gf_poly.specs.declared.TheConstants.{ROOM}
-use Rattle.gf_saturation.specs.Saturations.{last_weight}
+use Rattle.gf_saturation_theory.specs.Saturations.{last_weight}
 use Rattle.gf_saturate.proofs.StepLaws.{entries-all, entries-gains, entries-long, bounded-of}
 use Rattle.gf_saturate.proofs.elimination.last_entries.Goals as goal
 

@@ -1,5 +1,5 @@
 use Rattle.std.proofs.Common.{rules, ◌≡◌, ◌+◌, ◌==◌, true, false, sym, subst, ap, map, ◌∙◌, List, Contains}
-use Rattle.gf_exponents.specs.Exponents.{entry}
+use Rattle.gf_exponents_theory.specs.Exponents.{entry}
 use Rattle.gf_poly.specs.Polynomial.{Terms, HasVariables}
 use Rattle.gf_poly.specs.Marking.{MarkedPolynomial}
 use Rattle.gf_saturate.specs.Widening.{widened_term, narrowed_term}

@@ -1,5 +1,5 @@
 use Rattle.std.proofs.Common.{◌<◌, ◌≤◌, ℕ, List, arith, sym, subst, ◌∙◌}
-use Rattle.gf_exponents.specs.Exponents.{entry}
+use Rattle.gf_exponents_theory.specs.Exponents.{entry}
 use Rattle.gf_poly.specs.Polynomial.{Terms}
 use Rattle.gf_buchberger.specs.Jobs.{HaveRingVariables}
 use Rattle.gf_saturate.specs.Graded.{IsDividedStep}

@@ -1,5 +1,5 @@
 use Rattle.std.proofs.Common.{◌≡◌, ◌<◌, ℕ, length, arith, refl, sym, subst, ap, ◌∙◌}
-use Rattle.gf_exponents.specs.Exponents.{Exponents, entry}
+use Rattle.gf_exponents_theory.specs.Exponents.{Exponents, entry}
 use Rattle.gf_poly.specs.Polynomial.{Terms, HasVariables}
 use Rattle.gf_dividing.specs.Dividing.{IsStripped}
 use Rattle.gf_saturate.proofs.graded.divided_member.Goals as goal

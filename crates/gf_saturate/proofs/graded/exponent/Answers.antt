@@ -1,6 +1,6 @@
 use Rattle.std.proofs.Common.{slice_index_or, ap, ◌∙◌}
-use Rattle.gf_exponents.specs.Exponents.{Exponents}
-use Rattle.gf_exponents.proofs.ExponentsLaws.{entry-get_or}
+use Rattle.gf_exponents_theory.specs.Exponents.{Exponents}
+use Rattle.gf_exponents_theory.proofs.ExponentsLaws.{entry-get_or}
 use Rattle.gf_saturate.proofs.graded.exponent.Goals as goal
 
 pub returns : goal.returns

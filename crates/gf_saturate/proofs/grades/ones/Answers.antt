@@ -1,6 +1,6 @@
 use Rattle.std.proofs.Common.{pos, replicate, arith}
 use Rattle.std.proofs.lemmas.List.Elements.{All-take, All-replicate}
-use Rattle.gf_int.specs.Range.{InRange}
+use Rattle.gf_int_theory.specs.Range.{InRange}
 use Rattle.gf_poly.specs.declared.TheConstants.{ROOM}
 use Rattle.gf_saturate.proofs.grades.ones.Goals as goal
 

@@ -1,5 +1,5 @@
 use Rattle.std.proofs.Common.{◌≡◌, ◌+◌, length, take, sym, subst, ap, ◌∙◌}
-use Rattle.gf_exponents.specs.Exponents.{join}
+use Rattle.gf_exponents_theory.specs.Exponents.{join}
 use Rattle.gf_poly.specs.Marking.{MarkedPolynomial}
 use Rattle.gf_poly.proofs.MonomialLaws.{length-join}
 use Rattle.gf_saturate.specs.Marks.{CoverHeads}

@@ -1,8 +1,8 @@
 use Rattle.std.proofs.Common.{rules, ◌≡◌, arith, sym, subst, ap, true, []}
-use Rattle.gf_exponents.specs.Exponents.{degree, same}
-use Rattle.gf_exponents.proofs.WeightLaws.{degree-same}
+use Rattle.gf_exponents_theory.specs.Exponents.{degree, same}
+use Rattle.gf_exponents_theory.proofs.WeightLaws.{degree-same}
 use Rattle.gf_poly.specs.Marking.{MarkedPolynomial}
-use Rattle.gf_ideal.proofs.RingLaws.{degree-none}
+use Rattle.gf_ideal_theory.proofs.RingLaws.{degree-none}
 use Rattle.gf_saturate.specs.OneTerm.{HasUnitMark}
 use Rattle.gf_saturate.proofs.SearchLaws.{found_here, not_yet, nowhere}
 use Rattle.gf_saturate.proofs.monomials.has_unit_mark.Goals as goal

@@ -1,6 +1,6 @@
 use Rattle.std.proofs.Common.{sym, subst}
 use Rattle.std.proofs.lemmas.Result.{IfOk-weaker, IfErr-weaker}
-use Rattle.gf_exponents.specs.SixOrders.{MonomialOrder}
+use Rattle.gf_exponents_theory.specs.SixOrders.{MonomialOrder}
 use Rattle.gf_order.specs.Comparisons.{HasEntries}
 use Rattle.gf_buchberger.specs.Jobs.{HaveRingVariables, IsSuited}
 use Rattle.gf_buchberger.specs.Bases.{IsArrangedBasis}

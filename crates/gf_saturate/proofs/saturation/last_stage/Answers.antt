@@ -1,6 +1,6 @@
 use Rattle.std.proofs.Common.{◌≡◌, List, slice_index_or, refl, sym, subst, ap, ◌∙◌, inl, inr}
-use Rattle.gf_exponents.specs.Exponents.{Exponents, entry}
-use Rattle.gf_exponents.proofs.ExponentsLaws.{entry-get_or}
+use Rattle.gf_exponents_theory.specs.Exponents.{Exponents, entry}
+use Rattle.gf_exponents_theory.proofs.ExponentsLaws.{entry-get_or}
 use Rattle.gf_poly.specs.Polynomial.{Terms}
 use Rattle.gf_buchberger.specs.Jobs.{HaveRingVariables}
 use Rattle.gf_saturate.specs.Saturating.{IsVariableStep, IsVariableStepRefusal, IsSaturateRefusal}

@@ -1,5 +1,5 @@
 use Rattle.std.proofs.Common.{sym, subst}
-use Rattle.gf_exponents.specs.SixOrders.{MonomialOrder}
+use Rattle.gf_exponents_theory.specs.SixOrders.{MonomialOrder}
 use Rattle.gf_order.specs.Comparisons.{HasEntries}
 use Rattle.gf_buchberger.specs.Jobs.{IsSuited}
 use Rattle.gf_buchberger.specs.Bases.{IsArrangedBasis}

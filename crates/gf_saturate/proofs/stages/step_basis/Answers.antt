@@ -1,12 +1,12 @@
 use Rattle.std.proofs.Common.{◌≡◌, ◌+◌, ◌∙◌, length, sym, subst, ap}
 use Rattle.std.proofs.lemmas.Result.{IfOk-weaker, IfErr-weaker}
-use Rattle.gf_exponents.specs.Exponents.{Exponents}
-use Rattle.gf_exponents.specs.SixOrders.{MonomialOrder}
+use Rattle.gf_exponents_theory.specs.Exponents.{Exponents}
+use Rattle.gf_exponents_theory.specs.SixOrders.{MonomialOrder}
 use Rattle.gf_order.specs.Comparisons.{HasEntries}
 use Rattle.gf_buchberger.specs.Jobs.{HaveRingVariables, IsSuited}
 use Rattle.gf_buchberger.proofs.JobLaws.{orders_that_suit}
 use Rattle.gf_buchberger.specs.Bases.{IsArrangedBasis, IsBasisRefusal}
-use Rattle.gf_saturation.specs.Saturations.{last_weight}
+use Rattle.gf_saturation_theory.specs.Saturations.{last_weight}
 use Rattle.gf_saturate.specs.Widening.{extended_list, variable_at}
 use Rattle.gf_saturate.specs.Saturating.{step_order, step_list}
 use Rattle.gf_saturate.proofs.WideningLaws.{length-variable}

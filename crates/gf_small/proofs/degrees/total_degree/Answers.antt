@@ -1,5 +1,5 @@
 use Rattle.std.proofs.Common.{length, ap, sym, ◌∙◌}
-use Rattle.gf_exponents.specs.Exponents.{degree}
+use Rattle.gf_exponents_theory.specs.Exponents.{degree}
 use Rattle.gf_poly.specs.declared.Term.{Term}
 use Rattle.gf_poly.proofs.CollectLaws.{nonempty_by_test}
 use Rattle.gf_small.proofs.HomogenizationLaws.{degree_first}

@@ -1,7 +1,7 @@
 use Rattle.std.proofs.Common.{◌≡◌, ◌+◌, ◌∙◌, ℕ, arith, length, ap, sym, subst, rules, ℤ, to_z, of_z, FitsSigned}
 use Rattle.std.specs.Int.{w128}
 use Rattle.std.proofs.lemmas.Int.{to_z-of_z}
-use Rattle.gf_exponents.specs.Exponents.{Exponents, whole_weight}
+use Rattle.gf_exponents_theory.specs.Exponents.{Exponents, whole_weight}
 use Rattle.gf_division.proofs.TailLaws.{head_at}
 use Rattle.gf_small.proofs.MarksByWeightLaws.{exponents_at, width_at, Greatest, Greatest-start, Greatest-new, Greatest-kept, greatest_of}
 use Rattle.gf_small.proofs.marks.greatest_place.Goals as goal

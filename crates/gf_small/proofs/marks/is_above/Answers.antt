@@ -2,7 +2,7 @@ use Rattle.std.proofs.Common.{◌∙◌, sym, rules, inl, inr, FitsSigned}
 use Rattle.std.specs.Int.{w128}
 use Rattle.std.specs.declared.cmp.Ordering.TheVariants.{Greater}
 use Rattle.std.proofs.lemmas.Int.{to_z-of_z}
-use Rattle.gf_exponents.specs.Orders.{IsLexBelow}
+use Rattle.gf_exponents_theory.specs.Orders.{IsLexBelow}
 use Rattle.gf_poly.proofs.InitialFormLaws.{by_equal}
 use Rattle.gf_small.proofs.MarksByWeightLaws.{lex_by, not_above}
 use Rattle.gf_small.proofs.marks.is_above.Goals as goal

@@ -1,8 +1,8 @@
 use Rattle.std.proofs.Common.{◌≡◌, ◌∙◌, List, [], ℤ, sym, subst}
 use Rattle.std.proofs.lemmas.Result.{IfOk-weaker}
 use Rattle.gf_gordan.specs.Alternative.{AreRows}
-use Rattle.gf_duality.specs.Rays.{IsRays}
-use Rattle.gf_facets.specs.Rows.{rows_of_polynomials}
+use Rattle.gf_duality_theory.specs.Rays.{IsRays}
+use Rattle.gf_facets_theory.specs.Rows.{rows_of_polynomials}
 use Rattle.gf_rays.specs.Cones.{RowsAndRays, AreRaysWithinLimits}
 use Rattle.gf_small.proofs.HomogeneitySpaceLaws.{basis_of, rows_width}
 use Rattle.gf_small.proofs.space.homogeneity.Goals as goal

@@ -1,7 +1,7 @@
 use Rattle.std.proofs.Common.{◌≡◌, ◌∙◌, List, [], ℤ, length, sym, ap, subst}
 use Rattle.std.proofs.lemmas.Result.{err_from_is_err_and}
-use Rattle.gf_duality.specs.Rays.{IsRays}
-use Rattle.gf_facets.specs.Rows.{rows_of_polynomials}
+use Rattle.gf_duality_theory.specs.Rays.{IsRays}
+use Rattle.gf_facets_theory.specs.Rows.{rows_of_polynomials}
 use Rattle.gf_rays.specs.Cones.{AreRaysWithinLimits}
 use Rattle.gf_small.specs.Statistics.{members_of}
 use Rattle.gf_small.proofs.HomogeneitySpaceLaws.{dimension_of}

@@ -1,5 +1,5 @@
 use Rattle.std.proofs.Common.{◌≡◌, ◌++◌, take, map, pos, All}
-use Rattle.gf_int.specs.Range.{InRange}
+use Rattle.gf_int_theory.specs.Range.{InRange}
 use Rattle.gf_small.proofs.unions.push_term.Given as goal
 
 abbrev pub invariant-exponents : goal.invariant-exponents

@@ -1,5 +1,5 @@
 use Rattle.std.proofs.Common.{◌≡◌, take, All}
-use Rattle.gf_int.specs.Range.{InRange}
+use Rattle.gf_int_theory.specs.Range.{InRange}
 use Rattle.gf_small.specs.Keys.{terms_key}
 use Rattle.gf_small.proofs.unions.terms_key.Given as goal
 

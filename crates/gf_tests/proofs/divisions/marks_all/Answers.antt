@@ -1,7 +1,7 @@
 use Rattle.std.proofs.Common.{sym, subst, ℕ}
-use Rattle.gf_exponents.specs.Orders.{lighter}
+use Rattle.gf_exponents_theory.specs.Orders.{lighter}
 use Rattle.gf_poly.specs.Marking.{Each}
-use Rattle.gf_ideal.specs.Marks.{IsPositive, IsMarked}
+use Rattle.gf_ideal_theory.specs.Marks.{IsPositive, IsMarked}
 use Rattle.gf_division.proofs.WeighedMarks.{each-all, weight_by_members}
 use Rattle.gf_tests.proofs.divisions.marks_all.Goals as goal
 

@@ -1,6 +1,6 @@
 use Rattle.std.proofs.Common.{sym, subst, ℕ}
 use Rattle.gf_poly.specs.Marking.{Each}
-use Rattle.gf_ideal.specs.Marks.{IsPositive, IsRealisedBy}
+use Rattle.gf_ideal_theory.specs.Marks.{IsPositive, IsRealisedBy}
 use Rattle.gf_division.proofs.WeighedMarks.{each-all, realisable_by_members}
 use Rattle.gf_tests.proofs.divisions.realises.Goals as goal
 

@@ -1,6 +1,6 @@
 use Rattle.std.proofs.Common.{rules}
 use Rattle.std.proofs.lemmas.Fn.{always_returns_same}
-use Rattle.gf_exponents.specs.Orders.{deglex}
+use Rattle.gf_exponents_theory.specs.Orders.{deglex}
 use Rattle.gf_poly.specs.declared.Term.{Term}
 use Rattle.gf_text.proofs.CombiningLaws.{found_place}
 use Rattle.gf_text.proofs.combine.place_of.Goals as goal

@@ -1,6 +1,6 @@
 use Rattle.std.proofs.Common.{subst}
-use Rattle.gf_walk.specs.Split.{IsCutAt, Splits, HaveTree}
-use Rattle.gf_facets.specs.LexPositive.{IsBefore}
+use Rattle.gf_reverse_search.specs.Split.{IsCutAt, Splits, HaveTree}
+use Rattle.gf_facets_theory.specs.LexPositive.{IsBefore}
 use Rattle.gf_tree.specs.Refusals.{IsTreeRefusal}
 use Rattle.gf_tree.specs.Walks.{Walk, ideal_at}
 use Rattle.gf_tree.proofs.RefusalLaws.{refusal_above}

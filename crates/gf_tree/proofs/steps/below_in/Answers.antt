@@ -1,6 +1,6 @@
 use Rattle.std.proofs.Common.{sym, subst}
 use Rattle.std.proofs.lemmas.Result.{err_from_is_err_and}
-use Rattle.gf_facets.specs.Normals.{Ascends}
+use Rattle.gf_facets_theory.specs.Normals.{Ascends}
 use Rattle.gf_tree.specs.Places.{IsVectorPlace}
 use Rattle.gf_tree.proofs.LabelLaws.{child_none, child_upward}
 use Rattle.gf_tree.proofs.RefusalLaws.{place_at}

@@ -1,5 +1,5 @@
 use Rattle.std.proofs.Common.{subst, sym, length, List, ℤ, ◌<◌}
-use Rattle.gf_facets.specs.Normals.{Ascends}
+use Rattle.gf_facets_theory.specs.Normals.{Ascends}
 use Rattle.gf_cone.proofs.CrossingLaws.{small_read}
 use Rattle.gf_cone.proofs.SmallLaws.{small_for_sign}
 use Rattle.gf_tree.proofs.LabelLaws.{down_none, down_past, down_more, down_end}

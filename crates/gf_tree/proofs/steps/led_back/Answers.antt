@@ -2,8 +2,8 @@ use Rattle.std.proofs.Common.{arith, sym, subst}
 use Rattle.std.proofs.lemmas.Result.{err_from_is_err_and}
 use Rattle.gf_poly.specs.Marking.{MarkedPolynomials}
 use Rattle.gf_cone.specs.Cones.{IsConeOf}
-use Rattle.gf_reverse.specs.Upward.{IsWayUp}
-use Rattle.gf_facets.specs.Normals.{Ascends}
+use Rattle.gf_reverse_theory.specs.Upward.{IsWayUp}
+use Rattle.gf_facets_theory.specs.Normals.{Ascends}
 use Rattle.gf_tree.specs.Places.{IsVectorPlace}
 use Rattle.gf_tree.proofs.RefusalLaws.{cone_at}
 use Rattle.gf_tree.proofs.WayLaws.{no_way, place_read, missing_read, told_way, not_told}

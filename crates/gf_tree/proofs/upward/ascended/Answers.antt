@@ -1,8 +1,8 @@
 use Rattle.std.proofs.Common.{[], ◌∷◌, refl, sym, subst}
 use Rattle.std.proofs.lemmas.Result.{err_from_is_err_and}
-use Rattle.gf_facets.specs.Rows.{negated}
-use Rattle.gf_reverse.specs.Answers.{IsWayAnswer}
-use Rattle.gf_reverse.proofs.TreeLaws.{upward_nodes, upward_falls}
+use Rattle.gf_facets_theory.specs.Rows.{negated}
+use Rattle.gf_reverse_theory.specs.Answers.{IsWayAnswer}
+use Rattle.gf_reverse_theory.proofs.TreeLaws.{upward_nodes, upward_falls}
 use Rattle.gf_tree.specs.Parents.{IsRootFor}
 use Rattle.gf_tree.specs.Refusals.{IsWayRefused}
 use Rattle.gf_tree.proofs.ParentLaws.{parent_across, top_here, root_for}

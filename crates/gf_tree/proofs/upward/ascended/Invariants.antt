@@ -1,7 +1,7 @@
 use Rattle.std.proofs.Common.{List, ℤ}
-use Rattle.gf_walk.specs.Path.{Leads}
-use Rattle.gf_reverse.specs.Upward.{IsNode, IsParent}
-use Rattle.gf_reverse.proofs.TreeLaws.{rank}
+use Rattle.gf_reverse_search.specs.Path.{Leads}
+use Rattle.gf_reverse_theory.specs.Upward.{IsNode, IsParent}
+use Rattle.gf_reverse_theory.proofs.TreeLaws.{rank}
 use Rattle.gf_tree.proofs.upward.ascended.Given as goal
 
 -- the way up from the first basis leads to the one at hand

@@ -1,7 +1,7 @@
 use Rattle.std.proofs.Common.{IfErr, subst}
 use Rattle.std.proofs.lemmas.Result.{err_from_is_err_and}
-use Rattle.gf_facets.specs.Regions.{Region}
-use Rattle.gf_reverse.specs.Upward.{fan_of}
+use Rattle.gf_facets_theory.specs.Regions.{Region}
+use Rattle.gf_reverse_theory.specs.Upward.{fan_of}
 use Rattle.gf_tree.specs.Refusals.{IsWayRefused}
 use Rattle.gf_tree.proofs.RefusalLaws.{no_memory_on_way, way_only, only_memory}
 use Rattle.gf_tree.proofs.upward.to_root.Goals as goal

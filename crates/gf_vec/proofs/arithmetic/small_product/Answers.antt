@@ -1,6 +1,6 @@
 use Rattle.std.specs.Int.{w64, w128}
 use Rattle.std.proofs.lemmas.Int.{to_z-of_z}
-use Rattle.gf_int.proofs.NarrowLaws.{widened, product_fits, product_range}
+use Rattle.gf_int_theory.proofs.NarrowLaws.{widened, product_fits, product_range}
 use Rattle.gf_vec.proofs.arithmetic.small_product.Goals as goal
 
 pub overflow_mul-result : goal.overflow_mul-result

@@ -1,5 +1,5 @@
 use Rattle.std.proofs.Common.{◌≡◌, ◌++◌, take, drop}
-use Rattle.gf_int.specs.Content.{quotients}
+use Rattle.gf_int_theory.specs.Content.{quotients}
 use Rattle.gf_vec.proofs.content.divide_all.Given as goal
 
 abbrev pub invariant-loop-x : goal.invariant-loop-x

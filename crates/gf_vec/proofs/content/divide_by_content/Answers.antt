@@ -1,7 +1,7 @@
 use Rattle.std.proofs.Common.{◌≡◌, pos, arith, subst}
 use Rattle.std.specs.Int.{w128}
 use Rattle.std.proofs.lemmas.Int.{ints, to_z_pos}
-use Rattle.gf_int.specs.Content.{IsContent, quotients}
+use Rattle.gf_int_theory.specs.Content.{IsContent, quotients}
 use Rattle.gf_vec.proofs.DividedLaws.{IsContent-unit, IsDivided-one, IsDivided-quotients, range-quotients}
 use Rattle.gf_vec.proofs.content.divide_by_content.Goals as goal
 

@@ -1,5 +1,5 @@
 use Rattle.std.proofs.Common.{[], ◌∷◌, ap, inl, inr}
-use Rattle.gf_walk.specs.declared.expand.Piece.TheVariants.{Refused}
+use Rattle.gf_reverse_search.specs.declared.expand.Piece.TheVariants.{Refused}
 use Rattle.gf_waves.proofs.job.expand_before.Goals as goal
 
 pub returns-in-Ok-clause-expanded : goal.returns-in-Ok-clause-expanded

@@ -1,7 +1,7 @@
 use Rattle.std.proofs.Common.{◌≡◌, ◌++◌, ◌+◌, ◌-◌, ◌≤◌, ◌⊎◌, length, refl, ◌∙◌, sym, ap, subst, append_assoc, length-append, inl, inr, rules, arith}
 use Rattle.std.proofs.lemmas.Bool.{eqb-true}
 use Rattle.std.specs.VecDeque.{deque_len}
-use Rattle.gf_walk.specs.Pieces.{RefusesAt}
+use Rattle.gf_reverse_search.specs.Pieces.{RefusesAt}
 use Rattle.gf_waves.specs.Wave.{ExpandsOn}
 use Rattle.gf_waves.proofs.JobLaws.{on_over}
 use Rattle.gf_waves.proofs.job.expand_on.Goals.{then-loop-left-test+then-not-is_empty+else-len-limit, then-loop-left-test+else-not-is_empty, else-loop-left-test}

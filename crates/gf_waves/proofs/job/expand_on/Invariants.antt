@@ -1,6 +1,6 @@
 use Rattle.std.proofs.Common.{◌≡◌, ◌++◌, ◌+◌, ◌-◌, ◌*◌, ◌≤◌, ℕ, List, length}
 use Rattle.std.specs.VecDeque.{deque_capacity}
-use Rattle.gf_walk.specs.Pieces.{RefusesAt}
+use Rattle.gf_reverse_search.specs.Pieces.{RefusesAt}
 use Rattle.gf_waves.specs.Wave.{ExpandsOn}
 use Rattle.gf_waves.proofs.job.expand_on.Given as goal
 

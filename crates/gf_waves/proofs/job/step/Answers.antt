@@ -1,7 +1,7 @@
 use Rattle.std.proofs.Common.{◌≡◌, ◌+◌, ◌-◌, suc, ◌∷◌, length, ap, rules, arith}
 use Rattle.std.proofs.lemmas.List.{length_push}
-use Rattle.gf_walk.specs.Pieces.{RefusesAt}
-use Rattle.gf_walk.specs.declared.expand.Piece.TheVariants.{Ready, Under, Refused}
+use Rattle.gf_reverse_search.specs.Pieces.{RefusesAt}
+use Rattle.gf_reverse_search.specs.declared.expand.Piece.TheVariants.{Ready, Under, Refused}
 use Rattle.gf_waves.proofs.JobLaws.{on_ready, on_first, on_stopped}
 use Rattle.gf_waves.proofs.job.step.Goals as goal
 

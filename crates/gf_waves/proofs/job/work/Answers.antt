@@ -1,6 +1,6 @@
 use Rattle.std.proofs.Common.{◌≡◌, ◌<◌, min, ◌++◌, ◌∷◌, map, length, sym, ap, subst, rules, arith}
 use Rattle.std.proofs.lemmas.List.{length_push}
-use Rattle.gf_walk.specs.Pieces.{RefusesAt}
+use Rattle.gf_reverse_search.specs.Pieces.{RefusesAt}
 use Rattle.gf_waves.specs.Plans.{AreExpanded, AreFit}
 use Rattle.gf_waves.proofs.JobLaws.{worked_more, worked_over, map_more}
 use Rattle.gf_waves.proofs.PlanLaws.{first_out}

@@ -1,6 +1,6 @@
 use Rattle.std.proofs.Common.{◌+◌, ◌≤◌, map, length}
 use Rattle.std.specs.Vec.{vec_capacity}
-use Rattle.gf_walk.specs.Pieces.{RefusesAt}
+use Rattle.gf_reverse_search.specs.Pieces.{RefusesAt}
 use Rattle.gf_waves.specs.Plans.{AreFit}
 use Rattle.gf_waves.proofs.JobLaws.{GoesOn}
 use Rattle.gf_waves.proofs.job.work.Given as goal

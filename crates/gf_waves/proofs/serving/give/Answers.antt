@@ -1,4 +1,4 @@
-use Rattle.gf_walk.specs.Pieces.{RefusesAt}
+use Rattle.gf_reverse_search.specs.Pieces.{RefusesAt}
 use Rattle.gf_waves.proofs.RefusedLaws.{given_refusals, given_refused_any}
 use Rattle.gf_waves.proofs.WaveLaws.{given_leaves, readied_leaves}
 use Rattle.gf_waves.proofs.serving.give.Goals as goal

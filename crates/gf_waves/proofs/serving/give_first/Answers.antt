@@ -1,7 +1,7 @@
 use Rattle.std.proofs.Common.{◌≡◌, ◌∷◌, inl, inr, sym, subst, rules, Ok, Some}
-use Rattle.gf_walk.specs.Pieces.{RefusesAt}
-use Rattle.gf_walk.specs.Walk.{Advances}
-use Rattle.gf_walk.specs.declared.expand.Piece.TheVariants.{Under}
+use Rattle.gf_reverse_search.specs.Pieces.{RefusesAt}
+use Rattle.gf_reverse_search.specs.Walk.{Advances}
+use Rattle.gf_reverse_search.specs.declared.expand.Piece.TheVariants.{Under}
 use Rattle.gf_waves.specs.Wave.{IsGiven}
 use Rattle.gf_waves.proofs.serving.give_first.Goals as goal
 

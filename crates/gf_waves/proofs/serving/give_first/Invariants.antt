@@ -1,5 +1,5 @@
 use Rattle.std.proofs.Common.{◌≤◌, List, length}
-use Rattle.gf_walk.specs.Pieces.{RefusesAt}
+use Rattle.gf_reverse_search.specs.Pieces.{RefusesAt}
 use Rattle.gf_waves.specs.Wave.{IsGiven}
 use Rattle.gf_waves.proofs.serving.give_first.Given as goal
 

@@ -1,6 +1,6 @@
 use Rattle.std.proofs.Common.{◌≤◌, ◌+◌, ◌*◌, length, replicate, sym, ap, subst, ◌∙◌, rules, arith}
 use Rattle.std.specs.VecDeque.{deque_capacity}
-use Rattle.gf_walk.specs.Pieces.{RefusesAt}
+use Rattle.gf_reverse_search.specs.Pieces.{RefusesAt}
 use Rattle.gf_waves.specs.Frontier.{AreRefusals}
 use Rattle.gf_waves.specs.Plans.{AreFreeJobs}
 use Rattle.gf_waves.specs.Wave.{IsWaved}

@@ -1,6 +1,6 @@
 use Rattle.std.specs.Prelude.{IfOk, IfErr}
 use Rattle.std.proofs.Common.{subst}
-use Rattle.gf_facets.specs.Regions.{Region}
+use Rattle.gf_facets_theory.specs.Regions.{Region}
 use Rattle.gf_weights.specs.Weights.{AreCertificatesIn}
 use Rattle.gf_weights.specs.Refusals.{IsCertificateCauseIn}
 use Rattle.gf_weights.proofs.RefusalLaws.{only_memory}

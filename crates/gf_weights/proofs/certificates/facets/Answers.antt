@@ -2,9 +2,9 @@ use Rattle.std.proofs.Common.{◌≡◌, ◌<◌, ◌∙◌, [], List, ℤ, leng
 use Rattle.std.proofs.lemmas.Bool.{false≢true}
 use Rattle.std.proofs.lemmas.List.{get_or_default}
 use Rattle.std.proofs.lemmas.Result.{err_from_is_err_and}
-use Rattle.gf_duality.specs.Faces.{sum_of}
+use Rattle.gf_duality_theory.specs.Faces.{sum_of}
 use Rattle.gf_rays.specs.Parts.{zeros_of}
-use Rattle.gf_facets.specs.Facets.{IsFlippable}
+use Rattle.gf_facets_theory.specs.Facets.{IsFlippable}
 use Rattle.gf_cone.specs.Cones.{normal_at}
 use Rattle.gf_cone.proofs.AnswerLaws.{crossable_flippable}
 use Rattle.gf_weights.proofs.CutLaws.{witness_is, normal_row}

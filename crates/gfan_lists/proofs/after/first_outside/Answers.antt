@@ -2,7 +2,7 @@ use Rattle.std.proofs.Common.{[], sym, ◌∙◌, subst}
 use Rattle.std.proofs.lemmas.Bool.{false≢true}
 use Rattle.std.proofs.lemmas.List.{get_or_default}
 use Rattle.gf_poly.specs.Polynomial.{Terms}
-use Rattle.gf_ideal.specs.NormalForms.{IsNormalForm}
+use Rattle.gf_ideal_theory.specs.NormalForms.{IsNormalForm}
 use Rattle.gfan_lists.proofs.after.first_outside.Goals as goal
 
 pub returns-then-not-is_zero-clause-some : goal.returns-then-not-is_zero-clause-some

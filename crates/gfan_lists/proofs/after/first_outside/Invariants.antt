@@ -1,5 +1,5 @@
 use Rattle.std.proofs.Common.{ℕ, ◌<◌, [], slice_index_or}
-use Rattle.gf_ideal.specs.NormalForms.{IsNormalForm}
+use Rattle.gf_ideal_theory.specs.NormalForms.{IsNormalForm}
 use Rattle.gfan_lists.proofs.after.first_outside.Given as goal
 
 -- the polynomials before leave zero

@@ -1,7 +1,7 @@
 use Rattle.std.proofs.Common.{sym, subst}
 use Rattle.std.proofs.lemmas.Result.{IfOk-weaker}
 use Rattle.gf_poly.specs.Marking.{polys}
-use Rattle.gf_facets.specs.Regions.{Region}
+use Rattle.gf_facets_theory.specs.Regions.{Region}
 use Rattle.gfan_lists.specs.BasesWriting.{StartsIn}
 use Rattle.gfan_lists.specs.After.{IsRegionCut}
 use Rattle.gfan_lists.proofs.BasesListLaws.{start_in}

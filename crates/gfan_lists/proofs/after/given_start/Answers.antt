@@ -2,7 +2,7 @@ use Rattle.std.proofs.Common.{List, All, sym, ◌∙◌, subst, inl, inr}
 use Rattle.std.proofs.lemmas.Result.{err_from_is_err_and, IfOk-weaker}
 use Rattle.gf_poly.specs.Polynomial.{Terms, HasVariables}
 use Rattle.gf_poly.specs.Marking.{polys}
-use Rattle.gf_ideal.specs.Marks.{HasPositiveWeight}
+use Rattle.gf_ideal_theory.specs.Marks.{HasPositiveWeight}
 use Rattle.gf_tree.specs.Ideals.{ideal_within}
 use Rattle.gf_tree.specs.Refusals.{IsTreeRefusal}
 use Rattle.gfan_lists.specs.BasesWriting.{StartsIn}

@@ -1,5 +1,5 @@
 use Rattle.std.proofs.Common.{IfOk, length, sym, ◌∙◌, subst}
-use Rattle.gf_facets.specs.Regions.{Region}
+use Rattle.gf_facets_theory.specs.Regions.{Region}
 use Rattle.gfan_common.specs.Forms.{generators_of}
 use Rattle.gfan_lists.specs.BasesWriting.{IsFirstBasis, StartsIn}
 use Rattle.gfan_lists.specs.After.{IsRegionCut}

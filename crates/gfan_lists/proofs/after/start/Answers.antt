@@ -1,7 +1,7 @@
 use Rattle.std.proofs.Common.{List, All, length, sym, ◌∙◌, subst, inl, inr}
 use Rattle.std.proofs.lemmas.Result.{err_from_is_err_and, IfOk-weaker}
 use Rattle.gf_poly.specs.Polynomial.{Terms, HasVariables}
-use Rattle.gf_ideal.specs.Marks.{HasPositiveWeight}
+use Rattle.gf_ideal_theory.specs.Marks.{HasPositiveWeight}
 use Rattle.gfan_common.specs.Forms.{generators_of}
 use Rattle.gfan_lists.specs.After.{IsListedBy, IsUnlisted, IsStartRefused}
 use Rattle.gfan_lists.proofs.AfterLaws.{cut_region, generators_have, taken_node, listed_node, listed_tree}

@@ -1,5 +1,5 @@
 use Rattle.std.proofs.Common.{◌≡◌, ℕ, ◌<◌, Bool, List, length}
-use Rattle.gf_facets.specs.Regions.{Region}
+use Rattle.gf_facets_theory.specs.Regions.{Region}
 use Rattle.gf_subtree.specs.Rows.{Row, row_left_at_most}
 use Rattle.gfan_lists.specs.Ahead.{AreAhead}
 use Rattle.gfan_lists.proofs.ahead.take_ready.Given as goal

@@ -1,6 +1,6 @@
 use Rattle.std.proofs.Common.{sym, subst}
-use Rattle.gf_facets.specs.Regions.{Region}
-use Rattle.gf_reverse.specs.Upward.{IsNode}
+use Rattle.gf_facets_theory.specs.Regions.{Region}
+use Rattle.gf_reverse_theory.specs.Upward.{IsNode}
 use Rattle.gf_cone.proofs.RegionLaws.{positive_is}
 use Rattle.gfan_lists.proofs.bases.waves_of.Goals as goal
 

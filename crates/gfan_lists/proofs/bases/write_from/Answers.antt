@@ -1,7 +1,7 @@
 use Rattle.std.proofs.Common.{[], length, refl, sym, ap, subst}
 use Rattle.std.proofs.lemmas.Result.{err_from_is_err_and}
 use Rattle.gf_poly.specs.Marking.{polys}
-use Rattle.gf_reverse.proofs.ListLaws.{own}
+use Rattle.gf_reverse_theory.proofs.ListLaws.{own}
 use Rattle.gf_tree.specs.Ideals.{ideal_within}
 use Rattle.gfan_lists.specs.BasesWriting.{GoesOnBehind}
 use Rattle.gfan_lists.proofs.BasesLaws.{first_goes_on, stopped_early}

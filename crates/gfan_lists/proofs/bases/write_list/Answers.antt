@@ -1,7 +1,7 @@
 use Rattle.std.proofs.Common.{◌≡◌, length, sym, ap, ◌∙◌, subst}
 use Rattle.std.proofs.lemmas.Result.{err_from_is_err_and}
 use Rattle.gf_poly.specs.Marking.{polys}
-use Rattle.gf_facets.specs.Regions.{Region, all_positive}
+use Rattle.gf_facets_theory.specs.Regions.{Region, all_positive}
 use Rattle.gfan_common.specs.Forms.{generators_of}
 use Rattle.gfan_lists.specs.BasesWriting.{StartsIn, IsListWrittenIn, IsListStoppedIn}
 use Rattle.gfan_lists.proofs.BasesListLaws.{first_in, own_start_in}

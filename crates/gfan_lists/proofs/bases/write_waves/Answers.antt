@@ -1,7 +1,7 @@
 use Rattle.std.proofs.Common.{true, refl, sym, ap, subst, ◌∙◌}
 use Rattle.std.proofs.lemmas.Result.{err_from_is_err_and}
 use Rattle.std.specs.Io.KnownBytes.{Appends}
-use Rattle.gf_reverse.specs.Upward.{Fan, IsNodeIn}
+use Rattle.gf_reverse_theory.specs.Upward.{Fan, IsNodeIn}
 use Rattle.gfan_lists.specs.Ahead.{AreAhead, IsNextTaken}
 use Rattle.gfan_lists.specs.BasesWriting.{IsBasisWritten, IsBasisUnwritten, IsUnwritten, IsListStoppedBehind}
 use Rattle.gfan_lists.proofs.AheadLaws.{kept_here, way_kept, ahead_ideal}

@@ -1,8 +1,8 @@
 use Rattle.std.proofs.Common.{ℕ, arith, refl, sym, ap, ◌∙◌, subst, inl, inr, false}
 use Rattle.std.proofs.lemmas.Result.{err_from_is_err_and}
 use Rattle.gf_poly.specs.Marking.{polys}
-use Rattle.gf_facets.specs.Regions.{all_positive}
-use Rattle.gf_reverse.specs.Upward.{IsNode}
+use Rattle.gf_facets_theory.specs.Regions.{all_positive}
+use Rattle.gf_reverse_theory.specs.Upward.{IsNode}
 use Rattle.gf_subtree.specs.Rows.{first_row}
 use Rattle.gf_subtree.specs.Answers.{IsNextRow, IsRowEnd, IsRowAnswer}
 use Rattle.gfan_lists.proofs.BasesListLaws.{first_node, first_own}

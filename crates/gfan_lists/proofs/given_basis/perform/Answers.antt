@@ -4,7 +4,7 @@ use Rattle.std.specs.Prelude.{[], ◌∷◌}
 use Rattle.gf_poly.specs.Marking.{polys}
 use Rattle.gf_frame.specs.Seen.{output_seen}
 use Rattle.gf_frame.proofs.WorkLaws.{text_stopped}
-use Rattle.gf_facets.specs.Regions.{Region, all_positive}
+use Rattle.gf_facets_theory.specs.Regions.{Region, all_positive}
 use Rattle.gfan_lists.specs.BasesWriting.{StartsAt, StartsIn, IsListWrittenIn, IsListStoppedIn}
 use Rattle.gfan_lists.specs.GivenBasis.{given_bases_command}
 use Rattle.gfan_lists.proofs.BasesListLaws.{own_start_in, start_in}

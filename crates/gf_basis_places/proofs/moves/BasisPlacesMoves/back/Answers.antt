@@ -1,8 +1,8 @@
 use Rattle.std.proofs.Common.{◌≡◌, sym, ap, ◌∙◌, subst}
 use Rattle.std.proofs.lemmas.Result.{IfOk-weaker, IfErr-weaker, err_from_is_err_and}
 use Rattle.gf_poly.specs.Marking.{MarkedPolynomials}
-use Rattle.gf_facets.specs.Rows.{negated}
-use Rattle.gf_facets.specs.Regions.{all_positive}
+use Rattle.gf_facets_theory.specs.Rows.{negated}
+use Rattle.gf_facets_theory.specs.Regions.{all_positive}
 use Rattle.gf_flip.specs.Operations.{IsFlipRefusal}
 use Rattle.gf_back.specs.Back.{IsCrossed}
 use Rattle.gf_tree.specs.Refusals.{IsRefusedAtBasis}

@@ -1,5 +1,5 @@
 use Rattle.std.proofs.Common.{◌≡◌, ◌≤◌, sym, ap, subst, refl, arith, ℕ, All, unsigned_abs, length}
-use Rattle.gf_facets.specs.Systems.{units}
+use Rattle.gf_facets_theory.specs.Systems.{units}
 use Rattle.std.specs.Prelude.{[], ◌∷◌, IfOk, IfErr, IfSome, IsNone}
 use Rattle.gf_gordan.specs.Steps.{Failed}
 use Rattle.gf_gordan.specs.Alternative.{AreRows, IsSolution, IsSolvable}

@@ -1,7 +1,7 @@
 use Rattle.std.proofs.lemmas.Result.{err_from_is_err_and}
 use Rattle.gf_gordan.specs.Sizes.{HaveEntriesUpTo}
 use Rattle.std.proofs.Common.{◌≤◌, ◌∙◌, sym, ap, subst, ℕ}
-use Rattle.gf_facets.specs.Normals.{others_of}
+use Rattle.gf_facets_theory.specs.Normals.{others_of}
 use Rattle.gf_cone.specs.Cones.{ConeRows, normal_at}
 use Rattle.gf_cone.specs.Answers.{AnswersSystem}
 use Rattle.gf_cone.specs.declared.answer.FacetAnswer.TheVariants.{Facet, Redundant}

@@ -1,5 +1,5 @@
 use Rattle.std.proofs.Common.{◌++◌, ◌∙◌, sym, ap, subst, length, List, ℤ, ◌≤◌}
-use Rattle.gf_facets.specs.Systems.{units}
+use Rattle.gf_facets_theory.specs.Systems.{units}
 use Rattle.gf_cone.proofs.AnswerLaws.{kept_all, kept_front, kept_units}
 use Rattle.gf_cone.proofs.cone.Cone.kept.Goals as goal
 

@@ -1,6 +1,6 @@
 use Rattle.std.proofs.Common.{◌≡◌, ◌++◌, ◌∙◌, sym, ap, subst, ℕ, List, ℤ}
 use Rattle.gf_gordan.specs.Alternative.{AreRows}
-use Rattle.gf_facets.specs.Systems.{units}
+use Rattle.gf_facets_theory.specs.Systems.{units}
 use Rattle.gf_cone.specs.Cones.{ConeRows}
 use Rattle.gf_cone.proofs.AnswerLaws.{kept_units, kept_wide, IfOk-weaker}
 use Rattle.gf_cone.proofs.cone.Cone.vectors.Goals as goal

@@ -3,7 +3,7 @@ use Rattle.std.specs.Int.{w128}
 use Rattle.std.proofs.lemmas.Int.{to_z-of_z}
 use Rattle.gf_vec.specs.Vector.{dot}
 use Rattle.gf_vec.specs.RootSign.{first_sign}
-use Rattle.gf_facets.specs.Regions.{Region}
+use Rattle.gf_facets_theory.specs.Regions.{Region}
 use Rattle.gf_cone.proofs.RegionLaws.{sign_told, plain_told, zero_sign}
 use Rattle.gf_cone.proofs.region.Region.sign.Goals as goal
 

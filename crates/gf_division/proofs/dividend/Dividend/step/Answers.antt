@@ -1,6 +1,6 @@
 use Rattle.std.proofs.Common.{ℕ, sym, ap, ◌∙◌, subst, length, arith}
 use Rattle.std.proofs.lemmas.Result.{err_from_is_err_and}
-use Rattle.gf_exponents.specs.Exponents.{plus}
+use Rattle.gf_exponents_theory.specs.Exponents.{plus}
 use Rattle.gf_poly.specs.Polynomial.{Terms, HasVariables, IsDescending}
 use Rattle.gf_division.specs.Dividends.{split_of, joined_terms}
 use Rattle.gf_division.proofs.DividendLaws.{terms_up}

@@ -1,6 +1,6 @@
 use Rattle.std.proofs.Common.{◌∙◌, List, All, sym, subst}
 use Rattle.gf_poly.specs.Polynomial.{Terms}
-use Rattle.gf_saturation.specs.Saturations.{HasOneTermMember}
+use Rattle.gf_saturation_theory.specs.Saturations.{HasOneTermMember}
 use Rattle.gf_initial_monomials.proofs.seen.Seen.has.Goals as goal
 
 pub returns-then-is_same_list : goal.returns-then-is_same_list

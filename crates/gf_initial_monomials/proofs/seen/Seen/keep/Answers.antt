@@ -1,7 +1,7 @@
 use Rattle.std.proofs.Common.{List, All, sym, subst}
 use Rattle.std.proofs.lemmas.List.Elements.{All-push}
 use Rattle.gf_poly.specs.Polynomial.{Terms}
-use Rattle.gf_saturation.specs.Saturations.{HasOneTermMember}
+use Rattle.gf_saturation_theory.specs.Saturations.{HasOneTermMember}
 use Rattle.gf_initial_monomials.proofs.seen.Seen.keep.Goals as goal
 
 pub invariant_of-self : goal.invariant_of-self

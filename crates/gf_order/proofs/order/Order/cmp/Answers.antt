@@ -1,5 +1,5 @@
 use Rattle.std.proofs.Common.{arith, ap, length, subst, ◌∙◌, sym}
-use Rattle.gf_exponents.specs.SixOrders.{MonomialOrder}
+use Rattle.gf_exponents_theory.specs.SixOrders.{MonomialOrder}
 use Rattle.gf_order.specs.Comparisons.{IsOutcome}
 use Rattle.gf_order.specs.Kinds.{order_of}
 use Rattle.gf_order.proofs.KindLaws.{weighted-entries, weighted_revlex-entries, facet-entries}

@@ -1,7 +1,7 @@
-use Rattle.gf_exponents.specs.Orders.{gains}
-use Rattle.gf_exponents.specs.SixOrders.{MonomialOrder}
-use Rattle.gf_exponents.proofs.WholeWeightLaws.{length-gains, positive-gains}
-use Rattle.gf_exponents.proofs.SixOrdersLaws.{term-order}
+use Rattle.gf_exponents_theory.specs.Orders.{gains}
+use Rattle.gf_exponents_theory.specs.SixOrders.{MonomialOrder}
+use Rattle.gf_exponents_theory.proofs.WholeWeightLaws.{length-gains, positive-gains}
+use Rattle.gf_exponents_theory.proofs.SixOrdersLaws.{term-order}
 use Rattle.std.proofs.Common.{length, subst, All, pos, ◌≤ℤ◌}
 use Rattle.gf_order.proofs.order.Order.weighted_revlex.Goals as goal
 

@@ -1,7 +1,7 @@
 use Rattle.std.proofs.Common.{rules}
 use Rattle.std.specs.Ordering.{is_lt}
 use Rattle.std.proofs.lemmas.List.Sorted.{answers_always}
-use Rattle.gf_exponents.specs.Orders.{lex}
+use Rattle.gf_exponents_theory.specs.Orders.{lex}
 use Rattle.gf_poly.specs.Marking.{MarkedPolynomial}
 use Rattle.gf_poly.proofs.MarkingLaws.{by_head, arranged}
 use Rattle.gf_poly.proofs.marked_set.MarkedSet.arrange.Goals as goal

@@ -1,5 +1,5 @@
 use Rattle.std.proofs.Common.{sym, subst, ap, ◌∙◌}
-use Rattle.gf_exponents.specs.Exponents.{degree}
+use Rattle.gf_exponents_theory.specs.Exponents.{degree}
 use Rattle.gf_poly.specs.Monomial.{IsWordOf}
 use Rattle.gf_poly.proofs.PlacedLaws.{placed-front, placed_by_front}
 use Rattle.gf_poly.proofs.monomial.Mono.copy.Goals as goal

@@ -1,5 +1,5 @@
 use Rattle.std.proofs.Common.{ℕ, ◌≡◌, length, take, subst, sym, ◌∙◌}
-use Rattle.gf_exponents.specs.Exponents.{Exponents, join}
+use Rattle.gf_exponents_theory.specs.Exponents.{Exponents, join}
 use Rattle.gf_poly.specs.Monomial.{IsWordOf, IsPlaced}
 use Rattle.gf_poly.proofs.MonomialLaws.{length-join}
 use Rattle.gf_poly.proofs.PlacedLaws.{placed-front, placed_by_front, placed-limit, placed-join}

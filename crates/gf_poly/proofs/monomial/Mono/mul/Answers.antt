@@ -1,6 +1,6 @@
 use Rattle.std.proofs.Common.{ℕ, ◌≡◌, length, take, subst, arith, ap, sym, ◌∙◌}
-use Rattle.gf_exponents.specs.Exponents.{Exponents, plus, degree}
-use Rattle.gf_exponents.proofs.WeightLaws.{degree-plus}
+use Rattle.gf_exponents_theory.specs.Exponents.{Exponents, plus, degree}
+use Rattle.gf_exponents_theory.proofs.WeightLaws.{degree-plus}
 use Rattle.gf_poly.specs.Monomial.{IsWordOf, IsPlaced, ProductFits}
 use Rattle.gf_poly.proofs.MonomialLaws.{degrees-fit, length-plus}
 use Rattle.gf_poly.proofs.PlacedLaws.{placed-front, placed_by_front, placed-monomial, placed-plus}

@@ -1,6 +1,6 @@
 use Rattle.std.proofs.Common.{ap, sym, subst, ◌∙◌}
 use Rattle.std.proofs.lemmas.List.{take-replicate}
-use Rattle.gf_exponents.specs.Exponents.{degree}
+use Rattle.gf_exponents_theory.specs.Exponents.{degree}
 use Rattle.gf_poly.specs.declared.TheConstants.{ROOM}
 use Rattle.gf_poly.specs.Monomial.{IsWordOf}
 use Rattle.gf_poly.proofs.MonomialLaws.{degree-ones}

@@ -1,5 +1,5 @@
 use Rattle.std.proofs.Common.{ℕ, ◌≡◌, length, take, arith, ap, sym, ◌∙◌}
-use Rattle.gf_exponents.specs.Exponents.{Exponents, minus, degree}
+use Rattle.gf_exponents_theory.specs.Exponents.{Exponents, minus, degree}
 use Rattle.gf_poly.specs.Monomial.{IsPlaced}
 use Rattle.gf_poly.proofs.MonomialLaws.{plus-minus, degree-minus, length-minus}
 use Rattle.gf_poly.proofs.PlacedLaws.{placed-front, placed_by_front, placed-minus, placed-divides}

@@ -3,7 +3,7 @@ use Rattle.std.proofs.Math.ListN.{set}
 use Rattle.std.proofs.lemmas.List.{length-set, length-take, set-get_or}
 use Rattle.smallvec.specs.SmallVec.{with_items}
 use Rattle.smallvec.proofs.SmallVecLemmas.{items-with_items}
-use Rattle.gf_exponents.specs.Exponents.{Exponents, degree}
+use Rattle.gf_exponents_theory.specs.Exponents.{Exponents, degree}
 use Rattle.gf_poly.specs.declared.TheConstants.{ROOM}
 use Rattle.gf_poly.specs.Monomial.{IsPlaced, IsWordOf}
 use Rattle.gf_poly.proofs.MonomialLaws.{degree-limit, degree-raised}

@@ -1,4 +1,4 @@
-use Rattle.gf_exponents.specs.Exponents.{whole_weight}
+use Rattle.gf_exponents_theory.specs.Exponents.{whole_weight}
 use Rattle.std.proofs.Common.{◌≡◌, ◌≤◌, ◌^◌, to_z, of_z, ℤ, ◌<ℤ◌, unsigned_abs, ◌++◌, ◌∷◌, [], subst, length, sym, rules, FitsSigned, ◌∙◌, ap}
 use Rattle.std.specs.Int.{w128}
 use Rattle.std.proofs.lemmas.Int.{to_z-of_z}

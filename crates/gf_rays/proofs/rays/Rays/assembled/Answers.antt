@@ -1,7 +1,7 @@
 use Rattle.std.proofs.Common.{◌≡◌, ◌∙◌, ap, subst, List, ℤ, ℕ, length, ◌+◌, ◌++◌, arith, refl}
 use Rattle.std.proofs.lemmas.Result.{err_from_is_err_and}
-use Rattle.gf_duality.specs.Elimination.{IsEchelonBasis, IsEliminationStep}
-use Rattle.gf_duality.specs.Rays.{IsImplied}
+use Rattle.gf_duality_theory.specs.Elimination.{IsEchelonBasis, IsEliminationStep}
+use Rattle.gf_duality_theory.specs.Rays.{IsImplied}
 use Rattle.gf_rays.specs.Further.{IsImplying}
 use Rattle.gf_rays.specs.declared.ray.Ray.{Ray}
 use Rattle.gf_rays.specs.MarkedRays.{vectors_of}

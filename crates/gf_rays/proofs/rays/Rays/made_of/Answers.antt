@@ -2,7 +2,7 @@ use Rattle.std.proofs.Common.{sym, subst, refl, List, ℤ}
 use Rattle.std.proofs.lemmas.Result.{IfOk-weaker, IfErr-weaker, err_from_is_err_and}
 use Rattle.gf_gordan.specs.Alternative.{AreRows}
 use Rattle.gf_gordan.proofs.SystemLaws.{Failed-weaker}
-use Rattle.gf_duality.specs.Rays.{IsRays}
+use Rattle.gf_duality_theory.specs.Rays.{IsRays}
 use Rattle.gf_rays.specs.MarkedRays.{vectors_of}
 use Rattle.gf_rays.specs.Further.{IsEndStep, implied}
 use Rattle.gf_rays.specs.States.{IsConeState, AreFinished}

@@ -1,6 +1,6 @@
 use Rattle.std.proofs.Common.{◌≡◌, ◌+◌, ◌∙◌, ap, sym, subst, List, ℤ, ◌++◌, length, length-append, arith, IfOk}
 use Rattle.gf_gordan.specs.Alternative.{AreRows}
-use Rattle.gf_duality.specs.Rays.{IsRays, IsImplied}
+use Rattle.gf_duality_theory.specs.Rays.{IsRays, IsImplied}
 use Rattle.gf_rays.specs.Cones.{RowsAndRays, IsComplete}
 use Rattle.gf_rays.specs.States.{IsConeState}
 use Rattle.std.proofs.lemmas.Result.{IfErr-weaker, err_from_is_err_and}

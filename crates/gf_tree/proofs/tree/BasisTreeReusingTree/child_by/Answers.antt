@@ -1,7 +1,7 @@
 use Rattle.std.proofs.Common.{Some, ◌∙◌, ap, sym, subst}
 use Rattle.std.proofs.lemmas.Result.{err_from_is_err_and}
-use Rattle.gf_facets.specs.Rows.{negated}
-use Rattle.gf_reverse.specs.Answers.{IsAcross}
+use Rattle.gf_facets_theory.specs.Rows.{negated}
+use Rattle.gf_reverse_theory.specs.Answers.{IsAcross}
 use Rattle.gf_tree.specs.Parents.{IsBelowTold}
 use Rattle.gf_tree.specs.Refusals.{IsCallRefusal}
 use Rattle.gf_tree.proofs.LabelLaws.{child_led, across_node}

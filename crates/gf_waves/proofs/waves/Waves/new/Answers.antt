@@ -1,10 +1,10 @@
 use Rattle.std.proofs.Common.{◌≡◌, ◌∷◌, [], refl, sym, subst, Some, append-nil, rules}
-use Rattle.gf_walk.specs.declared.mark.Mark.TheVariants.{Before, Listed}
-use Rattle.gf_walk.specs.declared.expand.Piece.TheVariants.{Ready, Under}
-use Rattle.gf_walk.specs.Listing.{IsLeftAt}
-use Rattle.gf_walk.specs.Pieces.{PiecesLeave}
-use Rattle.gf_walk.proofs.SearchLaws.{listed_here}
-use Rattle.gf_walk.proofs.ListLaws.{gives}
+use Rattle.gf_reverse_search.specs.declared.mark.Mark.TheVariants.{Before, Listed}
+use Rattle.gf_reverse_search.specs.declared.expand.Piece.TheVariants.{Ready, Under}
+use Rattle.gf_reverse_search.specs.Listing.{IsLeftAt}
+use Rattle.gf_reverse_search.specs.Pieces.{PiecesLeave}
+use Rattle.gf_reverse_search.proofs.SearchLaws.{listed_here}
+use Rattle.gf_reverse_search.proofs.ListLaws.{gives}
 use Rattle.gf_waves.proofs.waves.Waves.new.Goals as goal
 
 -- the node, and then what a walker at it, listed, has left

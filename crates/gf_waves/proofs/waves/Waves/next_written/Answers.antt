@@ -1,8 +1,8 @@
 use Rattle.std.proofs.Common.{inl, sym, subst}
-use Rattle.gf_walk.specs.Listing.{IsLeftAt}
-use Rattle.gf_walk.specs.Pieces.{PiecesLeave, RefusesAt}
+use Rattle.gf_reverse_search.specs.Listing.{IsLeftAt}
+use Rattle.gf_reverse_search.specs.Pieces.{PiecesLeave, RefusesAt}
 use Rattle.gf_waves.specs.Frontier.{IsFrontRefused}
-use Rattle.gf_walk.proofs.RefusalLaws.{refused_here}
+use Rattle.gf_reverse_search.proofs.RefusalLaws.{refused_here}
 use Rattle.gf_waves.proofs.RefusedLaws.{starved_refused}
 use Rattle.gf_waves.proofs.waves.Waves.next_written.Goals as goal
 

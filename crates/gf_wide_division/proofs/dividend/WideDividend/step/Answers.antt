@@ -1,6 +1,6 @@
 use Rattle.std.proofs.Common.{refl, sym, ap, ◌∙◌, subst, length, ℕ}
 use Rattle.std.proofs.lemmas.Result.{on_ok_weaker}
-use Rattle.gf_exponents.specs.Exponents.{plus}
+use Rattle.gf_exponents_theory.specs.Exponents.{plus}
 use Rattle.gf_poly.specs.Polynomial.{Terms, HasVariables}
 use Rattle.gf_poly.proofs.MonomialLaws.{length-minus}
 use Rattle.gf_division.specs.Dividends.{joined_terms}

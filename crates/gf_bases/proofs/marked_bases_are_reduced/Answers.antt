@@ -1,5 +1,0 @@
-use Rattle.gf_bases.proofs.LawsHold.{marked_bases_are_reduced}
-use Rattle.gf_bases.proofs.marked_bases_are_reduced.Goals as goal
-
-pub returns : goal.returns
-returns c = marked_bases_are_reduced

@@ -1,5 +1,0 @@
-use Rattle.gf_bases.proofs.LawsHold.{vectors_have_bases}
-use Rattle.gf_bases.proofs.vectors_have_bases.Goals as goal
-
-pub returns : goal.returns
-returns c = vectors_have_bases

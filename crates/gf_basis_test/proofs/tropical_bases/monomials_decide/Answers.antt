@@ -1,5 +1,0 @@
-use Rattle.gf_basis_test.proofs.TestLaws.{monomials_decide}
-use Rattle.gf_basis_test.proofs.tropical_bases.monomials_decide.Goals as goal
-
-pub returns : goal.returns
-returns c = monomials_decide

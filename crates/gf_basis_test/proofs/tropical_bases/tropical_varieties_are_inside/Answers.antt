@@ -1,5 +1,0 @@
-use Rattle.gf_basis_test.proofs.InsideLaws.{free_inside}
-use Rattle.gf_basis_test.proofs.tropical_bases.tropical_varieties_are_inside.Goals as goal
-
-pub returns : goal.returns
-returns c = free_inside

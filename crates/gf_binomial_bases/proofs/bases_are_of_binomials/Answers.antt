@@ -1,5 +1,0 @@
-use Rattle.gf_binomial_bases.proofs.LawsHold.{bases_of_binomials as law}
-use Rattle.gf_binomial_bases.proofs.bases_are_of_binomials.Goals as goal
-
-pub returns : goal.returns
-returns c = law

@@ -1,5 +1,0 @@
-use Rattle.gf_binomial_calls.proofs.LawsHold.{flips_of_binomials_fit as law}
-use Rattle.gf_binomial_calls.proofs.flips_of_binomials_fit.Goals as goal
-
-pub returns : goal.returns
-returns c = law

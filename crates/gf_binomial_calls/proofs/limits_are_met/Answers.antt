@@ -1,5 +1,0 @@
-use Rattle.gf_binomial_calls.proofs.LawsHold.{limits_are_met as law}
-use Rattle.gf_binomial_calls.proofs.limits_are_met.Goals as goal
-
-pub returns : goal.returns
-returns c = law

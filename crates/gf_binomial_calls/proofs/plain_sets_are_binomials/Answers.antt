@@ -1,5 +1,0 @@
-use Rattle.gf_binomial_calls.proofs.LawsHold.{plain_sets_are_binomials as law}
-use Rattle.gf_binomial_calls.proofs.plain_sets_are_binomials.Goals as goal
-
-pub returns : goal.returns
-returns c = law

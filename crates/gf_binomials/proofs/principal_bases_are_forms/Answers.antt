@@ -1,5 +1,0 @@
-use Rattle.gf_binomials.proofs.LawsHold.{principal_bases_are_forms as law}
-use Rattle.gf_binomials.proofs.principal_bases_are_forms.Goals as goal
-
-pub returns : goal.returns
-returns c = law

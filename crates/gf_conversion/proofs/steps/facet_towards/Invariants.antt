@@ -1,5 +1,0 @@
-use Rattle.gf_conversion.proofs.StepLaws.{NoneBefore}
-use Rattle.gf_conversion.proofs.steps.facet_towards.Given as goal
-
-abbrev pub invariant-places : goal.invariant-places
-invariant-places l = NoneBefore l.weight l.cone l.place

@@ -1,5 +1,0 @@
-use Rattle.gf_conversion.specs.Steps.{IsWalkedFrom}
-use Rattle.gf_conversion.proofs.walk.walked.Given as goal
-
-abbrev pub invariant-steps : goal.invariant-steps
-invariant-steps l = IsWalkedFrom l.fn.start l.here

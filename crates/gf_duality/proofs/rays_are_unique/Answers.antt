@@ -1,5 +1,0 @@
-use Rattle.gf_duality.proofs.LawsHold.{rays_are_unique}
-use Rattle.gf_duality.proofs.rays_are_unique.Goals as goal
-
-pub returns : goal.returns
-returns c = rays_are_unique

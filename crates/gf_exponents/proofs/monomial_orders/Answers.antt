@@ -1,5 +1,0 @@
-use Rattle.gf_exponents.proofs.LawsHold.{monomial_orders as law}
-use Rattle.gf_exponents.proofs.monomial_orders.Goals as goal
-
-pub returns : goal.returns
-returns c = law

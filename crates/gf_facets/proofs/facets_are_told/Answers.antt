@@ -1,5 +1,0 @@
-use Rattle.gf_facets.proofs.LawsHold.{facets_are_told}
-use Rattle.gf_facets.proofs.facets_are_told.Goals as goal
-
-pub returns : goal.returns
-returns c = facets_are_told

@@ -1,5 +1,0 @@
-use Rattle.gf_facets.proofs.LawsHold.{flippable_normals_are_told}
-use Rattle.gf_facets.proofs.flippable_normals_are_told.Goals as goal
-
-pub returns : goal.returns
-returns c = flippable_normals_are_told

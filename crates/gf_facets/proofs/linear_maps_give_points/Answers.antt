@@ -1,5 +1,0 @@
-use Rattle.gf_facets.proofs.LawsHold.{linear_maps_give_points}
-use Rattle.gf_facets.proofs.linear_maps_give_points.Goals as goal
-
-pub returns : goal.returns
-returns c = linear_maps_give_points

@@ -1,7 +1,0 @@
-use Rattle.std.proofs.Common.{ℕ, ◌<◌, get_or}
-use Rattle.gf_fanfile.specs.declared.parts.ListedCone.{ListedCone}
-use Rattle.gf_fanfile.specs.FansAgain.{IsWritableCone}
-use Rattle.gf_fanfile.proofs.again.cones_are_writable.Given as goal
-
-abbrev pub invariant-cones : goal.invariant-cones
-invariant-cones l = (k : ℕ) (d : ListedCone) → k < l.cone-index → IsWritableCone (get_or l.cones k d)

@@ -1,7 +1,0 @@
-use Rattle.std.proofs.Common.{ℕ, ◌<◌, List, ℤ, get_or, pos, ◌<ℤ◌}
-use Rattle.gf_vec.specs.Vector.{dot}
-use Rattle.gf_fanfile.proofs.certificates.all_positive.Given as goal
-
--- the rows so far
-abbrev pub invariant-loop-h : goal.invariant-loop-h
-invariant-loop-h l = (k : ℕ) (d : List ℤ) → k < l.h-index → pos 0 <ℤ dot (get_or l.rows k d) l.v

@@ -1,5 +1,0 @@
-use Rattle.gf_fanfile.proofs.GeneratedLaws.{duals_of_duals}
-use Rattle.gf_fanfile.proofs.duals.duals_of_duals.Goals as goal
-
-pub returns : goal.returns
-returns c = duals_of_duals c.farkas_lemma.ensures

@@ -1,5 +1,0 @@
-use Rattle.gf_fanfile.proofs.GeneratedLaws.{farkas_lemma}
-use Rattle.gf_fanfile.proofs.duals.farkas_lemma.Goals as goal
-
-pub returns : goal.returns
-returns c = farkas_lemma c.gordans_alternative.ensures

@@ -1,7 +1,0 @@
-use Rattle.std.proofs.Common.{◌≡◌, take}
-use Rattle.gf_fanfile.specs.FanTexts.{listed_cones}
-use Rattle.gf_fanfile.proofs.fan_writer.listed_cones.Given as goal
-
--- the cones so far
-abbrev pub invariant-cones : goal.invariant-cones
-invariant-cones l = l.out.items ≡ listed_cones (take l.cone-index l.cones)

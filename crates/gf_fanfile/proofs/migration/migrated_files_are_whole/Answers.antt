@@ -1,5 +1,0 @@
-use Rattle.gf_fanfile.proofs.MigrationLaws.{migrated_whole}
-use Rattle.gf_fanfile.proofs.migration.migrated_files_are_whole.Goals as goal
-
-pub returns : goal.returns
-returns c = migrated_whole

@@ -1,6 +1,0 @@
-use Rattle.std.proofs.Common.{◌≡◌, take}
-use Rattle.gf_fanfile.specs.FanWords.{greatest_dim}
-use Rattle.gf_fanfile.proofs.parts.greatest_dim.Given as goal
-
-abbrev pub invariant-loop-cone : goal.invariant-loop-cone
-invariant-loop-cone l = l.dim ≡ greatest_dim (take l.cone-index l.cones)

@@ -1,5 +1,0 @@
-use Rattle.gf_fans.proofs.LawsHold.{faces_are_ray_lists}
-use Rattle.gf_fans.proofs.faces_are_ray_lists.Goals as goal
-
-pub returns : goal.returns
-returns c = faces_are_ray_lists

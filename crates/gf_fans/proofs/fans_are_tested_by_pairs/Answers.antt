@@ -1,5 +1,0 @@
-use Rattle.gf_fans.proofs.LawsHold.{fans_are_tested_by_pairs}
-use Rattle.gf_fans.proofs.fans_are_tested_by_pairs.Goals as goal
-
-pub returns : goal.returns
-returns c = fans_are_tested_by_pairs

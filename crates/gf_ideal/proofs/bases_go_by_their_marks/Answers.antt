@@ -1,5 +1,0 @@
-use Rattle.gf_ideal.proofs.LawsOfBasesHold.{bases_go_by_their_marks as law}
-use Rattle.gf_ideal.proofs.bases_go_by_their_marks.Goals as goal
-
-pub returns : goal.returns
-returns c = law

@@ -1,5 +1,0 @@
-use Rattle.gf_ideal.proofs.LawsOfBasesHold.{bases_may_be_arranged as law}
-use Rattle.gf_ideal.proofs.bases_may_be_arranged.Goals as goal
-
-pub returns : goal.returns
-returns c = law

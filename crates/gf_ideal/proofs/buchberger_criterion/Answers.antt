@@ -1,5 +1,0 @@
-use Rattle.gf_ideal.proofs.LawsOfBasesHold.{buchbergers_criterion as law}
-use Rattle.gf_ideal.proofs.buchberger_criterion.Goals as goal
-
-pub returns : goal.returns
-returns c = law

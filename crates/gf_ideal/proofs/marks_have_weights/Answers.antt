@@ -1,5 +1,0 @@
-use Rattle.gf_ideal.proofs.LawsHold.{marks_have_weights as law}
-use Rattle.gf_ideal.proofs.marks_have_weights.Goals as goal
-
-pub returns : goal.returns
-returns c = law

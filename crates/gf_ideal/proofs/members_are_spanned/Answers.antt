@@ -1,5 +1,0 @@
-use Rattle.gf_ideal.proofs.LawsHold.{members_are_spanned as law}
-use Rattle.gf_ideal.proofs.members_are_spanned.Goals as goal
-
-pub returns : goal.returns
-returns c = law

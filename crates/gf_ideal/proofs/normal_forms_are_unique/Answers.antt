@@ -1,5 +1,0 @@
-use Rattle.gf_ideal.proofs.LawsOfBasesHold.{normal_forms_are_unique as law}
-use Rattle.gf_ideal.proofs.normal_forms_are_unique.Goals as goal
-
-pub returns : goal.returns
-returns c = law

@@ -1,5 +1,0 @@
-use Rattle.gf_ideal.proofs.OrderTableLaws.{order_table as law}
-use Rattle.gf_ideal.proofs.order_table.Goals as goal
-
-pub returns : goal.returns
-returns c = law

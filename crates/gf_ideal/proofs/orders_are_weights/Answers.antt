@@ -1,5 +1,0 @@
-use Rattle.gf_ideal.proofs.LawsHold.{orders_are_weights as law}
-use Rattle.gf_ideal.proofs.orders_are_weights.Goals as goal
-
-pub returns : goal.returns
-returns c = law

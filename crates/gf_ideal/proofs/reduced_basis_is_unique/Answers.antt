@@ -1,5 +1,0 @@
-use Rattle.gf_ideal.proofs.LawsOfBasesHold.{reduced_bases_are_unique as law}
-use Rattle.gf_ideal.proofs.reduced_basis_is_unique.Goals as goal
-
-pub returns : goal.returns
-returns c = law

@@ -1,5 +1,0 @@
-use Rattle.gf_ideal.proofs.LawsOfBasesHold.{runs_end_with_a_basis as law}
-use Rattle.gf_ideal.proofs.runs_end_with_a_basis.Goals as goal
-
-pub returns : goal.returns
-returns c = law

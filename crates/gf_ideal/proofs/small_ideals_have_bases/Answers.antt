@@ -1,5 +1,0 @@
-use Rattle.gf_ideal.proofs.SmallBases.{small_ideals_have_bases as law}
-use Rattle.gf_ideal.proofs.small_ideals_have_bases.Goals as goal
-
-pub returns : goal.returns
-returns c = law

@@ -1,5 +1,0 @@
-use Rattle.gf_ideal.proofs.LawsHold.{steps_leave_less_work as law}
-use Rattle.gf_ideal.proofs.steps_leave_less_work.Goals as goal
-
-pub returns : goal.returns
-returns c = law

@@ -1,0 +1,5 @@
+use Rattle.gf_ideal_theory.proofs.LawsOfBasesHold.{bases_may_be_arranged as law}
+use Rattle.gf_ideal_theory.proofs.bases_may_be_arranged.Goals as goal
+
+pub returns : goal.returns
+returns c = law

@@ -1,5 +1,0 @@
-use Rattle.gf_initial.proofs.LawsHold.{flips_give_neighbours}
-use Rattle.gf_initial.proofs.flips_give_neighbours.Goals as goal
-
-pub returns : goal.returns
-returns c = flips_give_neighbours

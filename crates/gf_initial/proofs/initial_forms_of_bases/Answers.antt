@@ -1,5 +1,0 @@
-use Rattle.gf_initial.proofs.LawsHold.{initial_forms_of_bases}
-use Rattle.gf_initial.proofs.initial_forms_of_bases.Goals as goal
-
-pub returns : goal.returns
-returns c = initial_forms_of_bases

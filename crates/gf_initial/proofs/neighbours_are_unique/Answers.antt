@@ -1,5 +1,0 @@
-use Rattle.gf_initial.proofs.LawsHold.{neighbours_are_unique}
-use Rattle.gf_initial.proofs.neighbours_are_unique.Goals as goal
-
-pub returns : goal.returns
-returns c = neighbours_are_unique

@@ -1,5 +1,0 @@
-use Rattle.gf_int.proofs.ContentLaws.{times-quotients, IsPrimitive-quotients}
-use Rattle.gf_int.proofs.laws.division_by_content.Goals as goal
-
-pub returns : goal.returns
-returns c = λ xs b h. (times-quotients b xs h.divides, IsPrimitive-quotients xs b h)

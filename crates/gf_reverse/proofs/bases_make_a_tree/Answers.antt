@@ -1,5 +1,0 @@
-use Rattle.gf_reverse.proofs.LawsHold.{bases_make_a_tree}
-use Rattle.gf_reverse.proofs.bases_make_a_tree.Goals as goal
-
-pub returns : goal.returns
-returns c = bases_make_a_tree

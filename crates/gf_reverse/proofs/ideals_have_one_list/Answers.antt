@@ -1,5 +1,0 @@
-use Rattle.gf_reverse.proofs.LawsHold.{ideals_have_one_list}
-use Rattle.gf_reverse.proofs.ideals_have_one_list.Goals as goal
-
-pub returns : goal.returns
-returns c = ideals_have_one_list

@@ -1,5 +1,0 @@
-use Rattle.gf_reverse.proofs.TermOrderLaws.{term_orders_have_bases}
-use Rattle.gf_reverse.proofs.term_orders_have_bases.Goals as goal
-
-pub returns : goal.returns
-returns c = term_orders_have_bases

@@ -1,5 +1,0 @@
-use Rattle.gf_reverse.proofs.LawsHold.{the_tree_is_finite}
-use Rattle.gf_reverse.proofs.the_tree_is_finite.Goals as goal
-
-pub returns : goal.returns
-returns c = the_tree_is_finite

@@ -1,5 +1,0 @@
-use Rattle.gf_saturation.proofs.LawsHold.{variables_one_by_one}
-use Rattle.gf_saturation.proofs.variables_one_by_one.Goals as goal
-
-pub returns : goal.returns
-returns c = variables_one_by_one

@@ -1,0 +1,72 @@
+use Rattle.std.specs.Prelude.{Option, None, Some}
+use Rattle.std.proofs.Common.{◌∙◌, ◌<◌, ◌≤◌, ℕ, List, ℤ, length, arith, sym, subst}
+use Rattle.std.proofs.lemmas.Result.{err_from_is_err_and}
+use Rattle.gf_gordan.specs.Alternative.{AreRows}
+use Rattle.gf_duality_theory.specs.Faces.{Rows}
+use Rattle.gf_rays.specs.Cones.{rows_of}
+use Rattle.gf_initial_monomials.specs.Outcomes.{HasOutcome}
+use Rattle.gf_initial_monomials.specs.Refusals.{IsConeRefusal}
+use Rattle.gf_initial_monomials.proofs.OutcomeLaws.{pass_none, pass_more, pass_all, reached}
+use Rattle.gf_tropical_basis_test.specs.Verdicts.{maximal_rows}
+use Rattle.gf_tropical_basis_test.specs.Refusals.{IsRefusedWithBasis}
+use Rattle.gf_tropical_basis_test.proofs.PlaceLaws.{rows_long}
+use Rattle.gf_tropical_basis_test.proofs.basis.at_cones.Goals as goal
+
+pub places-init : goal.places-init
+places-init c = (
+  pass_none (λ (d : Rows). HasOutcome c.args.basis.now.variables c.args.basis.now.items c.args.cone.now.normals d None) (maximal_rows c.args.fan.now),
+  c.new-seen.ensures ∙ c.variables.ensures,
+)
+
+pub maximal_cone-maximal-requires : goal.maximal_cone-maximal-requires
+maximal_cone-maximal-requires c = subst (λ (z : List ℕ). c.places.i < length z) c.maximal-places.ensures c.places-test.true
+
+pub at_cone-requires-clause-ambient : goal.at_cone-requires-clause-ambient
+at_cone-requires-clause-ambient c = c.maximal_cone-maximal.ensures.ambient ∙ c.requires.ambient
+
+pub at_cone-requires-clause-normals : goal.at_cone-requires-clause-normals
+at_cone-requires-clause-normals c = subst (λ m. AreRows m c.normals.result.now) c.requires.cone.variables c.normals.ensures.widths
+
+pub returns-in_err-found-clause-err : goal.returns-in_err-found-clause-err
+returns-in_err-found-clause-err c =
+    let long = rows_long c.args.fan.now in
+    let l : c.places.i < length c.args.fan.now.maximal = subst (λ (z : List ℕ). c.places.i < length z) c.maximal-places.ensures c.places-test.true in
+    let p = err_from_is_err_and c.from_residual.result c.from_residual.ensures.1 in
+    let r = reached (λ (d : Rows). HasOutcome c.args.basis.now.variables c.args.basis.now.items c.args.cone.now.normals d None) (maximal_rows c.args.fan.now) c.places.i (rows_of c.maximal_cone-maximal.result.now) (omega (arith, l, long)) c.maximal_cone-maximal.ensures.value c.places.invariant.0 in
+    let h = subst (λ (z : List (List ℤ)). IsConeRefusal c.args.basis.now.variables c.args.basis.now.items z (rows_of c.maximal_cone-maximal.result.now) c.args.pairs c.in_err-found.field-0.0) c.normals.ensures.value c.in_err-found.ensures.err in
+    rw p.1 (subst (IsRefusedWithBasis c.args.basis.now.variables (maximal_rows c.args.fan.now) c.args.basis.now.items c.args.pairs) (sym p.2)
+    (IsRefusedWithBasis.at_cone c.args.cone.now.normals (rows_of c.maximal_cone-maximal.result.now) c.requires.cone.normals r h))
+
+pub returns-in-Some-clause-ok : goal.returns-in-Some-clause-ok
+returns-in-Some-clause-ok c =
+    let long = rows_long c.args.fan.now in
+    let l : c.places.i < length c.args.fan.now.maximal = subst (λ (z : List ℕ). c.places.i < length z) c.maximal-places.ensures c.places-test.true in
+    let o : HasOutcome c.args.basis.now.variables c.args.basis.now.items c.args.cone.now.normals (rows_of c.maximal_cone-maximal.result.now) (Some c.in-Some.v) =
+    subst (λ (z : List (List ℤ)). HasOutcome c.args.basis.now.variables c.args.basis.now.items z (rows_of c.maximal_cone-maximal.result.now) (Some c.in-Some.v)) c.normals.ensures.value
+    (subst (λ (z : Option (List ℤ)). HasOutcome c.args.basis.now.variables c.args.basis.now.items c.normals.result.now (rows_of c.maximal_cone-maximal.result.now) z) c.in-Some.is c.in_ok-found.ensures.ok) in
+    record {
+      normals = c.args.cone.now.normals;
+      are_normals = c.requires.cone.normals;
+      outcome = (rows_of c.maximal_cone-maximal.result.now, reached (λ (d : Rows). HasOutcome c.args.basis.now.variables c.args.basis.now.items c.args.cone.now.normals d None) (maximal_rows c.args.fan.now) c.places.i (rows_of c.maximal_cone-maximal.result.now) (omega (arith, l, long)) c.maximal_cone-maximal.ensures.value c.places.invariant.0, o);
+    }
+
+pub places-preserved : goal.places-preserved
+places-preserved c =
+    let long = rows_long c.args.fan.now in
+    let l : c.places.i < length c.args.fan.now.maximal = subst (λ (z : List ℕ). c.places.i < length z) c.maximal-places.ensures c.places-test.true in
+    let o : HasOutcome c.args.basis.now.variables c.args.basis.now.items c.args.cone.now.normals (rows_of c.maximal_cone-maximal.result.now) None =
+    subst (λ (z : List (List ℤ)). HasOutcome c.args.basis.now.variables c.args.basis.now.items z (rows_of c.maximal_cone-maximal.result.now) None) c.normals.ensures.value
+    (subst (λ (z : Option (List ℤ)). HasOutcome c.args.basis.now.variables c.args.basis.now.items c.normals.result.now (rows_of c.maximal_cone-maximal.result.now) z) c.in_default.is c.in_ok-found.ensures.ok) in (
+      pass_more (λ (d : Rows). HasOutcome c.args.basis.now.variables c.args.basis.now.items c.args.cone.now.normals d None) (maximal_rows c.args.fan.now) c.places.i (rows_of c.maximal_cone-maximal.result.now) (omega (arith, l, long)) c.maximal_cone-maximal.ensures.value o c.places.invariant.0,
+      c.in_ok-found.ensures.seen ∙ c.places.invariant.1,
+    )
+
+pub returns-clause-ok : goal.returns-clause-ok
+returns-clause-ok c =
+    let long = rows_long c.args.fan.now in
+    let l : length c.args.fan.now.maximal ≤ c.places.i = subst (λ (z : List ℕ). length z ≤ c.places.i) c.maximal-places.ensures c.places-test.false in
+    record {
+      normals = c.args.cone.now.normals;
+      are_normals = c.requires.cone.normals;
+      outcome = pass_all (λ (d : Rows). HasOutcome c.args.basis.now.variables c.args.basis.now.items c.args.cone.now.normals d None) (maximal_rows c.args.fan.now) c.places.i (omega (arith, l, long)) c.places.invariant.0;
+    }

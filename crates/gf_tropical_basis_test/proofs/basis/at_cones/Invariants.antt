@@ -1,0 +1,9 @@
+use Rattle.std.specs.Prelude.{◌≡◌, None}
+use Rattle.gf_duality_theory.specs.Faces.{Rows}
+use Rattle.gf_initial_monomials.specs.Outcomes.{HasOutcome}
+use Rattle.gf_initial_monomials.proofs.OutcomeLaws.{AllPass}
+use Rattle.gf_tropical_basis_test.specs.Verdicts.{maximal_rows}
+use Rattle.gf_tropical_basis_test.proofs.basis.at_cones.Given as goal
+
+abbrev pub invariant-places : goal.invariant-places
+invariant-places l = AllPass (λ (c : Rows). HasOutcome l.basis.variables l.basis.items l.cone.normals c None) (maximal_rows l.fan) l.i × (l.seen ≡ l.basis.variables)
