@@ -1,5 +1,5 @@
 -- The part of a marked difference of two monomials, of the weight of its mark: itself, or the mark alone.
--- To cite: IsPartOf, part_of, binomial-part, parts_binomials.
+-- To cite: off_monomial, none_left; IsPartOf, part_of, binomial-part, parts_binomials.
 use Rattle.std.proofs.Common.{◌≡◌, ◌⊎◌, Bool, true, false, if◌then◌else◌, List, Contains, ℤ, Option, Some, None, refl, ap, sym, ◌∙◌, subst, inl, inr}
 use Rattle.gf_frac.specs.Fraction.{◌+ℚ◌, neg_ℚ, zero_ℚ, one_ℚ}
 use Rattle.gf_frac.proofs.FractionLaws.{+ℚ-neg_ℚ}
@@ -21,7 +21,8 @@ pub data IsPartOf (h : Exponents) (t : Option Exponents) (p : Terms) : Type 0 wh
 
 -- ---- monomials of another weight
 
-off_monomial : (x e : Exponents) → (same e x ≡ true → ⊥) → indicator (Some x) e ≡ zero_ℚ
+-- the indicator of a monomial vanishes at each other monomial
+pub off_monomial : (x e : Exponents) → (same e x ≡ true → ⊥) → indicator (Some x) e ≡ zero_ℚ
 off_monomial x e n = at (same e x) refl
   where
     at : (b : Bool) → same e x ≡ b → indicator (Some x) e ≡ zero_ℚ
@@ -32,7 +33,8 @@ off_monomial x e n = at (same e x) refl
 off_weight : (v : List ℤ) (d : ℤ) (x e : Exponents) → whole_weight v x ≡ d → (whole_weight v e ≡ d → ⊥) → indicator (Some x) e ≡ zero_ℚ
 off_weight v d x e h n = off_monomial x e (λ s. n (whole_weight-same v e x s ∙ h))
 
-none_left : (p q : Option Exponents) (e : Exponents) → indicator p e ≡ zero_ℚ → indicator q e ≡ zero_ℚ → indicator p e +ℚ neg_ℚ (indicator q e) ≡ zero_ℚ
+-- where two indicators vanish, so does their difference
+pub none_left : (p q : Option Exponents) (e : Exponents) → indicator p e ≡ zero_ℚ → indicator q e ≡ zero_ℚ → indicator p e +ℚ neg_ℚ (indicator q e) ≡ zero_ℚ
 none_left p q e a b = ap (λ z. z +ℚ neg_ℚ (indicator q e)) a ∙ ap (λ z. zero_ℚ +ℚ neg_ℚ z) b ∙ +ℚ-neg_ℚ zero_ℚ
 
 -- ---- the part

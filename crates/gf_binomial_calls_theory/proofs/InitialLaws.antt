@@ -1,9 +1,9 @@
 -- Initial forms of differences of two monomials, by whole weights of any sign: such differences again.
 -- To cite: initial_binomial, initial_monomial, forms_at_binomials, forms_at_variables. The rest are steps.
-use Rattle.std.proofs.Common.{if◌then◌else◌, ◌≡◌, ◌⊎◌, ℕ, true, List, Contains, ℤ, ◌<ℤ◌, ◌≤ℤ◌, Option, Some, None, arith, refl, sym, ap, ◌∙◌, subst, inl, inr}
+use Rattle.std.proofs.Common.{if◌then◌else◌, ◌≡◌, ◌⊎◌, ℕ, true, List, Contains, ℤ, ◌<ℤ◌, ◌≤ℤ◌, Option, Some, None, arith, refl, sym, ap, subst, inl, inr}
 use Rattle.std.proofs.lemmas.Int.{ints}
-use Rattle.gf_frac.specs.Fraction.{◌+ℚ◌, neg_ℚ, zero_ℚ, one_ℚ}
-use Rattle.gf_frac.proofs.FractionLaws.{+ℚ-neg_ℚ, zero_or_not}
+use Rattle.gf_frac.specs.Fraction.{neg_ℚ, zero_ℚ, one_ℚ}
+use Rattle.gf_frac.proofs.FractionLaws.{zero_or_not}
 use Rattle.gf_exponents_theory.specs.Exponents.{Exponents, same, whole_weight}
 use Rattle.gf_exponents_theory.proofs.WholeWeightLaws.{whole_weight-same}
 use Rattle.gf_int_theory.proofs.SignLaws.{equal_or_not}
@@ -18,6 +18,7 @@ use Rattle.gf_facets_theory.proofs.VectorLaws.{three}
 use Rattle.gf_initial_theory.specs.Parts.{IsInitialPart}
 use Rattle.gf_initial_theory.proofs.MatchingLaws.{matched-from}
 use Rattle.gf_initial_monomials.specs.Outcomes.{AreFormsAt}
+use Rattle.gf_binomial_bases_theory.proofs.BinomialParts.{off_monomial, none_left}
 use Rattle.gf_binomials_theory.specs.Binomials.{indicator, IsBinomialOf, IsBinomial, AreBinomials}
 
 -- ---- a monomial that may be missing
@@ -30,9 +31,6 @@ IsAt (Some x) e = same e x ≡ true
 at_or_off : (p : Option Exponents) (e : Exponents) → IsAt p e ⊎ (indicator p e ≡ zero_ℚ)
 at_or_off None e = inr refl
 at_or_off (Some x) e = elim (same_or_not e x) [ inl s ↦ inl s | inr n ↦ inr (ap (λ b. if b then one_ℚ else zero_ℚ) n) ]
-
-none_left : (p q : Option Exponents) (e : Exponents) → indicator p e ≡ zero_ℚ → indicator q e ≡ zero_ℚ → indicator p e +ℚ neg_ℚ (indicator q e) ≡ zero_ℚ
-none_left p q e a b = ap (λ z. z +ℚ neg_ℚ (indicator q e)) a ∙ ap (λ z. zero_ℚ +ℚ neg_ℚ z) b ∙ +ℚ-neg_ℚ zero_ℚ
 
 -- each monomial of a difference is one of the two
 one_of : (p q : Option Exponents) (f : Terms) (e : Exponents) → IsBinomialOf p q f → HasMonomial f e → IsAt p e ⊎ IsAt q e
@@ -128,9 +126,6 @@ record IsKept (w : List ℤ) (d : ℤ) (p : Option Exponents) : Type 0 where
   left : Option Exponents
   on : (e : Exponents) → whole_weight w e ≡ d → indicator left e ≡ indicator p e
   off : (e : Exponents) → (whole_weight w e ≡ d → ⊥) → indicator left e ≡ zero_ℚ
-
-off_monomial : (x e : Exponents) → (same e x ≡ true → ⊥) → indicator (Some x) e ≡ zero_ℚ
-off_monomial x e n = elim (at_or_off (Some x) e) [ inl s ↦ absurd (n s) | inr z ↦ z ]
 
 kept : (w : List ℤ) (d : ℤ) (p : Option Exponents) → IsKept w d p
 kept w d None = record { left = None; on = λ e l. refl; off = λ e n. refl }

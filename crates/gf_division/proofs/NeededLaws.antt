@@ -1,5 +1,5 @@
 -- Which members of a marked list are needed: the marks of those divide each mark, and none divides another.
--- To cite: NeededSoFar, needed_none, needed_by_test, needed_end, Forming, forming-none, forming-more, forming-skipped,
+-- To cite: divides_trans; NeededSoFar, needed_none, needed_by_test, needed_end, Forming, forming-none, forming-more, forming-skipped,
 -- forming_end, forming_variables, needed_divisible.
 use Rattle.std.specs.Prelude.{◌≡◌, ◌⊎◌, ℕ, zero, suc, ◌+◌, ◌<◌, ◌≤◌, Bool, true, false, List, [], ◌∷◌, ◌++◌, length, Contains, nat_lt}
 use Rattle.std.proofs.Common.{arith, refl, sym, ◌∙◌, subst, inl, inr, get_or}
@@ -33,7 +33,8 @@ both_divide x y h k = same_by_entries x y (λ i. omega (arith, entries_same y (p
 divides_same : (x y : Exponents) → same x y ≡ true → Divides x y
 divides_same x y s = record { rest = []; product = same_flip x y s }
 
-divides_trans : (x y z : Exponents) → Divides x y → Divides y z → Divides x z
+-- divisibility is transitive
+pub divides_trans : (x y z : Exponents) → Divides x y → Divides y z → Divides x z
 divides_trans x y z h k = record {
   rest = plus k.rest h.rest;
   product = same_by_entries z (plus (plus k.rest h.rest) x) (λ i. omega (arith, entries_same y (plus h.rest x) h.product i, entry-plus h.rest x i, entries_same z (plus k.rest y) k.product i, entry-plus k.rest y i, entry-plus (plus k.rest h.rest) x i, entry-plus k.rest h.rest i));

@@ -1,5 +1,5 @@
 -- What is done with texts that are loaded is what the run of the command does.
--- To cite: done_by, stopped_by, nothing_left, nothing_but_limit, text_stopped, answer_whole, once_along, once_alone, loaded_length, once_done, once_cut, once_refused. The rest are steps.
+-- To cite: done_by, stopped_by, nothing_left, nothing_but_limit, text_stopped, answer_whole, once_along, once_alone, not_cut, loaded_length, once_done, once_cut, once_refused. The rest are steps.
 use Rattle.std.specs.Prelude.{◌≡◌, ℕ, List, [], ◌∷◌, length}
 use Rattle.std.specs.Io.KnownBytes.{Appends}
 use Rattle.std.proofs.Common.{arith, refl, inl}
@@ -14,7 +14,7 @@ use Rattle.gf_items.specs.Refusals.{of_text}
 use Rattle.gf_frame.specs.Seen.{Seen, OutputSeen}
 use Rattle.gf_frame.specs.Loading.{Origin, AreLoaded}
 use Rattle.gf_frame.specs.Commands.{Writing, Command, WritesOnce, GoesAlong, IsWholeBy, IsOfWriting, IsAnswered, IsWholeFor, IsRefusedOn}
-use Rattle.gf_frame.specs.Runs.{TakesTurns, IsCarriedOut, IsDoneBy, IsStoppedBy, IsLeftInOutput, IsDoneOn, IsStoppedOn}
+use Rattle.gf_frame.specs.Runs.{TakesTurns, AreCut, IsCarriedOut, IsDoneBy, IsStoppedBy, IsLeftInOutput, IsDoneOn, IsStoppedOn}
 use Rattle.gf_frame.proofs.CommandLaws.{IsLawful, refused_kind}
 
 carried_out : (c : Command) (writing : Writing c.Value) (texts : List (List ℕ)) (m : Seen) (o s : OutputSeen) (text : List ℕ) → (TakesTurns writing → ⊥) → IsAnswered c texts text → Appends o.held s.held text → IsCarriedOut c writing texts m m o s
@@ -76,6 +76,13 @@ pub once_alone : {A : Type 0} (writing : Writing A) → WritesOnce writing → T
 once_alone Writing.at_end e t = t
 once_alone (Writing.as_it_goes w b) e t = e
 once_alone (Writing.in_turns u) e t = e
+
+-- what is written once or as it is found isn't cut between turns
+pub not_cut : (c : Command) (writing : Writing c.Value) (texts : List (List ℕ)) (m q : Seen) (o s : OutputSeen) (r : Refusal) → (TakesTurns writing → ⊥) →
+    AreCut c writing texts m q o s r → ⊥
+not_cut c Writing.at_end texts m q o s r n k = k
+not_cut c (Writing.as_it_goes whole begun) texts m q o s r n k = k
+not_cut c (Writing.in_turns turns) texts m q o s r n k = n tt
 
 -- there are as many texts as sources
 pub loaded_length : (os : List Origin) (p q : Seen) (ts : List (List ℕ)) → AreLoaded os p q ts → length ts ≡ length os

@@ -10,7 +10,7 @@ use Rattle.std.proofs.lemmas.Bool.Decides.{Decides-eqb}
 use lib.Pointwise.{pointwise}
 use Rattle.gf_exponents_theory.specs.Exponents.{Exponents, entry, plus, join, Divides, AreCoprime}
 use Rattle.gf_exponents_theory.specs.Orders.{lighter}
-use Rattle.gf_exponents_theory.proofs.ExponentsLaws.{entry-plus, entry-join, same_by_entries, entries_same}
+use Rattle.gf_exponents_theory.proofs.ExponentsLaws.{entry-plus, entry-join}
 use Rattle.gf_exponents_theory.proofs.OrderLaws.{lighter-strict}
 use Rattle.gf_poly.specs.Marking.{MarkedPolynomial, HaveVariables, HasMarkedTerm, polys}
 use Rattle.gf_ideal_theory.specs.Membership.{AreInVariables}
@@ -19,6 +19,7 @@ use Rattle.gf_ideal_theory.specs.Settled.{IsAt, IsSettledPair, ArePairsSettled}
 use Rattle.gf_ideal_theory.proofs.CriteriaLaws.{pair_by_steps, pair_by_product, pair_by_chain, pair_turned}
 use Rattle.gf_ideal_theory.proofs.LawsOfBasesHold.{buchbergers_criterion}
 use Rattle.gf_ideal_theory.proofs.NormalFormLaws.{normal_form-reached}
+use Rattle.gf_division.proofs.NeededLaws.{divides_trans}
 use Rattle.gf_division.proofs.ReducerLaws.{members_equal, member_contained, member_length}
 use Rattle.gf_division.proofs.SPolynomialLaws.{join_length, divides_left}
 use Rattle.gf_reduced.specs.Forms.{monic_of}
@@ -55,20 +56,6 @@ excused_divided bs i j b c x y m p q e f g d = record { first = b; second = c; a
 pub divided_before : (bs : List MarkedPolynomial) (i k : ℕ) (b : MarkedPolynomial) (h x : Exponents) → IsAt bs k b → k < i → h ≡ b.head → Divides h x → IsDividedBefore bs i x
 divided_before bs i k b h x p l e d = record { place = k; before = l; member = b; at = p; divides = subst (λ (z : Exponents). Divides z x) e d }
 
-divided_on : (x y z : Exponents) → Divides x y → Divides y z → Divides x z
-divided_on x y z d e = record {
-  rest = plus e.rest d.rest;
-  product = same_by_entries z (plus (plus e.rest d.rest) x) (λ i. omega (
-    arith,
-    entries_same z (plus e.rest y) e.product i,
-    entry-plus e.rest y i,
-    entries_same y (plus d.rest x) d.product i,
-    entry-plus d.rest x i,
-    entry-plus (plus e.rest d.rest) x i,
-    entry-plus e.rest d.rest i,
-  ));
-}
-
 -- where an earlier mark divides that of the member at i, each pair of it with a later member is excused
 pub redundant_passed : (bs : List MarkedPolynomial) (i : ℕ) (b : MarkedPolynomial) (x : Exponents) → IsAt bs i b → x ≡ b.head → IsDividedBefore bs i x →
     ArePassedFrom bs i
@@ -85,7 +72,7 @@ redundant_passed bs i b x p e d j l h =
         before = d.before;
         member = d.member;
         at = d.at;
-        divides = divided_on d.member.head b.head m (subst (Divides d.member.head) e d.divides) (divides_left b.head c.head m refl);
+        divides = divides_trans d.member.head b.head m (subst (Divides d.member.head) e d.divides) (divides_left b.head c.head m refl);
       });
     })
 

@@ -45,10 +45,11 @@ use Rattle.gf_items.specs.Checks.{FirstFails}
 use Rattle.gf_frame.specs.Seen.{Seen, OutputSeen}
 use Rattle.gf_frame.specs.Loading.{Origin, AreLoaded}
 use Rattle.gf_frame.specs.Readings.{of_more}
-use Rattle.gf_frame.specs.Commands.{Writing, Command, IsUnanswered, IsRefusedOn}
-use Rattle.gf_frame.specs.Runs.{TakesTurns, AreCut, IsStoppedBy, AreGivenTexts}
+use Rattle.gf_frame.specs.Commands.{IsUnanswered, IsRefusedOn}
+use Rattle.gf_frame.specs.Runs.{TakesTurns, IsStoppedBy, AreGivenTexts}
 use Rattle.gf_frame.specs.Programs.{IsRunRefused}
 use Rattle.gf_frame.proofs.LoadingLaws.{loaded_known, unloaded_known}
+use Rattle.gf_frame.proofs.WorkLaws.{not_cut}
 use Rattle.gf_frame.proofs.ProgramLaws.{stopped_as}
 use Rattle.gfan_lists.specs.declared.bases.ListOptions.{ListOptions}
 use Rattle.gfan_common.specs.Forms.{generators_of, form}
@@ -363,11 +364,6 @@ takes_no_turns (jobs.GroebnerCone o) texts b t = cone_at_end o.vector_input o t
 takes_no_turns (jobs.TropicalIntersection o) texts b t = tropical_at_end o.basis_test t
 takes_no_turns (jobs.Plain c) texts b t = plain_at_end c t
 takes_no_turns _ texts b t = b
-
-not_cut : (c : Command) (writing : Writing c.Value) (texts : List (List ℕ)) (m q : Seen) (o s : OutputSeen) (r : Refusal) → (TakesTurns writing → ⊥) → AreCut c writing texts m q o s r → ⊥
-not_cut c Writing.at_end texts m q o s r n k = k
-not_cut c (Writing.as_it_goes whole begun) texts m q o s r n k = k
-not_cut c (Writing.in_turns turns) texts m q o s r n k = n tt
 
 module _ (words : List (List ℕ)) (p q : Seen) (o s : OutputSeen) (job : Job) (texts : List (List ℕ)) (x : Overflow) (asked : IsJobOf words job) (given : AreGivenTexts (command_of job) p q texts) (b : IsOnBinomials job texts) where
   same_texts : (us : List (List ℕ)) (m : Seen) → AreLoaded (command_of job).reads p m us → us ≡ texts

@@ -14,9 +14,10 @@ use Rattle.gf_front.specs.Jobs.{IsJobOf}
 use Rattle.gf_frame.specs.Seen.{Seen, OutputSeen}
 use Rattle.gf_frame.specs.Loading.{Origin, AreLoaded, AreKnown, AreShort}
 use Rattle.gf_frame.specs.Commands.{Writing, Command, IsAnswered, IsBegunFor, IsRefusedAtOnce, IsInReach}
-use Rattle.gf_frame.specs.Runs.{TakesTurns, IsCarriedOut, AreCut, IsDoneBy, LeavesInOutput, IsHeard}
+use Rattle.gf_frame.specs.Runs.{TakesTurns, IsCarriedOut, IsDoneBy, LeavesInOutput, IsHeard}
 use Rattle.gf_frame.specs.Programs.{IsRunDone, IsRefusedWith, RunClauses}
 use Rattle.gf_frame.proofs.LoadingLaws.{loaded_known}
+use Rattle.gf_frame.proofs.WorkLaws.{not_cut}
 use Rattle.gf_frame.proofs.ProgramLaws.{same_job, done_as}
 use Rattle.gfan.specs.Commands.{command_of}
 use Rattle.gfan.proofs.CommandLaws.{lawful}
@@ -29,12 +30,6 @@ carried : (c : Command) (w : Writing c.Value) (texts : List (List ℕ)) (m q : S
 carried c Writing.at_end texts m q o s n h = h.1
 carried c (Writing.as_it_goes whole begun) texts m q o s n h = h.1
 carried c (Writing.in_turns turns) texts m q o s n h = absurd (n tt)
-
-not_cut : (c : Command) (w : Writing c.Value) (texts : List (List ℕ)) (m q : Seen) (o s : OutputSeen) (r : Refusal) → (TakesTurns w → ⊥) →
-    AreCut c w texts m q o s r → ⊥
-not_cut c Writing.at_end texts m q o s r n h = h
-not_cut c (Writing.as_it_goes whole begun) texts m q o s r n h = h
-not_cut c (Writing.in_turns turns) texts m q o s r n h = n tt
 
 heard : {A : Type 0} (w : Writing A) (p q : Seen) → (TakesTurns w → ⊥) → IsHeard w p q
 heard Writing.at_end p q n = tt
