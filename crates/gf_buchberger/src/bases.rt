@@ -42,7 +42,8 @@ pub struct Job<'a> {
     pub pairs: u64,
 }
 
-/// The same refusal, of a basis.
+/// The refusal of an operation on polynomials, as the error of a basis: `Overflow` and `Exponent` hold the operands that they held, and `Memory`
+/// stays `Memory`.
 pub fn refused(refusal: PolyError) -> BasisError
     ensures { result ≡ of_poly_error refusal }
 {
@@ -78,7 +79,8 @@ fn stopped(alloc: Global, n: u32, stop: Stop) -> BasisError
     }
 }
 
-/// The members that are needed, their tails reduced by one another, in these numbers.
+/// The members that are needed, made monic, their tails reduced by one another; where the run goes on in wide numbers, they are used if fractions of
+/// 128 bits overflow.
 fn interreduced(
     alloc: Global,
     set: &MarkedSet,
@@ -104,7 +106,13 @@ fn interreduced(
     }
 }
 
-/// The basis by one run, which takes the pairs by this choice and reduces in these numbers.
+/// The reduced Gröbner basis of the ideal of the polynomials of the job for its order, by one run of Buchberger's algorithm, which takes the pairs by
+/// `strategy` and reduces in `numbers`.
+///
+/// # Errors
+///
+/// `Overflow` and `Exponent` hold the operands of an operation that such a run may have, and that don't fit. `PairBudget` where more pairs than the
+/// job allows would have to be settled: it holds the members so far, and the pairs that aren't settled. `Memory` if memory runs out.
 pub fn run_by(
     alloc: Global,
     job: &Job,

@@ -88,7 +88,7 @@ pub struct Redundant {
 }
 
 impl Redundant {
-    /// That of no members.
+    /// The list for no members.
     pub fn new(alloc: Global) -> Redundant {
         Redundant {
             by: Vec::new(alloc),
@@ -104,6 +104,10 @@ impl Redundant {
     }
 
     /// Enters a member with this mark, behind these.
+    ///
+    /// # Errors
+    ///
+    /// `AllocError` if memory runs out; which of the members are listed as redundant may have changed by then.
     pub fn add(&mut self, members: &[Marked], head: &Mono) -> Result<(), AllocError>
         requires { MembersHaveVariables (length head.now) members.now }
     {

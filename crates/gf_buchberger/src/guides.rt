@@ -28,7 +28,11 @@ fn weights(alloc: Global, n: usize, order: &Order) -> Result<Vec<i64>, AllocErro
     Ok(weights)
 }
 
-/// The order, as a guide.
+/// The order of a run in `n` variables, as a guide that tells which terms a long reduction takes first.
+///
+/// # Errors
+///
+/// `AllocError` if memory runs out.
 pub fn guide_of(alloc: Global, n: u32, order: &Order) -> Result<Guide, AllocError>
     requires { HasEntries n order.now }
 {
@@ -36,7 +40,11 @@ pub fn guide_of(alloc: Global, n: u32, order: &Order) -> Result<Guide, AllocErro
     Ok(Guide::by(weights, order.is_by_revlex()))
 }
 
-/// The same, of a reduction in wide numbers.
+/// The order of a run in `n` variables, as a precedence that tells which terms a reduction in wide numbers takes first.
+///
+/// # Errors
+///
+/// `AllocError` if memory runs out.
 pub fn precedence_of(alloc: Global, n: u32, order: &Order) -> Result<Precedence, AllocError>
     requires { HasEntries n order.now }
 {

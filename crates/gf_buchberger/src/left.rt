@@ -17,6 +17,7 @@ use std::cmp::Ordering;
 /// # Errors
 ///
 /// `Overflow` only where the quotient of a coefficient of `r` by that of its greatest monomial doesn't fit; it holds the two.
+/// `Memory` if memory runs out.
 pub fn left_of(order: &Order, r: Poly) -> Result<Option<Marked>, PolyError>
     requires { IsComparable order.now r }
     ensures ok { IfOk result (IsLeftMember order.now r) }
@@ -59,7 +60,12 @@ fn leading_of_wide(order: &Order, f: &WidePoly) -> usize
     at
 }
 
-/// The monic form of `r`, marked at its greatest monomial, unless `r` is zero; only what is answered has to fit.
+/// The monic form of `r`, in fractions of 128 bits and marked at its greatest monomial, unless `r` is zero.
+///
+/// # Errors
+///
+/// `Beyond` where the working of the quotient of a coefficient by that of the greatest monomial reaches 2^512, where the numerator or the denominator
+/// of a quotient exceeds 2^127 - 1 in size, or if memory runs out.
 pub fn left_of_wide(alloc: Global, order: &Order, r: &WidePoly) -> Result<Option<Marked>, Beyond>
     requires { IsComparable order.now r.now }
     ensures { IfOk result (IsLeftMember order.now r.now) }

@@ -42,7 +42,8 @@ pub struct Waiting {
 }
 
 impl Strategy {
-    /// The key of a pair with this least common multiple, whose sugar is by so much more than the degree of that.
+    /// The key of a pair whose marks have this least common multiple; `excess` is by how much the sugar of the pair exceeds the degree of the
+    /// multiple.
     pub fn key(self, order: &Order, multiple: &Mono, excess: u64) -> Key
         requires { HasEntries (length multiple.now) order.now }
         ensures degree { result.degree ≡ degree_for self excess multiple.now }
@@ -93,6 +94,10 @@ impl Queue {
     }
 
     /// Adds a pair.
+    ///
+    /// # Errors
+    ///
+    /// `AllocError` if memory runs out; the queue is unchanged.
     pub fn push(&mut self, pair: Waiting) -> Result<(), AllocError>
         ensures ok { OnOk result (IsPermutation (pair ∷ self.old) self.new) }
         ensures err { OnErr result (self.new ≡ self.old) }

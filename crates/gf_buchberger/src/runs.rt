@@ -36,7 +36,7 @@ pub struct Run {
 pub enum Numbers {
     /// By fractions of 128 bits.
     Narrow,
-    /// By wide ones where narrow ones don't fit on the way, and in which order they take terms then.
+    /// By fractions of 512 bits where those of 128 bits overflow, with the order in which terms are reduced then.
     Wide(Precedence),
 }
 
@@ -49,7 +49,7 @@ pub enum Stop {
     Refused(PolyError),
 }
 
-/// Whether no variable occurs in both.
+/// Whether no variable occurs in both monomials.
 pub fn are_coprime(x: &Mono, y: &Mono) -> bool
     requires { length x.now ≡ length y.now }
     ensures { IsTrue result → AreCoprime x.now y.now }
@@ -72,14 +72,14 @@ pub fn is_single(member: &Marked) -> bool
     member.poly().terms().len() == 1
 }
 
-/// Whether both have one monomial alone.
+/// Whether both members have no monomial but the marked one.
 fn are_single(b: &Marked, c: &Marked) -> bool
     ensures { IsTrue result → HasOneMonomial b.now × HasOneMonomial c.now }
 {
     is_single(b) && is_single(c)
 }
 
-/// Adds the pairs of the member at `second` with those before it, unless they are covered; its sugar is by so much more than the degree of
+/// Adds the pairs of the member at `second` with those before it, unless they are covered; `excess` is by how much its sugar exceeds the degree of
 /// its mark.
 fn push_pairs(
     queue: &mut Queue,
@@ -134,7 +134,7 @@ impl Run {
     ///
     /// # Errors
     ///
-    /// For want of memory alone.
+    /// `Memory` if memory runs out, or if there are 2^32 - 1 members already; no other.
     fn append(&mut self, order: &Order, member: Marked) -> Result<(), PolyError>
         requires state { IsState (state_of self.old) }
         requires variables { IsJoinable order.now member self.old.members.items }
@@ -162,7 +162,11 @@ impl Run {
         Ok(())
     }
 
-    /// Adds what is left of a polynomial, unless nothing is.
+    /// Adds what is left of a polynomial as a new member, unless nothing is left.
+    ///
+    /// # Errors
+    ///
+    /// `Memory` if memory runs out, or if there are 2^32 - 1 members already; no other.
     pub fn take_up(&mut self, order: &Order, left: Option<Marked>) -> Result<(), PolyError>
         requires state { IsState (state_of self.old) }
         requires variables { IfSome left (λ b. IsJoinable order.now b self.old.members.items) }
@@ -254,7 +258,8 @@ impl Run {
         false
     }
 
-    /// What is left of the S-polynomial of the members at i and j.
+    /// What is left of the S-polynomial of the members at i and j, reduced by the members in fractions of 128 bits: nothing where the remainder is
+    /// zero, else the monic form of the remainder, marked at its greatest monomial.
     fn narrow_left(
         &mut self,
         alloc: Global,
@@ -274,7 +279,9 @@ impl Run {
         left_of(order, r)
     }
 
-    /// The same in wide numbers.
+    /// What is left of the S-polynomial of the members at i and j, reduced by the members in fractions of 512 bits: nothing where the remainder is
+    /// zero, else the monic form of the remainder, in 128 bits and marked at its greatest monomial. `Beyond` where a number leaves its range, or if
+    /// memory runs out.
     fn wide_left(
         &self,
         alloc: Global,
@@ -298,7 +305,8 @@ impl Run {
         left_of_wide(alloc, order, &r)
     }
 
-    /// The same, where the run goes on in wide numbers.
+    /// What is left of the S-polynomial of the members at i and j by a reduction in fractions of 512 bits; none where the run has narrow numbers
+    /// alone, where a number leaves its range, or if memory runs out.
     #[cold]
     #[inline(never)]
     fn left_in_wide_run(
@@ -322,7 +330,8 @@ impl Run {
         }
     }
 
-    /// What is left of the S-polynomial of the members at i and j, in the numbers of the run.
+    /// What is left of the S-polynomial of the members at i and j: in fractions of 128 bits, and where they overflow in wide ones, if the run has
+    /// them.
     fn left_of_pair(
         &mut self,
         alloc: Global,

@@ -45,14 +45,19 @@ fn by_second_run(alloc: Global, job: &Job, first: BasisError) -> Result<MarkedSe
     }
 }
 
-/// The same basis as by `basis`, by another run, for where numbers of that one don't fit: how wide numbers get on the way
-/// depends on which pairs are settled first. This run settles first those whose least common multiple is least by the order.
+/// The reduced Gröbner basis for the order of the ideal of these polynomials in `n` variables, by a run of Buchberger's algorithm that settles those
+/// pairs first whose least common multiple is least by the order. It is for where numbers of the run by `basis` don't fit: how large the numbers get
+/// on the way depends on which pairs are settled first.
 ///
-/// The conditions are those of `basis`, and `first` is what `basis` was refused for on these polynomials by this order.
+/// The basis is marked at the greatest monomials, monic, and ascending by the exponents of the marked monomials; at most `pairs` pairs are settled.
+/// The weight of the order, where it has one, has `n` entries, and the order is good on the polynomials, as a term order is on all. `first` is the
+/// error of `basis` on these polynomials by this order.
 ///
 /// # Errors
 ///
-/// As those of `basis`: where the budget of this run is spent it is told; else `first` is.
+/// `PairBudget` where the budget of this run is spent: it holds the members, and the pairs that aren't settled. Where this run fails otherwise, the
+/// error is `first`. So where no operation that a run may have leaves its range, and no list of one has more than `pairs` pairs, the error is
+/// `Memory`.
 pub fn basis_by_second_run(
     alloc: Global,
     n: u32,

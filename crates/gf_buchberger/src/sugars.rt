@@ -20,7 +20,7 @@ pub struct Sugars {
 }
 
 impl Sugars {
-    /// Those of no members.
+    /// The sugars of no members.
     pub fn new(alloc: Global) -> Sugars
         ensures { result.excesses.items ≡ [] }
     {
@@ -30,8 +30,8 @@ impl Sugars {
         }
     }
 
-    /// By how much the sugar of a pair is more than the degree of its least common multiple: the greater excess, of the member at i and of one
-    /// with this excess.
+    /// By how much the sugar of a pair exceeds the degree of its least common multiple: the greater of `excess`, that of one member, and the excess
+    /// of the member at `i`; the latter is 0 where none is kept.
     pub fn of_pair(&self, i: usize, excess: u64) -> u64
         ensures { result ≡ max excess (slice_index self.now.excesses.items i) }
     {
@@ -41,7 +41,12 @@ impl Sugars {
         }
     }
 
-    /// What is reduced now becomes a member with this mark, whose excess is answered; it is 0, and not kept, where pairs don't go by sugar.
+    /// Enters what is reduced as a member with the mark `head`, and answers by how much its sugar exceeds the degree of the mark. Where pairs aren't
+    /// chosen by sugar, the answer is 0, and nothing is kept.
+    ///
+    /// # Errors
+    ///
+    /// `AllocError` if memory runs out, which it can only where pairs are chosen by sugar.
     pub fn add(&mut self, strategy: Strategy, head: &Mono) -> Result<u64, AllocError>
         ensures excess { IfOk result (λ excess. excess ≡ excess_for strategy self.old.current head.now) }
         ensures kept { OnOk result (self.new.excesses.items ≡ kept_excesses strategy self.old.excesses.items (excess_for strategy self.old.current head.now)) }

@@ -55,16 +55,23 @@ fn by_wide_runs(alloc: Global, job: &Job) -> Result<MarkedSet, BasisError>
     }
 }
 
-/// The same basis as by `basis`, by a run that goes on in wide numbers where those of a reduction don't fit on the way.
+/// The reduced Gröbner basis for the order of the ideal of these polynomials in `n` variables, by a run of Buchberger's algorithm that goes on in
+/// wide numbers where those of a reduction don't fit on the way. The basis is marked at the greatest monomials, monic, and ascending by the exponents
+/// of the marked monomials.
 ///
-/// Members are kept in 127 bits. Where a generator, an S-polynomial or a tail isn't reduced in them, the same reduction is done with
-/// fractions of 512 bits (`gf_wide_division`), from the beginning, and what is left is made monic and narrowed. The pairs are taken as by
-/// `basis`, whose conditions are those here; where numbers don't fit on that way either, another such run takes the pair of least sugar first.
+/// Members are kept in 127 bits. Where a generator, an S-polynomial or a tail isn't reduced in them, the reduction is done again from the beginning
+/// with fractions of 512 bits (`gf_wide_division`), and what is left is made monic and narrowed. The pairs whose least common multiple has the least
+/// degree are settled first; where numbers don't fit on that way either, another such run settles the pairs of least sugar first. Each run settles at
+/// most `pairs` pairs.
+///
+/// The weight of the order, where it has one, has `n` entries, and the order is good on the polynomials, as a term order is on all.
 ///
 /// # Errors
 ///
-/// As those of `basis`: the refusal that is told is that of the reduction in narrow numbers, where the wide one isn't answered either, in the
-/// first of both runs; but where the budget of the other one was spent, that is told.
+/// `Overflow` and `Exponent` hold the operands of an operation in 127 bits that a run of Buchberger's algorithm on these polynomials by this order
+/// may have, and that don't fit; it is that of the first run, where neither run answers. `PairBudget` where the budget of the first run is spent, or
+/// that of the second one: it holds the members, and the pairs that aren't settled. `Memory` if memory runs out. So where no operation that a run may
+/// have leaves its range, and no list of one has more than `pairs` pairs, the error is `Memory`.
 pub fn wide_basis(
     alloc: Global,
     n: u32,

@@ -84,8 +84,8 @@ pub fn place_of(terms: &[Term], x: &Mono) -> usize
 ///
 /// # Errors
 ///
-/// `Overflow` and `Exponent` only where two numbers of a step at an unmarked monomial of a tail, by a member, don't fit; it
-/// holds them.
+/// `Overflow` and `Exponent` only where two numbers of a step at an unmarked monomial of a tail, by a member, don't fit; it holds them. `Memory` if
+/// memory runs out.
 pub fn reduced_tail(
     alloc: Global,
     member: &Marked,
@@ -124,18 +124,16 @@ fn tails(alloc: Global, members: &[Marked], guide: &mut Guide) -> Result<Vec<Mar
     Ok(done)
 }
 
-/// The members that are needed, made monic, their tails reduced by one another, ascending by their marks: where the set
-/// is a Gröbner basis for its marking, the reduced one.
+/// The members that are needed, made monic, their tails reduced by one another, ascending by their marks: where the set is a Gröbner basis for its
+/// marking, the reduced one.
 ///
-/// A member is dropped where its marked monomial is a proper multiple of another's; of members with the same marked
-/// monomial the first stays. Some positive weight sets each marked monomial above the other ones of its polynomial,
-/// whatever the marked coefficients are.
+/// A member is dropped where its marked monomial is a proper multiple of another's; of members with the same marked monomial the first stays. Some
+/// positive weight sets each marked monomial above the other ones of its polynomial, whatever the marked coefficients are.
 ///
 /// # Errors
 ///
-/// `Overflow` and `Exponent` only where two numbers don't fit that are divided in making a needed member monic, or on which
-/// a step works that reduces a tail by the monic forms of the needed members; it holds them. A member that is dropped is
-/// never divided.
+/// `Overflow` and `Exponent` only where two numbers don't fit that are divided in making a needed member monic, or on which a step works that reduces
+/// a tail by the monic forms of the needed members; it holds them. A member that is dropped is never divided. `Memory` if memory runs out.
 pub fn autoreduce(alloc: Global, set: &MarkedSet) -> Result<MarkedSet, PolyError>
     requires { IsRealisable set.now.variables set.now.items }
     ensures value { IfOk result (IsAutoreduced set.now) }
@@ -147,11 +145,16 @@ pub fn autoreduce(alloc: Global, set: &MarkedSet) -> Result<MarkedSet, PolyError
     autoreduce_by(alloc, set, &mut Guide::unknown(alloc))
 }
 
-/// The same, with an order in which the marks are greatest: by it long tails are reduced.
+/// The members that are needed, made monic, their tails reduced by one another, ascending by their marks: where the set is a Gröbner basis for its
+/// marking, the reduced one. `guide` is an order in which the marks are greatest: in a long reduction the greatest terms by it are reduced first.
+///
+/// A member is dropped where its marked monomial is a proper multiple of another's; of members with the same marked monomial the first stays. Some
+/// positive weight sets each marked monomial above the other ones of its polynomial.
 ///
 /// # Errors
 ///
-/// Those of `autoreduce`.
+/// `Overflow` and `Exponent` only where two numbers don't fit that are divided in making a needed member monic, or on which a step works that reduces
+/// a tail by the monic forms of the needed members; it holds them. A member that is dropped is never divided. `Memory` if memory runs out.
 pub fn autoreduce_by(
     alloc: Global,
     set: &MarkedSet,

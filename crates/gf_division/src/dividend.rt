@@ -99,6 +99,10 @@ impl Dividend {
     }
 
     /// The polynomial; nothing is copied, and terms that are still below the place are moved.
+    ///
+    /// # Errors
+    ///
+    /// `AllocError` if memory runs out.
     pub fn into_poly(self) -> Result<Poly, AllocError>
         requires { IsDescending (joined_terms (split_of self)) }
         ensures { IfOk result (λ f. f ≡ joined_terms (split_of self)) }
@@ -119,7 +123,11 @@ impl Dividend {
         Some(&self.below[n - 1])
     }
 
-    /// Carries the first term below the place over it.
+    /// Moves the place below the first term that is below it; where there is none, nothing changes.
+    ///
+    /// # Errors
+    ///
+    /// `AllocError` if memory runs out; nothing is promised of the polynomial then.
     pub fn advance(&mut self) -> Result<(), AllocError>
         requires { (split_of self.old).below ≢ [] }
         ensures { OnOk result (PassesOne (split_of self.old) (split_of self.new)) }
@@ -131,7 +139,7 @@ impl Dividend {
         Ok(())
     }
 
-    /// Carries the last term above the place back.
+    /// Moves the place above the last term that is above it.
     fn retreat(&mut self) -> Result<(), AllocError>
         requires { self.old.above.items ≢ [] }
         ensures { OnOk result (PassesOne (split_of self.new) (split_of self.old)) }
@@ -169,6 +177,10 @@ impl Dividend {
     }
 
     /// Moves the place down to the first term that isn't greater than `x`, and answers how that one compares with it.
+    ///
+    /// # Errors
+    ///
+    /// `AllocError` if memory runs out; nothing is promised of the polynomial then.
     pub fn descend(&mut self, x: &Mono) -> Result<Ordering, AllocError>
         ensures { IfOk result (Descends x.now (split_of self.old) (split_of self.new)) }
     {
@@ -282,6 +294,10 @@ impl Dividend {
     }
 
     /// Moves the place to the first term that isn't greater than `x`, and answers how that one compares with it.
+    ///
+    /// # Errors
+    ///
+    /// `AllocError` if memory runs out; nothing is promised of the polynomial then.
     pub fn go_to(&mut self, x: &Mono) -> Result<Ordering, AllocError>
         requires { IsDescending (joined_terms (split_of self.old)) }
         ensures { OnOk result (joined_terms (split_of self.new) ≡ joined_terms (split_of self.old)) }
@@ -291,6 +307,10 @@ impl Dividend {
     }
 
     /// Moves the place above all terms.
+    ///
+    /// # Errors
+    ///
+    /// `AllocError` if memory runs out; nothing is promised of the polynomial then.
     pub fn rewind(&mut self) -> Result<(), AllocError>
         ensures above { OnOk result ((split_of self.new).above ≡ []) }
         ensures same { OnOk result (joined_terms (split_of self.new) ≡ joined_terms (split_of self.old)) }
@@ -323,8 +343,8 @@ impl Dividend {
     ///
     /// # Errors
     ///
-    /// `Overflow` and `Exponent` where a product of `coef` and a coefficient, one of `shift` and a monomial, or a
-    /// difference of coefficients leaves its range.
+    /// `Overflow` and `Exponent` where a product of `coef` and a coefficient, one of `shift` and a monomial, or a difference of coefficients leaves
+    /// its range; it holds the operands. `Memory` if memory runs out.
     pub fn subtract(&mut self, coef: &Frac, shift: &Mono, terms: &[Term]) -> Result<(), PolyError>
         requires sound { IsSound (length shift.now) (split_of self.old) }
         requires variables { HasVariables (length shift.now) terms.now }
@@ -367,7 +387,7 @@ impl Dividend {
     ///
     /// # Errors
     ///
-    /// `Overflow` and `Exponent` only where two numbers of this step don't fit, which it holds.
+    /// `Overflow` and `Exponent` only where two numbers of this step don't fit, which it holds. `Memory` if memory runs out.
     pub fn step(&mut self, by: &Marked) -> Result<Term, PolyError>
         requires variables { SharesVariables by.now (split_of self.old) }
         requires divides { DividesFirst by.now.head (split_of self.old).below }

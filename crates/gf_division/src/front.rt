@@ -165,7 +165,11 @@ pub struct Front {
 }
 
 impl Front {
-    /// No monomials yet.
+    /// The front without monomials, for the marks of these members and the order of the guide.
+    ///
+    /// # Errors
+    ///
+    /// `AllocError` if memory runs out.
     pub fn new(alloc: Global, guide: &Guide, by: &[Marked]) -> Result<Front, AllocError> {
         Ok(Front {
             marks: marks_of(alloc, by)?,
@@ -182,6 +186,10 @@ impl Front {
     }
 
     /// Adds a monomial, if a mark divides it; all have equally many variables.
+    ///
+    /// # Errors
+    ///
+    /// `AllocError` if memory runs out.
     pub fn push(&mut self, x: &Mono) -> Result<(), AllocError> {
         if !is_open(x, &self.marks) {
             return Ok(());
@@ -195,7 +203,7 @@ impl Front {
         Ok(())
     }
 
-    /// Takes the greatest out.
+    /// Takes the greatest monomial out.
     pub fn pop(&mut self, alloc: Global) -> Option<Mono> {
         let top = self.heap.pop()?;
         let n = self.n;

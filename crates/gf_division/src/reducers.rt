@@ -65,7 +65,12 @@ pub fn reducer_of(x: &Mono, by: &[Marked], spared: &Option<Mono>) -> Option<usiz
     }
 }
 
-/// Moves the place down to the first term that a member reduces, and answers the place of the first such member.
+/// Moves the place down to the first term that a member reduces, and answers the place of the first such member among `by`; none where no member
+/// reduces a term.
+///
+/// # Errors
+///
+/// `AllocError` if memory runs out; nothing is promised of the polynomial then.
 pub fn seek(
     rest: &mut Dividend,
     by: &[Marked],

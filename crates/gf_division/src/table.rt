@@ -102,7 +102,11 @@ fn difference(a: &Frac, b: &Frac) -> Result<Frac, Overflow>
 }
 
 impl Table {
-    /// The polynomial, of which each monomial waits that a mark divides.
+    /// The polynomial as a table; each of its monomials waits that a mark divides.
+    ///
+    /// # Errors
+    ///
+    /// `AllocError` if memory runs out.
     pub fn new(alloc: Global, f: Poly, guide: &Guide, by: &[Marked]) -> Result<Table, AllocError>
         ensures { IfOk result (λ t. table_of t ≡ record { above = []; below = f }) }
     {
@@ -116,7 +120,11 @@ impl Table {
         Ok(Table { entries, front })
     }
 
-    /// The polynomial.
+    /// The polynomial of the table.
+    ///
+    /// # Errors
+    ///
+    /// `AllocError` if memory runs out.
     pub fn into_poly(self, alloc: Global) -> Result<Poly, AllocError>
         requires { IsDescending (joined_terms (table_of self)) }
         ensures { IfOk result (λ f. f ≡ joined_terms (table_of self)) }
@@ -222,7 +230,7 @@ impl Table {
     ///
     /// # Errors
     ///
-    /// `Overflow` and `Exponent` only where two numbers of this step don't fit, which it holds.
+    /// `Overflow` and `Exponent` only where two numbers of this step don't fit, which it holds. `Memory` if memory runs out.
     pub fn step(&mut self, t: &Term, by: &Marked) -> Result<(), PolyError>
         requires there { IsCutBefore (joined_terms (table_of self.old)) t.now }
         requires variables { SharesVariables by.now (table_of self.old) }

@@ -162,7 +162,7 @@ pub fn sum_parts(a: i128, b: u128, c: i128, d: u128) -> Option<(i128, u128)>
     sum_of_quotients(a, b, c, d)
 }
 
-/// The same of whole numbers.
+/// The sum of the whole numbers `a` and `c`, with the denominator 1; none exactly where it leaves `-(2^127-1)` to `2^127-1`.
 fn whole_sum(a: i128, c: i128) -> Option<(i128, u128)>
     requires left { InRange a }
     requires right { InRange c }
@@ -174,7 +174,8 @@ fn whole_sum(a: i128, c: i128) -> Option<(i128, u128)>
     Some((numerator, 1))
 }
 
-/// The same of any fractions.
+/// The numerator and the denominator, in lowest terms, of the sum of the fractions `a/b` and `c/d`; none exactly where a number of the working leaves
+/// `-(2^127-1)` to `2^127-1`. With `g` the greatest common divisor of `b` and `d`, the working is `(a*(d/g) + c*(b/g)) / (b*(d/g))`.
 fn sum_of_quotients(a: i128, b: u128, c: i128, d: u128) -> Option<(i128, u128)>
     requires left { IsLowest a b }
     requires right { IsLowest c d }
@@ -221,7 +222,7 @@ pub fn product_parts(a: i128, b: u128, c: i128, d: u128) -> Option<(i128, u128)>
     product_of_quotients(a, b, c, d)
 }
 
-/// The same of whole numbers.
+/// The product of the whole numbers `a` and `c`, with the denominator 1; none exactly where it leaves `-(2^127-1)` to `2^127-1`.
 fn whole_product(a: i128, c: i128) -> Option<(i128, u128)>
     ensures { MatchOption result (¬ (FitsProduct a 1 c 1)) (IsProduct a 1 c 1) }
 {
@@ -231,7 +232,9 @@ fn whole_product(a: i128, c: i128) -> Option<(i128, u128)>
     Some((numerator, 1))
 }
 
-/// The same of any fractions.
+/// The numerator and the denominator, in lowest terms, of the product of the fractions `a/b` and `c/d`; none exactly where one of them leaves
+/// `-(2^127-1)` to `2^127-1`. With `g` the greatest common divisor of `a` and `d`, and `h` that of `c` and `b`, they are `(a/g)*(c/h)` and
+/// `(b/h)*(d/g)`.
 fn product_of_quotients(a: i128, b: u128, c: i128, d: u128) -> Option<(i128, u128)>
     requires left { IsLowest a b }
     requires right { IsLowest c d }

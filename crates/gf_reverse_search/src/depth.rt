@@ -7,7 +7,7 @@ ghost use Rattle.gf_reverse_search.specs.Depth.{IsCounted};
 use std::alloc::{AllocError, Global};
 use std::marker::Model;
 
-/// How far a node is below another. No number of steps is too many.
+/// How many steps a node is below another; a natural number of any size.
 #[derive(Drop)]
 pub struct Depth {
     full: Vec<u64>,
@@ -23,7 +23,7 @@ impl Model for Depth {
 }
 
 impl Depth {
-    /// No way down.
+    /// The depth 0.
     pub fn zero(alloc: Global) -> Depth
         ensures { result ≡ 0 }
     {
@@ -33,21 +33,25 @@ impl Depth {
         }
     }
 
-    /// No way down, with the allocator of this one.
+    /// The depth 0, with the allocator of this one.
     pub fn none(&self) -> Depth
         ensures { result ≡ 0 }
     {
         Depth::zero(*self.full.allocator())
     }
 
-    /// Whether it is none.
+    /// Whether the depth is 0.
     pub fn is_zero(&self) -> bool
         ensures { IsTrue result ↔ self.now ≡ 0 }
     {
         self.last == 0
     }
 
-    /// One more. After a refusal it is as before.
+    /// Increases the depth by 1.
+    ///
+    /// # Errors
+    ///
+    /// `AllocError` if memory runs out; the depth is unchanged.
     pub fn raise(&mut self) -> Result<(), AllocError>
         ensures ok { OnOk result (self.new ≡ self.old + 1) }
         ensures err { OnErr result (self.new ≡ self.old) }
@@ -61,7 +65,7 @@ impl Depth {
         Ok(())
     }
 
-    /// One less.
+    /// Decreases the depth, which is positive, by 1.
     pub fn lower(&mut self)
         requires { 0 < self.old }
         ensures { self.new + 1 ≡ self.old }
@@ -76,7 +80,11 @@ impl Depth {
         };
     }
 
-    /// The same again.
+    /// A copy of the depth.
+    ///
+    /// # Errors
+    ///
+    /// `AllocError` if memory runs out.
     pub fn copy(&self) -> Result<Depth, AllocError>
         ensures { IfOk result (λ d. d ≡ self.now) }
     {

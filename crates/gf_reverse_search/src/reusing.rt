@@ -17,7 +17,7 @@ pub trait ReusingTree: Tree {
     /// Leaves the memory of a node.
     fn leave(&self, node: Self::Node, store: &mut Self::Store);
 
-    /// The same node without what only its children are found by, whose memory is left.
+    /// The node without the data that serve only to find its children; their memory is left in the store. The answer is equal to the node.
     fn bare(&self, node: Self::Node, store: &mut Self::Store) -> Self::Node
         ensures { result ≡ node };
 

@@ -106,7 +106,12 @@ fn climb<T: Tree>(
     }
 }
 
-/// The next node and its depth, from a node that is listed.
+/// The next node after `node` and its depth, where the node and its children up to the mark are listed: the child under the least label past the
+/// mark, or else the next child of a node on the way up, by at most `depth` steps; none where there is none.
+///
+/// # Errors
+///
+/// What a call of the tree is refused by at the node, or at a node above it by at most `depth` steps. Any call may be refused for want of memory.
 #[tactic(auto, using(crate::proofs::RefusalLaws::refused_here))]
 pub fn find_next<T: Tree>(
     tree: &T,

@@ -65,12 +65,20 @@ pub trait Tree: Drop {
         ensures ok { IfOk result (IsParentOf (up self.now) node.now) }
         ensures err { IfErr result (refuses self.now node.now) };
 
-    /// The same node again.
+    /// A copy of the node.
+    ///
+    /// # Errors
+    ///
+    /// Want of memory alone.
     fn copy(&self, node: &Self::Node) -> Result<Self::Node, Self::Error>
         ensures ok { IfOk result (λ v. v ≡ node.now) }
         ensures err { IfErr result is_memory };
 
-    /// The same tree again.
+    /// A copy of the tree.
+    ///
+    /// # Errors
+    ///
+    /// Want of memory alone.
     fn again(&self) -> Result<Self, Self::Error>
         ensures ok { IfOk result (λ t. t ≡ self.now) }
         ensures err { IfErr result is_memory };

@@ -49,7 +49,7 @@ fn due<T: Tree>(workers: u32, row: &VecDeque<Piece<T>>) -> usize
     (workers as usize).min(free / 4).min(walkers)
 }
 
-/// How many pieces each of them may add: sixteen, and no more than its share of the places.
+/// How many pieces each job may add: at most sixteen, and no more than its share of the free places.
 fn room<T: Tree>(workers: u32, row: &VecDeque<Piece<T>>, due: usize) -> usize
     requires workers { workers ≤ 64 }
     requires some { 0 < due }
@@ -63,7 +63,7 @@ fn room<T: Tree>(workers: u32, row: &VecDeque<Piece<T>>, due: usize) -> usize
     (free / due).min(16)
 }
 
-/// How often each of them expands: at most sixteen times, and by the jobs before.
+/// How many expansions each job makes: one more than there were jobs before, and at most sixteen.
 fn times(jobs: u64) -> usize
     ensures is { result ≡ times_at jobs }
 {
@@ -114,7 +114,8 @@ where
     wave(rt, gate, row, workers, due, times(*jobs), room, jobs)
 }
 
-/// The first node of a row. A walker in front is asked for it.
+/// Takes the first node out of a row: the node that is ready in front, or the next node of the walker in front. A walker that has no node left is
+/// dropped.
 fn give_first<T: Tree>(row: &mut VecDeque<Piece<T>>) -> Result<Option<T::Node>, T::Error>
     ensures given { IsGiven T.before T.up (RefusesAt T.up T.refuses) row.old.items result row.new.items }
     ensures few { length row.new.items ≤ length row.old.items }
@@ -145,7 +146,12 @@ fn give_first<T: Tree>(row: &mut VecDeque<Piece<T>>) -> Result<Option<T::Node>, 
     Ok(None)
 }
 
-/// The same, said of what is left, and of refusals.
+/// Takes the first node out of a row: the node that is ready in front, or the next node of the walker in front; a walker that has no node left is
+/// dropped. None where no node is left in the row.
+///
+/// # Errors
+///
+/// The refusal that stands in front, or that a call of the walker in front meets. The walker stays in front, and no node of the row is lost.
 pub fn give<T: Tree>(row: &mut VecDeque<Piece<T>>) -> Result<Option<T::Node>, T::Error>
     requires { AreRefusals (RefusesAt T.up T.refuses) row.old.items }
     ensures given { IsGiven T.before T.up (RefusesAt T.up T.refuses) row.old.items result row.new.items }

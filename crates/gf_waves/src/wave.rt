@@ -14,7 +14,7 @@ use std::collections::VecDeque;
 use std::mem;
 use std::thread::{self, Threads};
 
-/// Each job is worked on, by so many workers.
+/// Works on each job of the slice, with `workers` workers: each job makes `times` expansions and may add `room` pieces.
 fn work_all<R: Threads + Sync, T: ReusingTree + Send, G: Gate>(
     rt: &R,
     alloc: Global,
@@ -49,7 +49,7 @@ where
     thread::for_each_mut(rt, jobs, workers, &each);
 }
 
-/// The same over a vector.
+/// Works on each job of the vector, with `workers` workers: each job makes `times` expansions and may add `room` pieces.
 fn work_jobs<R: Threads + Sync, T: ReusingTree + Send, G: Gate>(
     rt: &R,
     alloc: Global,
@@ -72,8 +72,8 @@ where
     work_all(rt, alloc, gate, jobs.as_mut_slice(), workers, times, room);
 }
 
-/// A wave: the first pieces of the row are dealt out to so many jobs, eight walkers to each, which have so many expansions each and room for so
-/// many pieces.
+/// A wave: the first pieces of the row are dealt out to `due` jobs, eight walkers to each; each job makes `times` expansions and has room for `room`
+/// pieces more.
 ///
 /// # Errors
 ///

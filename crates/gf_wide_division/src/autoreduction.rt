@@ -54,7 +54,8 @@ fn needed_forms(alloc: Global, items: &[Marked]) -> Result<Vec<Marked>, Beyond>
     Ok(forms)
 }
 
-/// A member with its tail reduced, in wide numbers where narrow ones don't fit; another refusal is none of numbers, and stays one.
+/// A member with its tail reduced, in fractions of 512 bits where those of 128 bits overflow. `Beyond` where a sum of exponents or a wide number
+/// leaves its range, or if memory runs out.
 fn tail(
     alloc: Global,
     member: &Marked,
@@ -95,8 +96,17 @@ fn tails(
     Ok(done)
 }
 
-/// What `autoreduce_by` of `gf_division` answers of members that are monic where they are needed, where numbers of a tail don't fit on
-/// the way.
+/// The members that are needed, which are monic, their tails reduced by one another, ascending by their marks: where the set is a Gröbner basis for
+/// its marking, the reduced one. A tail is reduced in fractions of 512 bits where those of 128 bits overflow on the way.
+///
+/// A member is dropped where its marked monomial is a proper multiple of another's; of members with the same marked monomial the first stays. Some
+/// positive weight sets each marked monomial above the other ones of its polynomial. `guide` and `first` tell which terms are reduced first.
+///
+/// # Errors
+///
+/// `Beyond` where a needed member isn't monic; where in a step of a wide reduction the working of a product or a difference of coefficients reaches
+/// 2^512, or a sum of two exponents reaches 2^31; where the numerator or the denominator of a coefficient of a reduced tail exceeds 2^127 - 1 in
+/// size; or if memory runs out.
 #[cold]
 #[inline(never)]
 pub fn wide_autoreduce(

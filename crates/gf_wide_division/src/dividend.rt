@@ -29,7 +29,7 @@ pub struct WideDividend {
     terms: Vec<WideTerm>,
 }
 
-/// What two monomials have to be raised by, to their least common multiple.
+/// The cofactors of two monomials: what each is multiplied by to give their least common multiple.
 fn cofactors(x: &Mono, y: &Mono) -> (Mono, Mono)
     requires { length x.now ≡ length y.now }
     ensures { AreLcmCofactors x.now y.now result.0 result.1 }
@@ -39,7 +39,11 @@ fn cofactors(x: &Mono, y: &Mono) -> (Mono, Mono)
 }
 
 impl WideDividend {
-    /// The polynomial, to be reduced by these members beside the spared monomial.
+    /// The polynomial `f`, to be reduced by these members, but not at the spared monomial.
+    ///
+    /// # Errors
+    ///
+    /// `Beyond` if memory runs out.
     pub fn new(
         alloc: Global,
         f: &Poly,
@@ -63,7 +67,11 @@ impl WideDividend {
         Ok(WideDividend { terms })
     }
 
-    /// What is left of a reduction, to be reduced by these members beside the spared monomial.
+    /// The polynomial `f` with wide coefficients, to be reduced by these members, but not at the spared monomial.
+    ///
+    /// # Errors
+    ///
+    /// `Beyond` if memory runs out.
     pub fn of_poly(
         alloc: Global,
         f: &WidePoly,
@@ -87,7 +95,7 @@ impl WideDividend {
         Ok(WideDividend { terms })
     }
 
-    /// No terms yet.
+    /// The zero polynomial.
     fn zero(alloc: Global) -> WideDividend
         ensures { dividend_of result ≡ uncut [] }
     {
@@ -96,7 +104,12 @@ impl WideDividend {
         }
     }
 
-    /// The S-polynomial of two monic ones, to be reduced by these members.
+    /// The S-polynomial of two monic marked polynomials, to be reduced by these members.
+    ///
+    /// # Errors
+    ///
+    /// `Beyond` where the working of a product or a difference of coefficients reaches 2^512, or a sum of two exponents reaches 2^31, or if memory
+    /// runs out.
     pub fn of_pair(
         alloc: Global,
         b: &Marked,
@@ -134,7 +147,7 @@ impl WideDividend {
         Some(t.copy())
     }
 
-    /// The place of that term.
+    /// The place of the term that is taken first of those that wait.
     fn place_of_foremost(&self, first: &Precedence) -> Option<usize>
         ensures { IfSome result (λ i. i < length self.now.terms.items) }
     {
@@ -148,7 +161,7 @@ impl WideDividend {
         found
     }
 
-    /// Of the place that is found already and the next one that whose term is taken first.
+    /// Of the place that is found already and the place `i`, the one whose term is taken first.
     fn first_of(&self, first: &Precedence, found: Option<usize>, i: usize) -> usize
         requires found { IfSome found (λ k. k < length self.now.terms.items) }
         requires next { i < length self.now.terms.items }
@@ -228,7 +241,12 @@ impl WideDividend {
         }
     }
 
-    /// Takes `coef` times `shift` times the sum of `terms` away.
+    /// Takes `coef` times `shift` times the sum of `terms` away; a new term waits where a member of `by` reduces it.
+    ///
+    /// # Errors
+    ///
+    /// `Beyond` where the working of a product or a difference of coefficients reaches 2^512, or a sum of two exponents reaches 2^31, or if memory
+    /// runs out; nothing is promised of the polynomial then.
     pub fn subtract(
         &mut self,
         coef: &WideFrac,
@@ -253,7 +271,13 @@ impl WideDividend {
         Ok(())
     }
 
-    /// The step at a term of the polynomial by `member`, whose mark divides it.
+    /// The step of reduction at a term of the polynomial by `member`, whose mark divides it: the quotient of the term by the mark, times `member`, is
+    /// taken away.
+    ///
+    /// # Errors
+    ///
+    /// `Beyond` where the working of a product or a difference of coefficients reaches 2^512, or a sum of two exponents reaches 2^31, or if memory
+    /// runs out; nothing is promised of the polynomial then.
     pub fn step(
         &mut self,
         t: &WideTerm,

@@ -30,7 +30,7 @@ impl Model for WidePoly {
     ghost invariant = { λ p. IsDescending (value_terms p.terms.items) };
 }
 
-/// The quotient of each coefficient by `by`, in narrow numbers.
+/// The quotient of each coefficient by `by`, in fractions of 128 bits.
 fn quotients(alloc: Global, terms: &[WideTerm], by: &WideFrac) -> Result<Vec<Term>, Beyond>
     requires { ¬ (by.now ≡ zero_ℚ) }
     ensures { IfOk result (λ h. h.items ≡ times (reciprocal_ℚ by.now) [] (value_terms terms.now)) }
@@ -87,7 +87,11 @@ impl WidePoly {
         &terms[place].mono
     }
 
-    /// The same polynomial in narrow numbers.
+    /// The polynomial with its coefficients as fractions of 128 bits.
+    ///
+    /// # Errors
+    ///
+    /// `Beyond` where the numerator or the denominator of a coefficient exceeds 2^127 - 1 in size, or if memory runs out.
     pub fn narrowed(&self, alloc: Global) -> Result<Poly, Beyond>
         ensures { IfOk result (λ f. f ≡ self.now) }
     {
@@ -104,7 +108,12 @@ impl WidePoly {
         Ok(Poly::from_descending(out))
     }
 
-    /// The polynomial divided by its coefficient at a place and marked there, in narrow numbers: only the quotients have to fit.
+    /// The polynomial divided by its coefficient at a place and marked there, with coefficients of 128 bits; only the quotients have to fit in them.
+    ///
+    /// # Errors
+    ///
+    /// `Beyond` where the working of a quotient reaches 2^512, where the numerator or the denominator of a quotient exceeds 2^127 - 1 in size, or if
+    /// memory runs out.
     pub fn monic(&self, alloc: Global, place: usize) -> Result<Marked, Beyond>
         requires { place < length self.now }
         ensures monic { IfOk result (IsMonicAt self.now place) }

@@ -95,7 +95,14 @@ fn worked_off(
     Err(Beyond)
 }
 
-/// What `remainder` of `gf_division` answers, where its numbers don't fit on the way.
+/// The remainder of `f` on division by the members, with coefficients of 512 bits: the normal form in which each term is reduced by the first member
+/// whose mark divides its monomial, until no mark divides a monomial. `first` tells which terms are reduced first. It is for where fractions of
+/// 128 bits overflow on the way.
+///
+/// # Errors
+///
+/// `Beyond` where in a step the working of a product or a difference of coefficients reaches 2^512, or a sum of two exponents reaches 2^31, or if
+/// memory runs out.
 #[cold]
 #[inline(never)]
 pub fn wide_remainder(
@@ -114,7 +121,13 @@ pub fn wide_remainder(
     worked_off(rest, by, &None, first)
 }
 
-/// A remainder of what another reduction leaves.
+/// The remainder on division by the members of a polynomial with wide coefficients, as another reduction leaves it. `first` tells which terms are
+/// reduced first.
+///
+/// # Errors
+///
+/// `Beyond` where in a step the working of a product or a difference of coefficients reaches 2^512, or a sum of two exponents reaches 2^31, or if
+/// memory runs out.
 #[cold]
 #[inline(never)]
 pub fn wide_remainder_again(
@@ -132,7 +145,12 @@ pub fn wide_remainder_again(
     worked_off(rest, by, &None, first)
 }
 
-/// The remainder of the S-polynomial of two monic members.
+/// The remainder on division by the members of the S-polynomial of two monic ones of them. `first` tells which terms are reduced first.
+///
+/// # Errors
+///
+/// `Beyond` where in making the S-polynomial or in a step the working of a product or a difference of coefficients reaches 2^512, or a sum of two
+/// exponents reaches 2^31, or if memory runs out.
 #[cold]
 #[inline(never)]
 pub fn wide_remainder_of_pair(
@@ -150,7 +168,13 @@ pub fn wide_remainder_of_pair(
     worked_off(rest, by, &None, first)
 }
 
-/// What `reduced_tail` of `gf_division` answers, where its numbers don't fit on the way.
+/// A member with its tail reduced by all of them, in fractions of 512 bits: reduced like a polynomial, but for its marked term. `first` tells which
+/// terms are reduced first. The coefficients of the answer have 128 bits.
+///
+/// # Errors
+///
+/// `Beyond` where in a step the working of a product or a difference of coefficients reaches 2^512, or a sum of two exponents reaches 2^31; where the
+/// numerator or the denominator of a coefficient of the answer exceeds 2^127 - 1 in size; or if memory runs out.
 #[cold]
 #[inline(never)]
 pub fn wide_tail(

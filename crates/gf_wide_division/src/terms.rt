@@ -51,21 +51,25 @@ impl WideTerm {
     }
 }
 
-/// The narrow number 1.
+/// The fraction 1, of 128 bits.
 pub fn narrow_one() -> Frac
     ensures { result ≡ one_ℚ }
 {
     Frac::ONE
 }
 
-/// The number 1.
+/// The wide fraction 1.
 pub fn one() -> WideFrac
     ensures { result ≡ one_ℚ }
 {
     WideFrac::new(&narrow_one())
 }
 
-/// The product.
+/// The product of a wide fraction and one of 128 bits.
+///
+/// # Errors
+///
+/// `Beyond` where a number of the working reaches 2^512.
 pub fn product(a: &WideFrac, b: &Frac) -> Result<WideFrac, Beyond>
     ensures { IfOk result (λ x. x ≡ a.now *ℚ b.now) }
 {
@@ -75,7 +79,11 @@ pub fn product(a: &WideFrac, b: &Frac) -> Result<WideFrac, Beyond>
     }
 }
 
-/// The difference.
+/// The difference of two wide fractions.
+///
+/// # Errors
+///
+/// `Beyond` where a number of the working reaches 2^512.
 pub fn difference(a: &WideFrac, b: &WideFrac) -> Result<WideFrac, Beyond>
     ensures { IfOk result (λ x. x ≡ a.now -ℚ b.now) }
 {
@@ -85,7 +93,11 @@ pub fn difference(a: &WideFrac, b: &WideFrac) -> Result<WideFrac, Beyond>
     }
 }
 
-/// The narrow quotient by a number that isn't zero.
+/// The quotient of `a` by `b`, which isn't zero, as a fraction of 128 bits.
+///
+/// # Errors
+///
+/// `Beyond` where a number of the working reaches 2^512, or where the numerator or the denominator of the quotient exceeds 2^127 - 1 in size.
 pub fn narrow_quotient(a: &WideFrac, b: &WideFrac) -> Result<Frac, Beyond>
     requires { ¬ (b.now ≡ zero_ℚ) }
     ensures { IfOk result (λ x. x ≡ a.now /ℚ b.now) }
@@ -96,7 +108,11 @@ pub fn narrow_quotient(a: &WideFrac, b: &WideFrac) -> Result<Frac, Beyond>
     }
 }
 
-/// The same number in 127 bits.
+/// The number as a fraction of 128 bits.
+///
+/// # Errors
+///
+/// `Beyond` where its numerator or its denominator exceeds 2^127 - 1 in size.
 pub fn narrow(a: &WideFrac) -> Result<Frac, Beyond>
     ensures { IfOk result (λ x. x ≡ a.now) }
 {
