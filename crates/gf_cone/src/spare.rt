@@ -11,7 +11,7 @@ pub struct SpareVectors {
 }
 
 impl SpareVectors {
-    /// None.
+    /// No vectors.
     pub fn new(alloc: Global) -> SpareVectors {
         SpareVectors {
             list: Vec::new(alloc),
@@ -23,7 +23,8 @@ impl SpareVectors {
         let _ = self.list.push(vector);
     }
 
-    /// An empty list with room for so many numbers: that of the vector that was kept last, which may be less, if there is one.
+    /// An empty list: in the memory of the vector that was kept last, which may have room for fewer than `n` numbers, or, where none was kept, in new
+    /// memory with room for `n`.
     ///
     /// # Errors
     /// Want of memory.
@@ -43,7 +44,7 @@ impl SpareVectors {
         }
     }
 
-    /// The same vector again, in the memory of one that was kept, if there is one.
+    /// An equal vector, in the memory of a vector that was kept, if there is one, and else in new memory.
     ///
     /// # Errors
     /// Want of memory.

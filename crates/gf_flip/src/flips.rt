@@ -26,7 +26,8 @@ use std::alloc::Global;
 /// Why there is no flip: as there may be no basis.
 pub type FlipError = BasisError;
 
-/// Lifts of the reduced basis of the parts, which end early, by a run on lines that takes the pairs in turn, if all numbers fit.
+/// Lifts of the reduced basis of the parts, which end early, by a run on lines that takes the pairs in turn; none where a number doesn't fit, the run
+/// passes a limit, of which `pairs` is that of the lines worked off, or memory runs out.
 fn lifts_of_split(
     alloc: Global,
     ground: &Ground,
@@ -46,7 +47,9 @@ fn lifts_of_split(
     chosen_lifts(alloc, ground, places, &lines, &flags, spare)
 }
 
-/// The same, from the set.
+/// Lifts of the reduced basis of the parts of the members along the normal, which end early, by a run on lines that takes the pairs in turn. The set
+/// is split into these parts first. None where a number doesn't fit, the run passes a limit, of which `pairs` is that of the lines worked
+/// off, or memory runs out.
 fn lifts_in_turn(
     alloc: Global,
     set: &MarkedSet,
@@ -105,7 +108,8 @@ fn basis_of_parts(
     Ok(below)
 }
 
-/// The lifts of that basis, which end early; none where numbers don't fit.
+/// Lifts of the reduced basis of the parts of the members along the normal, which end early, by a queue of pairs; none where a number of a lift
+/// doesn't fit.
 fn lifts_by_queue(
     alloc: Global,
     set: &MarkedSet,
@@ -130,7 +134,8 @@ fn lifts_by_queue(
     Ok(top_lifts(alloc, below.into_items(), items, &alone, normal.as_slice()))
 }
 
-/// Lifts of the reduced basis of the parts, which end early, by the one way or, where numbers don't fit in that, by the other.
+/// Lifts of the reduced basis of the parts of the members along the normal, which end early: by a run on lines or, where that has none, by a queue of
+/// pairs.
 fn early_lifts(
     alloc: Global,
     set: &MarkedSet,
@@ -149,7 +154,7 @@ fn early_lifts(
     lifts_by_queue(alloc, set, normal, pairs)
 }
 
-/// The basis on the other side, from the remainders by the set.
+/// The basis on the other side of the facet: the members of `below`, each less its remainder by the set, autoreduced.
 fn crossed(
     alloc: Global,
     set: &MarkedSet,
@@ -168,7 +173,8 @@ fn crossed(
     autoreduce(alloc, &all)
 }
 
-/// The same, in wide numbers where narrow ones don't fit on the way; the refusal is that of the narrow ones.
+/// The basis on the other side of the facet: the members of `below`, each less its remainder by the set, autoreduced. Where a coefficient leaves the
+/// range of 128-bit fractions on the way, it is worked out in wide numbers; where these have no answer either, the refusal is that of the first try.
 fn lifted_across(
     alloc: Global,
     set: &MarkedSet,

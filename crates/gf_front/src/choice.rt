@@ -14,11 +14,11 @@ pub(crate) enum Choice {
     Letter(char),
     /// It is there or not: two hyphens and its name.
     Flag,
-    /// A number from `least` to `most`, behind two hyphens and its name.
+    /// A number from `least` to `most`, behind two hyphens and the name of the option.
     Number { least: u32, most: u64 },
-    /// The name of a file, behind two hyphens and its name.
+    /// The name of a file, behind two hyphens and the name of the option.
     File,
-    /// The same, without which the command isn't taken.
+    /// The name of a file, behind two hyphens and the name of the option, without which the command isn't taken.
     NeededFile,
     /// A number from `least` to `most` that stands alone, without which the command isn't taken.
     BareNumber { least: u32, most: u64 },

@@ -153,7 +153,8 @@ pub(crate) fn point_of(
     Ok(vector_of(combination(alloc, k, xs, m, ys)?))
 }
 
-/// What normals give on a list of entries, of which it is told whether it is short, put behind other values; whether each is positive and has at most 64 bits.
+/// Puts the dot products of the normals with a list of entries behind other values, as long as each is positive and has at most 64 bits; whether all
+/// are so. `short` tells whether the list is short.
 ///
 /// # Errors
 /// Want of memory.
@@ -176,7 +177,8 @@ fn push_normals(
     Ok(true)
 }
 
-/// What a normal gives on a list of entries, of which it is told whether it is short. None where it has more than 64 bits.
+/// The dot product of a normal with a list of entries, of which `short` tells whether it is short. None where it has more than 64 bits, or a product
+/// or a partial sum leaves the 128-bit range.
 fn narrow_on(normal: &IntVec, w: &[i128], short: bool) -> Option<i64>
     requires width { length normal.now ≡ length w.now }
     requires small { IsSmall normal.now }
@@ -185,14 +187,16 @@ fn narrow_on(normal: &IntVec, w: &[i128], short: bool) -> Option<i64>
     narrow_value(normal.as_slice(), w, short)
 }
 
-/// What a row of a region gives on a list of entries. None where it has more than 64 bits.
+/// The dot product of a row of a region with a list of entries. None where it has more than 64 bits, or a product or a partial sum leaves the 128-bit
+/// range.
 fn row_on(row: &IntVec, w: &[i128]) -> Option<i64>
     requires { length row.now ≡ length w.now }
 {
     narrowed(dot_of(row.as_slice(), w)?)
 }
 
-/// The same of the rows of a region.
+/// Puts the dot products of the rows of a region with a list of entries behind other values, as long as each is positive and has at most 64 bits;
+/// whether all are so.
 ///
 /// # Errors
 /// Want of memory.
@@ -208,7 +212,8 @@ fn push_rows(values: &mut Vec<i64>, rows: &[IntVec], w: &[i128]) -> Result<bool,
     Ok(true)
 }
 
-/// The same of the unit vectors, which give the entries.
+/// Puts the entries of a list, which are its dot products with the unit vectors, behind other values, as long as each is positive and has at most 64
+/// bits; whether all are so.
 ///
 /// # Errors
 /// Want of memory.
@@ -222,8 +227,8 @@ fn push_entries(values: &mut Vec<i64>, w: &[i128]) -> Result<bool, AllocError> {
     Ok(true)
 }
 
-/// What each vector gives on a list of entries: the normals, the rows of the region, and the unit vectors. None where one isn't positive, or has more than 64
-/// bits.
+/// The dot products with a list of entries, of the normals, then of the rows of the region, then of the unit vectors. None where one isn't positive,
+/// or isn't found in 64 bits.
 ///
 /// # Errors
 /// Want of memory.
@@ -254,7 +259,8 @@ pub(crate) struct Hit {
     pub(crate) against: i64,
 }
 
-/// A hit, or that of the vector at a place, which gives so much on the inner one, and so much on the vector shot against, if that comes first.
+/// The earlier of a hit and of that of the vector at `place`, whose dot product is `value` with the inner vector and `slope` with the vector shot
+/// against; where both come at once, the hit, tied with `place`. A vector whose slope isn't positive isn't hit.
 fn nearer(hit: Hit, place: usize, value: i64, slope: i64) -> Hit {
     if slope <= 0 {
         return hit;
@@ -278,7 +284,8 @@ fn nearer(hit: Hit, place: usize, value: i64, slope: i64) -> Hit {
     hit
 }
 
-/// The first hit among the normals, which give so much on the inner vector, from one before on.
+/// The first of a hit and of the hits of the normals, where the normal at place `k` has the dot product `values[k]` with the inner vector. None where
+/// its dot product with `against` isn't found in 64 bits, or a value is missing.
 fn hit_normals(
     hit: Hit,
     normals: &[IntVec],
@@ -298,7 +305,8 @@ fn hit_normals(
     Some(hit)
 }
 
-/// The same among the rows of a region, the first of which is at a place.
+/// The first of a hit and of the hits of the rows of a region, where the row at `k` has the place `first + k` among all vectors, and the dot product
+/// at that place of `values` with the inner vector. None where its dot product with `against` isn't found in 64 bits, or a value is missing.
 fn hit_rows(
     hit: Hit,
     rows: &[IntVec],
@@ -317,7 +325,8 @@ fn hit_rows(
     Some(hit)
 }
 
-/// The same among the unit vectors.
+/// The first of a hit and of the hits of the unit vectors, where that of the entry at `k` has the place `first + k` among all vectors, and the dot
+/// product at that place of `values` with the inner vector. None where an entry of `against` has more than 64 bits, or a value is missing.
 fn hit_entries(hit: Hit, first: usize, values: &[i64], against: &[i128]) -> Option<Hit> {
     let mut hit = hit;
     for (k, x) in against.iter().enumerate() {
@@ -327,7 +336,8 @@ fn hit_entries(hit: Hit, first: usize, values: &[i64], against: &[i128]) -> Opti
     Some(hit)
 }
 
-/// Where the shot against a vector hits, of which each vector gives so much on the inner one; none also where a number has more than 64 bits.
+/// Where the shot from the inner vector against another one hits first; `values` has the dot products of the normals, the rows of the region and the
+/// unit vectors with the inner vector. None where it hits nothing, or a dot product isn't found in 64 bits.
 pub(crate) fn first_hit(cone: &Cone, values: &[i64], against: &[i128]) -> Option<Hit>
     requires { length against.now ≡ cone.now.variables }
 {

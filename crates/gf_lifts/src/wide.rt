@@ -246,7 +246,12 @@ fn autoreduced(alloc: Global, n: u32, members: Vec<Marked>) -> Option<MarkedSet>
     }
 }
 
-/// The basis on the other side, from the remainders by the set.
+/// The basis on the other side of the facet: the members of `below`, each less its remainder by the set, autoreduced; the remainders are worked out
+/// in wide numbers.
+///
+/// # Errors
+/// `Beyond` where a wide number leaves its range, a coefficient or an exponent of a lift or of the answer doesn't fit in the 128-bit fractions and
+/// 31-bit exponents of a polynomial, no weight of the marks is found, or memory runs out.
 #[cold]
 #[inline(never)]
 pub fn wide_crossed(

@@ -168,7 +168,8 @@ pub fn push_line(lines: &mut Vec<Line>, line: Line) -> Option<()>
     }
 }
 
-/// Reduces points on the line through `base` by the monomials and the lines; what is left is a new line.
+/// Reduces points on the line through `base` by the monomials and the lines; what is left, unless it is zero, is a new line. None where a number
+/// doesn't fit, `2^20` steps don't reach the end, or memory runs out.
 pub fn take_in(
     alloc: Global,
     ground: &Ground,
@@ -192,7 +193,8 @@ pub fn take_in(
     push_line(lines, line)
 }
 
-/// The same of a part of which no monomial divides a term. Where no mark of a line divides one either, it is moved.
+/// Reduces a part, of which no monomial divides a term, by the lines; what is left, unless it is zero, is a new line. Where no mark of a line divides
+/// a term either, its points are moved into the line. None where a number doesn't fit, `2^20` steps don't reach the end, or memory runs out.
 pub fn take_part(alloc: Global, ground: &Ground, part: Part, lines: &mut Vec<Line>) -> Option<()>
     requires ground { IsGround ground.now.normal.now ground.now.marks.now }
     requires lines { AreLinesOf ground.now.normal.now ground.now.by.now lines.old.items }

@@ -10,7 +10,10 @@ use super::merge::push_nonzero;
 use std::alloc::{AllocError, Global};
 use std::cmp::Ordering;
 
-/// The same terms in descending order, like ones as they stood.
+/// The terms in descending deglex order of their monomials; like terms stay in the order in which they stood.
+///
+/// # Errors
+/// `AllocError` if memory runs out.
 pub fn sorted(terms: Vec<Term>) -> Result<Vec<Term>, AllocError>
     ensures ordered { IfOk result (λ h. IsOrdered h.items) }
     ensures terms { IfOk result (λ h. HasLikeTerms terms.items h.items) }
@@ -21,6 +24,11 @@ pub fn sorted(terms: Vec<Term>) -> Result<Vec<Term>, AllocError>
 }
 
 /// Adds like terms, which stand together, from the left, and leaves out zeros.
+///
+/// # Errors
+/// - `Overflow` where a sum of coefficients of like terms, added from the left, leaves its range; it holds the operands of the first such sum at the
+///   greatest monomial that has one.
+/// - `Memory` if memory runs out.
 pub fn collected(alloc: Global, terms: &[Term]) -> Result<Vec<Term>, PolyError>
     requires { IsOrdered terms.now }
     ensures value { IfOk result (λ h. SamePolynomial h.items terms.now) }

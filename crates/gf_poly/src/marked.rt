@@ -77,6 +77,9 @@ impl Marked {
     }
 
     /// An equal marked polynomial.
+    ///
+    /// # Errors
+    /// `AllocError` if memory runs out.
     pub fn copy(&self) -> Result<Marked, AllocError>
         ensures { IfOk result (λ b. b ≡ self.now) }
     {

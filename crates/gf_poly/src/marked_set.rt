@@ -79,6 +79,9 @@ impl MarkedSet {
     }
 
     /// An equal list.
+    ///
+    /// # Errors
+    /// `AllocError` if memory runs out.
     pub fn copy(&self) -> Result<MarkedSet, AllocError>
         ensures { IfOk result (λ s. s ≡ self.now) }
     {
@@ -89,7 +92,11 @@ impl MarkedSet {
         })
     }
 
-    /// The same members, ascending by the exponents of their marked monomials, the first that differs first.
+    /// The list of these members in ascending lexicographic order of the exponents of their marked monomials: the first exponent that differs
+    /// decides.
+    ///
+    /// # Errors
+    /// `AllocError` if memory runs out.
     pub fn arrange(self) -> Result<MarkedSet, AllocError>
         ensures { IfOk result (IsArranged self) }
     {

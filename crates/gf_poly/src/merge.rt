@@ -54,6 +54,9 @@ fn combined(sign: Sign, a: &Frac, b: &Frac) -> Result<Frac, Overflow>
 }
 
 /// Adds a term at the end, unless its coefficient is zero.
+///
+/// # Errors
+/// `Memory` if memory runs out.
 pub fn push_nonzero(out: &mut Vec<Term>, coef: Frac, mono: Mono) -> Result<(), PolyError>
     ensures ok { OnOk result (PushesNonzero out.old.items out.new.items (record { coef = coef; mono = mono })) }
     ensures memory { IfErr result (λ e. e ≡ Memory) }
@@ -66,6 +69,11 @@ pub fn push_nonzero(out: &mut Vec<Term>, coef: Frac, mono: Mono) -> Result<(), P
 }
 
 /// The sum, or the difference, of two descending lists of terms.
+///
+/// # Errors
+/// - `Overflow` where the sum, or the difference, of two coefficients of one monomial leaves its range; it holds the two of the greatest such
+///   monomial.
+/// - `Memory` if memory runs out.
 pub fn merged(alloc: Global, f: &[Term], g: &[Term], sign: Sign) -> Result<Vec<Term>, PolyError>
     requires left { IsDescending f.now }
     requires right { IsDescending g.now }

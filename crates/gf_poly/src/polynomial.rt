@@ -136,6 +136,9 @@ impl Poly {
     }
 
     /// An equal polynomial.
+    ///
+    /// # Errors
+    /// `AllocError` if memory runs out.
     pub fn copy(&self) -> Result<Poly, AllocError>
         ensures { IfOk result (λ p. p ≡ self.now) }
     {

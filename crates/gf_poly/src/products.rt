@@ -32,7 +32,12 @@ fn scaled_coefficient(kind: Scaling, by: &Frac, c: &Frac) -> Result<Frac, Overfl
     }
 }
 
-/// The product of each term with `by`, or the quotient by it.
+/// The product of each term with the fraction `by`, or the quotient by it, without zeros.
+///
+/// # Errors
+/// - `Overflow` where the product of `by` and a coefficient, or the quotient of a coefficient by it, leaves its range; it holds the two, for the
+///   greatest such monomial.
+/// - `Memory` if memory runs out.
 pub fn scaled(
     alloc: Global,
     terms: &[Term],
@@ -56,7 +61,14 @@ pub fn scaled(
     Ok(out)
 }
 
-/// The product of each term with that of `coef` and `mono`.
+/// The product of each term with the term of `coef` and `mono`; the empty list where `coef` is 0.
+///
+/// # Errors
+/// - `Overflow` where the product of `coef` and a coefficient leaves its range; it holds them.
+/// - `Exponent` where the sum of an exponent of `mono` and one of the same variable in a term leaves its range; it holds them.
+/// - `Memory` if memory runs out.
+///
+/// Terms are worked out from the greatest down, the coefficient first; the first that leaves its range is told.
 pub fn multiplied(
     alloc: Global,
     terms: &[Term],

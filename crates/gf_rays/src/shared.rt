@@ -25,6 +25,9 @@ impl Model for Shared {
 
 impl Shared {
     /// These vectors.
+    ///
+    /// # Errors
+    /// `Memory` if memory runs out.
     pub(crate) fn of(alloc: Global, items: Vec<IntVec>) -> Result<Shared, GordanError>
         ensures ok { IfOk result (λ s. s ≡ items.items) }
         ensures err { IfErr result (λ e. e ≡ Memory) }
@@ -34,7 +37,10 @@ impl Shared {
         })
     }
 
-    /// The same vectors.
+    /// These vectors once more, shared and not copied.
+    ///
+    /// # Errors
+    /// `Memory` where they can't be shared once more.
     pub(crate) fn again(&self) -> Result<Shared, GordanError>
         ensures ok { IfOk result (λ s. s ≡ self.now) }
         ensures err { IfErr result (λ e. e ≡ Memory) }

@@ -165,7 +165,7 @@ pub fn polynomial(alloc: Global, f: &Poly) -> Option<String> {
     Some(text)
 }
 
-/// A polynomial, or why there is none.
+/// The text of a polynomial, or of the reason why there is none; `None` where that is want of memory, or memory runs out.
 pub fn outcome(alloc: Global, found: Result<Poly, PolyError>) -> Option<String> {
     match found {
         Ok(f) => polynomial(alloc, &f),

@@ -21,7 +21,7 @@ pub(crate) fn marks_of(alloc: Global, n: u32, items: &[Marked]) -> Mono
     all
 }
 
-/// The least common multiple of the marks without the variable after the first `n`.
+/// The least common multiple of those marks in which the variable after the first `n` doesn't occur, in `n + 1` variables; 1 where there are none.
 fn free_marks(alloc: Global, n: u32, items: &[Marked]) -> Mono
     requires room { n < ROOM }
     requires heads { HaveLongHeads (n + 1) items.now }
@@ -38,7 +38,8 @@ fn free_marks(alloc: Global, n: u32, items: &[Marked]) -> Mono
     all
 }
 
-/// The same, in the first `n` variables.
+/// The least common multiple of those marks in which the variable after the first `n` doesn't occur, in the first `n` variables; 1 where there are
+/// none.
 pub(crate) fn marks_left_over(alloc: Global, n: u32, items: &[Marked]) -> Mono
     requires room { n < ROOM }
     requires heads { HaveLongHeads (n + 1) items.now }

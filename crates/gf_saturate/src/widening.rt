@@ -6,7 +6,7 @@ ghost use Rattle.gf_saturate.specs.Widening.{widened_term};
 use gf_poly::{Poly, ROOM, Term, filled};
 use std::alloc::{AllocError, Global};
 
-/// The same terms in one more variable.
+/// The terms in one more variable, the last one, whose exponent is 0 in each of them.
 fn widened_terms(alloc: Global, terms: &[Term]) -> Result<Vec<Term>, AllocError>
     requires { (n : ℕ) × ((n < ROOM) × HasVariables n terms.now) }
     ensures { IfOk result (λ all. all.items ≡ map widened_term terms.now) }
@@ -22,7 +22,7 @@ fn widened_terms(alloc: Global, terms: &[Term]) -> Result<Vec<Term>, AllocError>
     Ok(all)
 }
 
-/// The same polynomial in one more variable.
+/// The polynomial in one more variable, the last one, which doesn't occur in it.
 pub(crate) fn widened_polynomial(alloc: Global, f: &Poly) -> Result<Poly, AllocError>
     requires { (n : ℕ) × ((n < ROOM) × HasVariables n f.now) }
     ensures { IfOk result (λ p. p ≡ map widened_term f.now) }

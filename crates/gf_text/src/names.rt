@@ -65,6 +65,9 @@ impl DifferentNames {
     }
 
     /// Adds a name as the last one, unless it is there already; whether it was new.
+    ///
+    /// # Errors
+    /// `AllocError` if memory runs out.
     pub fn insert(&mut self, alloc: Global, name: &[u8]) -> Result<bool, AllocError>
         ensures new { IfOk result (λ new. new ≡ not (has self.old name.now)) }
         ensures names { OnOk result (self.new ≡ (if has self.old name.now then self.old else self.old ++ name.now ∷ [])) }

@@ -20,6 +20,9 @@ fn write_bytes<E: Sink>(sink: &mut E, bytes: &[u8]) -> Result<(), WriteFault>
 }
 
 /// Writes a text.
+///
+/// # Errors
+/// `WriteFault` only where the sink counted one more fault; what was written is a prefix of the text then.
 pub fn write_text<E: Sink>(sink: &mut E, text: &str) -> Result<(), WriteFault>
     ensures { Told (E.held sink.old) (E.held sink.new) (E.faults sink.old) (E.faults sink.new) text.now
         result }
@@ -28,6 +31,9 @@ pub fn write_text<E: Sink>(sink: &mut E, text: &str) -> Result<(), WriteFault>
 }
 
 /// Writes a number in decimal.
+///
+/// # Errors
+/// `WriteFault` only where the sink counted one more fault; what was written is a prefix of the text then.
 pub fn write_number<E: Sink>(sink: &mut E, n: u128) -> Result<(), WriteFault>
     ensures { Told (E.held sink.old) (E.held sink.new) (E.faults sink.old) (E.faults sink.new)
         (decimal n) result }
@@ -37,6 +43,9 @@ pub fn write_number<E: Sink>(sink: &mut E, n: u128) -> Result<(), WriteFault>
 }
 
 /// Writes a whole number in decimal, with a minus where it is below zero.
+///
+/// # Errors
+/// `WriteFault` only where the sink counted one more fault; what was written is a prefix of the text then.
 pub fn write_whole<E: Sink>(sink: &mut E, n: i128) -> Result<(), WriteFault>
     ensures { Told (E.held sink.old) (E.held sink.new) (E.faults sink.old) (E.faults sink.new)
         (signed_decimal n) result }
@@ -58,6 +67,9 @@ fn write_over<E: Sink>(sink: &mut E, denominator: u128) -> Result<(), WriteFault
 }
 
 /// Writes a fraction: p or p/q.
+///
+/// # Errors
+/// `WriteFault` only where the sink counted one more fault; what was written is a prefix of the text then.
 pub fn write_fraction<E: Sink>(sink: &mut E, fraction: &Frac) -> Result<(), WriteFault>
     ensures { Told (E.held sink.old) (E.held sink.new) (E.faults sink.old) (E.faults sink.new)
         (fraction_text fraction.now) result }
@@ -128,6 +140,9 @@ fn write_powers<E: Sink>(
 }
 
 /// Writes a monomial: its powers joined by `*`, or 1 where it has none.
+///
+/// # Errors
+/// `WriteFault` only where the sink counted one more fault; what was written is a prefix of the text then.
 pub fn write_monomial<E: Sink>(sink: &mut E, ring: &Ring, monomial: &Mono) -> Result<(), WriteFault>
     requires { length monomial.now ≡ length ring.now }
     ensures { Told (E.held sink.old) (E.held sink.new) (E.faults sink.old) (E.faults sink.new)
@@ -202,6 +217,9 @@ fn write_later_terms<E: Sink>(sink: &mut E, ring: &Ring, terms: &[Term]) -> Resu
 }
 
 /// Writes a polynomial, its terms as they stand; the zero polynomial is `0`.
+///
+/// # Errors
+/// `WriteFault` only where the sink counted one more fault; what was written is a prefix of the text then.
 pub fn write_terms<E: Sink>(sink: &mut E, ring: &Ring, poly: &Poly) -> Result<(), WriteFault>
     requires { HasVariables (length ring.now) poly.now }
     ensures { Told (E.held sink.old) (E.held sink.new) (E.faults sink.old) (E.faults sink.new)

@@ -102,8 +102,8 @@ fn ring_more(ring: &Ring, text: &[u8]) -> usize
     0
 }
 
-/// The first token at a place of the source or behind it, and the place behind that token, where names are of any
-/// length.
+/// The place of the first byte of the first token at or behind `at`, and the place behind that token; none where only white space follows. A name is
+/// of any length: a letter and all letters, digits and `_` behind it.
 pub fn word_from(source: &[u8], at: usize) -> Option<(usize, usize)>
     requires { at ≤ length source.now }
     ensures token { MatchOption result (lexemes word_more source.now at ≡ []) (λ t. lexemes word_more source.now at ≡ lexeme source.now t.0 t.1 ∷ lexemes word_more source.now t.1) }
@@ -117,7 +117,8 @@ pub fn word_from(source: &[u8], at: usize) -> Option<(usize, usize)>
     Some((start, start + 1 + more))
 }
 
-/// The same, where names are those of a ring.
+/// The place of the first byte of the first token at or behind `at`, and the place behind that token; none where only white space follows. A name is
+/// the longest one of the ring that stands there; a letter at which none stands is a token by itself.
 pub(crate) fn ring_token_from(ring: &Ring, source: &[u8], at: usize) -> Option<(usize, usize)>
     requires { at ≤ length source.now }
     ensures token { MatchOption result (lexemes (ring_more ring.now) source.now at ≡ []) (λ t. lexemes (ring_more ring.now) source.now at ≡ lexeme source.now t.0 t.1 ∷ lexemes (ring_more ring.now) source.now t.1) }

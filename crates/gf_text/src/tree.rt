@@ -42,6 +42,9 @@ impl Factors {
     }
 
     /// Adds a power as the last one.
+    ///
+    /// # Errors
+    /// `AllocError` if memory runs out.
     pub fn push(&mut self, factor: Factor) -> Result<(), AllocError>
         ensures { OnOk result (self.new ≡ self.old ++ factor ∷ []) }
     {
@@ -93,6 +96,9 @@ impl WrittenTerms {
     }
 
     /// Adds a term as the last one.
+    ///
+    /// # Errors
+    /// `AllocError` if memory runs out.
     pub fn push(&mut self, term: WrittenTerm) -> Result<(), AllocError>
         ensures { OnOk result (self.new ≡ self.old ++ term ∷ []) }
     {

@@ -45,6 +45,9 @@ fn write_entries<E: Sink>(sink: &mut E, entries: &[i128]) -> Result<(), WriteFau
 }
 
 /// Writes a vector: its entries joined by commas, between parentheses.
+///
+/// # Errors
+/// `WriteFault` only where the sink counted one more fault; what was written is a prefix of the text then.
 pub fn write_vector<E: Sink>(sink: &mut E, vector: &IntVec) -> Result<(), WriteFault>
     ensures { Told (E.held sink.old) (E.held sink.new) (E.faults sink.old) (E.faults sink.new)
         (vector_text vector.now) result }

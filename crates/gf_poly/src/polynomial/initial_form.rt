@@ -52,6 +52,9 @@ fn heaviest(alloc: Global, terms: &[Term], weight: &[i128]) -> Result<Vec<Term>,
 impl Poly {
     /// The initial form by a weight: the sum of the terms of greatest weight. The weight has an entry for each variable,
     /// within `2^63` in absolute value, and may be negative.
+    ///
+    /// # Errors
+    /// `AllocError` if memory runs out.
     pub fn initial_form(&self, weight: &IntVec) -> Result<Poly, AllocError>
         requires bounded { All (λ w. unsigned_abs w ≤ 2 ^ 63) weight.now }
         requires same_variables { HasVariables (length weight.now) self.now }
