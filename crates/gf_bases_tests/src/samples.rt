@@ -17,7 +17,7 @@ fn rows(alloc: Global, text: &str) -> Option<Vec<(i128, [u32; 2])>> {
     Some(rows)
 }
 
-/// The same, with denominators of 1.
+/// The rows of a text such as `2,1,1 -1,1,0`, apart, of a coefficient, its denominator 1 and two exponents each.
 fn whole(alloc: Global, text: &str) -> Option<Vec<(i128, i128, [u32; 2])>> {
     let mut found = Vec::new(alloc);
     for (coef, exponents) in rows(alloc, text)?.as_slice() {

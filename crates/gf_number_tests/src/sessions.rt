@@ -18,6 +18,11 @@ fn cause(error: SessionError<NumberError>) -> &'static str {
 
 /// What a session from 0 of the numbers up to 3 writes, what it leaves unread, and what ends it, with a semicolon between two: by one byte a read and
 /// two a write, with a number that is chosen to refuse, and the numbers of the read and of the write that fail.
+///
+/// # Errors
+///
+/// `AllocError` if memory runs out for the devices or for the answer. Want of memory in the session is what ends it; where the rest of the input
+/// can't be read for want of memory, the answer leaves it out.
 pub fn session(alloc: Global, input: &[u8], numbers: &[u64]) -> Result<Vec<u8>, AllocError> {
     let [chosen, read, write] = numbers else {
         return Ok(Vec::new(alloc));

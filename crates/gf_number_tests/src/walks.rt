@@ -17,11 +17,19 @@ pub fn tree(alloc: Global, limit: u64, first: u64, second: u64) -> Numbers
 }
 
 /// Adds a number and a blank.
+///
+/// # Errors
+///
+/// `AllocError` if memory runs out.
 pub fn push_number(out: &mut Vec<u8>, alloc: Global, number: u64) -> Result<(), AllocError> {
     out.extend_from_slice(format!(in alloc; "{number} ")?.as_bytes())
 }
 
 /// The numbers from one on, up to a limit, in path order.
+///
+/// # Errors
+///
+/// `Memory` if memory runs out. No number of the tree is chosen to refuse.
 pub fn list(alloc: Global, limit: u64, from: u64) -> Result<Vec<u8>, NumberError> {
     let mut out = Vec::new(alloc);
     if 1 <= from && from <= limit {
@@ -34,6 +42,10 @@ pub fn list(alloc: Global, limit: u64, from: u64) -> Result<Vec<u8>, NumberError
 }
 
 /// The root above a number.
+///
+/// # Errors
+///
+/// `Memory` if memory runs out. No number of the tree is chosen to refuse.
 pub fn root(alloc: Global, limit: u64, from: u64) -> Result<Vec<u8>, NumberError> {
     let mut out = Vec::new(alloc);
     if 1 <= from && from <= limit {
@@ -75,6 +87,10 @@ fn push_place(
 }
 
 /// What an iterator gives up to its end; then where its walker stands, and what that gives next.
+///
+/// # Errors
+///
+/// `AllocError` if memory runs out for the answer. A refusal by the tree, also for want of memory, is a part of the answer.
 pub fn nodes(alloc: Global, limit: u64, chosen: u64) -> Result<Vec<u8>, AllocError> {
     let mut out = Vec::new(alloc);
     if limit < 1 {
@@ -141,6 +157,10 @@ fn push_split(
 }
 
 /// Where a walker stands, what it gives in so many steps, where it stands then, and what comes of its split.
+///
+/// # Errors
+///
+/// `AllocError` if memory runs out for the answer. A refusal by the tree, also for want of memory, is a part of the answer.
 pub fn split(alloc: Global, limit: u64, chosen: u64, steps: u64) -> Result<Vec<u8>, AllocError> {
     let mut out = Vec::new(alloc);
     if limit < 1 {

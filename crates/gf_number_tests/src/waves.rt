@@ -98,6 +98,11 @@ fn is_whole<R: Threads + Sync>(
 }
 
 /// The numbers of workers, among 1, 2, 4 and 64, whose list is that of one walker, in two parts.
+///
+/// # Errors
+///
+/// `Memory` if memory runs out. No number of the tree is chosen to refuse. Where the waves are refused for want of memory but can go on, their number
+/// of workers is left out instead.
 pub fn whole<R: Threads + Sync>(
     rt: &R,
     alloc: Global,
@@ -141,6 +146,11 @@ fn is_refused<R: Threads + Sync>(
 }
 
 /// The numbers of workers, among 1, 2, 4 and 64, whose list ends at the second of two numbers that are chosen to refuse.
+///
+/// # Errors
+///
+/// `Memory` if memory runs out for the list of one walker, for the first row of the waves, or for what is kept of their numbers and of the answer.
+/// Where a wave is refused for want of memory, its number of workers is left out instead.
 pub fn refused<R: Threads + Sync>(
     rt: &R,
     alloc: Global,
@@ -179,6 +189,11 @@ fn goes_on<R: Threads + Sync>(
 }
 
 /// Behind how many numbers of the list of one walker waves of four workers go on as that does.
+///
+/// # Errors
+///
+/// `Memory` if memory runs out. No number of the tree is chosen to refuse. Where the waves behind a number are refused for want of memory once they
+/// are begun, that number isn't counted instead.
 pub fn after<R: Threads + Sync>(rt: &R, alloc: Global, limit: u64) -> Result<Vec<u8>, NumberError> {
     let mut out = Vec::new(alloc);
     if limit < 1 {
@@ -237,6 +252,11 @@ fn is_numbered<R: Threads + Sync>(
 }
 
 /// The numbers of workers, among 1 and 4, by whom jobs are numbered in turn.
+///
+/// # Errors
+///
+/// `Memory` if memory runs out. No number of the tree is chosen to refuse. Where the waves are refused for want of memory once they are begun, their
+/// number of workers is left out instead.
 pub fn numbered<R: Threads + Sync>(
     rt: &R,
     alloc: Global,
@@ -285,6 +305,11 @@ impl Gate for Meeting {
 }
 
 /// How many numbers come where jobs 3 and 4 of two workers have to meet; none where one doesn't come, or has spent its turns.
+///
+/// # Errors
+///
+/// `Memory` if memory runs out. No number of the tree is chosen to refuse. Where the waves are refused for want of memory once they are begun, fewer
+/// numbers come instead.
 pub fn meet<R: Threads + Sync>(rt: &R, alloc: Global, limit: u64) -> Result<Vec<u8>, NumberError> {
     let mut out = Vec::new(alloc);
     if limit < 1 {

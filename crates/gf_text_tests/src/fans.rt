@@ -21,6 +21,10 @@ fn push_vectors(out: &mut Vec<u8>, vectors: &[IntVec]) -> Result<(), AllocError>
 }
 
 /// What a file says: the ambient dimension, the rays, the vectors of the lineality space, and the numbers of each cone.
+///
+/// # Errors
+///
+/// `AllocError` if memory runs out for the answer. Why the file isn't read, also for want of memory, is an answer.
 pub fn file(alloc: Global, text: &[u8]) -> Result<Vec<u8>, AllocError> {
     let file = match read_file(alloc, text) {
         Ok(file) => file,
@@ -40,6 +44,10 @@ pub fn file(alloc: Global, text: &[u8]) -> Result<Vec<u8>, AllocError> {
 }
 
 /// The text of the fan of a text.
+///
+/// # Errors
+///
+/// `AllocError` if memory runs out for the answer that tells why the fan isn't read or isn't written; want of memory for either is such a reason.
 pub fn fan(alloc: Global, text: &[u8]) -> Result<Vec<u8>, AllocError> {
     match read(alloc, text) {
         Ok(fan) => match write(alloc, &fan) {
@@ -51,6 +59,10 @@ pub fn fan(alloc: Global, text: &[u8]) -> Result<Vec<u8>, AllocError> {
 }
 
 /// The ambient dimension of the fan of a text, and whether it has the points (2,2) and (-1,-1), where it is the plane.
+///
+/// # Errors
+///
+/// `AllocError` if memory runs out for the points or for the answer. Why the fan isn't read, also for want of memory, is an answer.
 pub fn holds(alloc: Global, text: &[u8]) -> Result<Vec<u8>, AllocError> {
     let fan = match read(alloc, text) {
         Ok(fan) => fan,
@@ -107,6 +119,10 @@ fn parts_text(alloc: Global, text: &[u8]) -> Result<Vec<u8>, TextError> {
 }
 
 /// The text of the fan whose parts a text lists.
+///
+/// # Errors
+///
+/// `AllocError` if memory runs out for the answer that tells why the parts aren't read or aren't written; want of memory for either is such a reason.
 pub fn parts(alloc: Global, text: &[u8]) -> Result<Vec<u8>, AllocError> {
     match parts_text(alloc, text) {
         Ok(text) => Ok(text),

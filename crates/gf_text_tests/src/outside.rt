@@ -160,6 +160,11 @@ fn system<R: fs::Files>(rt: &R, alloc: Global, text: &[u8]) -> io::Result<Vec<u8
 
 /// What comes of a text by a kind of this module, or none where the kind is unknown: its name, and after it the number of the call that fails, before
 /// it, of a sink, how many bytes a call takes, and after it, of files, the name of the second.
+///
+/// # Errors
+///
+/// Want of memory for the answer or for a device that is in memory; of the kind `system` also why the system doesn't write or doesn't remove its
+/// file. Why a text isn't read or written by a device is an answer.
 pub fn answer<R: fs::Files>(
     rt: &R,
     alloc: Global,

@@ -348,6 +348,10 @@ fn numbers_of(alloc: Global, words: &str) -> Result<Vec<i128>, AllocError> {
 }
 
 /// The answer of a refusal that is written as its name, a word for some, and its numbers; of a run that is done its status alone.
+///
+/// # Errors
+///
+/// `AllocError` if memory runs out for the numbers, for the refusal, for a sink or for the answer.
 pub fn pieces(alloc: Global, text: &str) -> Result<Vec<u8>, AllocError> {
     let (name, rest) = text.split_once(' ').unwrap_or((text, ""));
     if name == "Done" {
@@ -363,6 +367,10 @@ pub fn pieces(alloc: Global, text: &str) -> Result<Vec<u8>, AllocError> {
 }
 
 /// The line of such a refusal, and after it the status.
+///
+/// # Errors
+///
+/// `AllocError` if memory runs out for the numbers, for the refusal, for a sink or for the answer.
 pub fn line(alloc: Global, text: &str) -> Result<Vec<u8>, AllocError> {
     let whole = pieces(alloc, text)?;
     let mut out = Vec::new(alloc);

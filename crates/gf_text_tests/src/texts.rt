@@ -11,6 +11,10 @@ fn shown(alloc: Global, error: TextError) -> Result<Vec<u8>, AllocError> {
 }
 
 /// The line of the ring that a text begins with, after a semicolon. A line that is printed in part, and not taken back, is no answer.
+///
+/// # Errors
+///
+/// `AllocError` if memory runs out for the answer. Why no ring is read, also for want of memory, is an answer.
 pub fn ring(alloc: Global, text: &[u8]) -> Result<Vec<u8>, AllocError> {
     let ring = match Reader::new(text).read_ring(alloc) {
         Ok(ring) => ring,
@@ -25,6 +29,10 @@ pub fn ring(alloc: Global, text: &[u8]) -> Result<Vec<u8>, AllocError> {
 }
 
 /// The names of the ring that a text begins with, a blank before each, and whether the text ends there.
+///
+/// # Errors
+///
+/// `AllocError` if memory runs out for the answer. Why no ring is read, also for want of memory, is an answer.
 pub fn names(alloc: Global, text: &[u8]) -> Result<Vec<u8>, AllocError> {
     let mut reader = Reader::new(text);
     let ring = match reader.read_ring(alloc) {
@@ -42,6 +50,10 @@ pub fn names(alloc: Global, text: &[u8]) -> Result<Vec<u8>, AllocError> {
 }
 
 /// The tokens of a text with their places, then why there is no further one, and whether the text ends there.
+///
+/// # Errors
+///
+/// `AllocError` if memory runs out for the answer.
 pub fn tokens(alloc: Global, text: &[u8]) -> Result<Vec<u8>, AllocError> {
     let mut reader = Reader::new(text);
     let mut out = Vec::new(alloc);
@@ -85,6 +97,11 @@ fn polynomials_of(alloc: Global, text: &[u8]) -> Result<Vec<u8>, TextError> {
 }
 
 /// The polynomials of a whole text of a ring and a set, each after a semicolon.
+///
+/// # Errors
+///
+/// `AllocError` if memory runs out for the answer that tells why the text isn't read or the polynomials aren't printed; want of memory for either is
+/// such a reason.
 pub fn set(alloc: Global, text: &[u8]) -> Result<Vec<u8>, AllocError> {
     match polynomials_of(alloc, text) {
         Ok(out) => Ok(out),
@@ -103,6 +120,11 @@ fn printed(alloc: Global, text: &[u8]) -> Result<Vec<u8>, TextError> {
 }
 
 /// The marked set of a text of a ring and a set, as it is printed.
+///
+/// # Errors
+///
+/// `AllocError` if memory runs out for the answer that tells why the text isn't read or the set isn't printed; want of memory for either is such a
+/// reason.
 pub fn basis(alloc: Global, text: &[u8]) -> Result<Vec<u8>, AllocError> {
     match printed(alloc, text) {
         Ok(out) => Ok(out),
@@ -112,6 +134,10 @@ pub fn basis(alloc: Global, text: &[u8]) -> Result<Vec<u8>, AllocError> {
 
 /// A ring, and after it lists of sets: how many sets each list has, and why there is no further list. All lists but the first are of marked sets, and
 /// so is that too where the ring has one variable.
+///
+/// # Errors
+///
+/// `AllocError` if memory runs out for the answer. Why the ring or a list isn't read, also for want of memory, is an answer or its end.
 pub fn sets(alloc: Global, text: &[u8]) -> Result<Vec<u8>, AllocError> {
     let mut reader = Reader::new(text);
     let ring = match reader.read_ring(alloc) {
@@ -144,6 +170,10 @@ pub fn sets(alloc: Global, text: &[u8]) -> Result<Vec<u8>, AllocError> {
 }
 
 /// The entries of the vector that a text begins with, and whether the text ends there.
+///
+/// # Errors
+///
+/// `AllocError` if memory runs out for the answer. Why no vector is read, also for want of memory, is an answer.
 pub fn vector(alloc: Global, text: &[u8]) -> Result<Vec<u8>, AllocError> {
     let mut reader = Reader::new(text);
     match reader.read_vector(alloc) {
@@ -162,6 +192,10 @@ pub fn vector(alloc: Global, text: &[u8]) -> Result<Vec<u8>, AllocError> {
 
 /// The lists of vectors that a text has, printed after a semicolon each, and why there is no further list. A vector that is printed in part, and not
 /// taken back, is no answer.
+///
+/// # Errors
+///
+/// `AllocError` if memory runs out for the answer. Why a list isn't read, also for want of memory, is the end of an answer.
 pub fn vectors(alloc: Global, text: &[u8]) -> Result<Vec<u8>, AllocError> {
     let mut reader = Reader::new(text);
     let mut out = Vec::new(alloc);
@@ -189,6 +223,10 @@ pub fn vectors(alloc: Global, text: &[u8]) -> Result<Vec<u8>, AllocError> {
 }
 
 /// The dimensions that a text begins with, why there is no further one, and the token that stands there.
+///
+/// # Errors
+///
+/// `AllocError` if memory runs out for the answer.
 pub fn dimensions(alloc: Global, text: &[u8]) -> Result<Vec<u8>, AllocError> {
     let mut reader = Reader::new(text);
     let mut out = Vec::new(alloc);
@@ -211,6 +249,11 @@ pub fn dimensions(alloc: Global, text: &[u8]) -> Result<Vec<u8>, AllocError> {
 }
 
 /// A ring, and after it two names that are new to it: the line of the ring with the first, and why the second isn't new.
+///
+/// # Errors
+///
+/// `AllocError` if memory runs out for the ring with the first name or for the answer. Why the ring or a name isn't read, also for want of memory, is
+/// an answer or its end.
 pub fn new_names(alloc: Global, text: &[u8]) -> Result<Vec<u8>, AllocError> {
     let mut reader = Reader::new(text);
     let ring = match reader.read_ring(alloc) {

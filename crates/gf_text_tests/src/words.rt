@@ -3,6 +3,10 @@ use gf_front::words;
 use std::alloc::{AllocError, Global};
 
 /// What words ask for, as Rust's derived `Debug` shows it. They are parted by blanks; an empty word stands between two blanks.
+///
+/// # Errors
+///
+/// `AllocError` if memory runs out for the list of the words or for the answer. Why the words ask for nothing, also for want of memory, is an answer.
 pub fn job(alloc: Global, line: &str) -> Result<Vec<u8>, AllocError> {
     let mut all = Vec::new(alloc);
     for word in line.split(' ') {
@@ -13,6 +17,10 @@ pub fn job(alloc: Global, line: &str) -> Result<Vec<u8>, AllocError> {
 }
 
 /// What no words ask for.
+///
+/// # Errors
+///
+/// `AllocError` if memory runs out for the answer.
 pub fn no_job(alloc: Global) -> Result<Vec<u8>, AllocError> {
     let none: Vec<String> = Vec::new(alloc);
     let job = words(alloc, &none);

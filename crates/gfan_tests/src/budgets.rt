@@ -40,6 +40,10 @@ fn is_spent(refusal: &Refusal, budget: u64) -> bool {
 impl<'r, R: Threads + Sync> Runner<'r, R> {
     /// Whether the run of a row ends as the row says, with a report that begins so; and the answer to its input, by the options of its words but this budget,
     /// is that the budget is spent, with all pairs left but as many as the budget, and one at least.
+    ///
+    /// # Errors
+    ///
+    /// `AllocError` if memory runs out for what the run is called with or for what is kept of its end. Want of memory in the run is one of its ends.
     pub fn is_budget_spent(&self, row: &Row, budget: &str) -> Result<bool, AllocError> {
         let (Ok(pairs), Some(options)) = (
             budget.parse::<u64>(),

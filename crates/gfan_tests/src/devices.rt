@@ -149,6 +149,11 @@ impl<'r, R: Threads + Sync> Runner<'r, R> {
     }
 
     /// Whether all runs of a row with these devices, which are parted by spaces, end as they have to.
+    ///
+    /// # Errors
+    ///
+    /// `AllocError` if memory runs out for what a run is called with, for what is kept of its end, or for what is expected of it. Want of memory in a
+    /// run is one of its ends.
     pub fn is_right_with(&self, row: &Row, devices: &str) -> Result<bool, AllocError> {
         let mut is_right = self.tells(row, BYTES, &row.told)?;
         for device in devices.split(' ') {

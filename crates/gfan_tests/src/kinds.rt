@@ -50,12 +50,21 @@ impl Row {
 
 impl<'r, R: Threads + Sync> Runner<'r, R> {
     /// Whether the run of a row without its words ends as the row says.
+    ///
+    /// # Errors
+    ///
+    /// `AllocError` if memory runs out for what the run is called with or for what is kept of its end. Want of memory in the run is one of its ends.
     pub fn is_wordless(&self, mut row: Row) -> Result<bool, AllocError> {
         row.call.words.clear();
         self.tells(&row, PIECES, &row.told)
     }
 
     /// Whether the run of a row over its input so many times ends as the row says.
+    ///
+    /// # Errors
+    ///
+    /// `AllocError` if memory runs out for the repeated input, for what else the run is called with, or for what is kept of its end. Want of memory
+    /// in the run is one of its ends.
     pub fn is_right_at_length(&self, row: &Row, times: &str) -> Result<bool, AllocError> {
         let Ok(times) = times.parse::<usize>() else {
             return Ok(false);
@@ -66,6 +75,11 @@ impl<'r, R: Threads + Sync> Runner<'r, R> {
     }
 
     /// Whether the run of a row ends as the row says, with a report that is one of the lines of the row.
+    ///
+    /// # Errors
+    ///
+    /// `AllocError` if memory runs out for what the run is called with, for what is kept of its end, or for one of the lines. Want of memory in the
+    /// run is one of its ends.
     pub fn tells_one_of(&self, row: &Row) -> Result<bool, AllocError> {
         let end = self.ending(&row.call, PIECES, &FreeGate)?;
         Ok(
@@ -76,11 +90,20 @@ impl<'r, R: Threads + Sync> Runner<'r, R> {
     }
 
     /// Whether the run of a row ends as the row says, with a report that only begins so.
+    ///
+    /// # Errors
+    ///
+    /// `AllocError` if memory runs out for what the run is called with or for what is kept of its end. Want of memory in the run is one of its ends.
     pub fn begins_right(&self, row: &Row) -> Result<bool, AllocError> {
         Ok(row.begins(&self.ending(&row.call, PIECES, &FreeGate)?))
     }
 
     /// Whether the session of a row, in which the calls fail that these words name, ends as the row says, and leaves this of its input.
+    ///
+    /// # Errors
+    ///
+    /// `AllocError` if memory runs out for what the session is called with or for what is kept of its end. Want of memory in the session is one of
+    /// its ends.
     pub fn is_session_right(
         &self,
         row: &Row,

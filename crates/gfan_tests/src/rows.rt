@@ -20,7 +20,11 @@ pub struct Row {
 }
 
 impl Call {
-    /// The same call, in memory of its own.
+    /// A copy of a call, in memory of its own.
+    ///
+    /// # Errors
+    ///
+    /// `AllocError` if memory runs out.
     pub fn copied(&self, alloc: Global) -> Result<Call, AllocError> {
         let mut call = Call {
             words: Vec::new(alloc),
@@ -40,6 +44,10 @@ impl Call {
     }
 
     /// The call with another input.
+    ///
+    /// # Errors
+    ///
+    /// `AllocError` if memory runs out.
     pub fn with_input(&self, alloc: Global, input: &[u8]) -> Result<Call, AllocError> {
         let mut call = self.copied(alloc)?;
         call.input = input.to_vec(alloc)?;
@@ -47,6 +55,10 @@ impl Call {
     }
 
     /// The call with other bytes in its last file.
+    ///
+    /// # Errors
+    ///
+    /// `AllocError` if memory runs out.
     pub fn with_last_file(&self, alloc: Global, bytes: &[u8]) -> Result<Call, AllocError> {
         let mut call = self.copied(alloc)?;
         if let Some(last) = call.files.pop() {
@@ -59,6 +71,10 @@ impl Call {
     }
 
     /// The call with more words behind its own.
+    ///
+    /// # Errors
+    ///
+    /// `AllocError` if memory runs out.
     pub fn with_words(&self, alloc: Global, words: &[&str]) -> Result<Call, AllocError> {
         let mut call = self.copied(alloc)?;
         for word in words {
@@ -77,6 +93,10 @@ pub fn kind_of(line: &str) -> (&str, &str) {
 }
 
 /// The bytes of a field, in which a backslash stands before the letter of a line end, a tab or a carriage return, or before a byte as it is.
+///
+/// # Errors
+///
+/// `AllocError` if memory runs out.
 pub fn bytes_of(alloc: Global, field: &str) -> Result<Vec<u8>, AllocError> {
     let mut bytes = Vec::new(alloc);
     let mut is_escaped = false;
@@ -99,6 +119,10 @@ pub fn bytes_of(alloc: Global, field: &str) -> Result<Vec<u8>, AllocError> {
 }
 
 /// The row of a line without its kind, and its sixth field; none if a field is missing.
+///
+/// # Errors
+///
+/// `AllocError` if memory runs out.
 pub fn row_of<'l>(alloc: Global, line: &'l str) -> Result<Option<(Row, &'l str)>, AllocError> {
     let mut fields = line.split('|');
     let (Some(words), Some(input), Some(code), Some(written), Some(told)) = (

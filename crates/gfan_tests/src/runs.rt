@@ -116,6 +116,10 @@ pub struct Runner<'r, R: Threads + Sync> {
 
 impl<'r, R: Threads + Sync> Runner<'r, R> {
     /// How the run of a call ends over these devices, with this gate before each job of a list.
+    ///
+    /// # Errors
+    ///
+    /// `AllocError` if memory runs out for what the run is called with or for what is kept of its end. Want of memory in the run is one of its ends.
     pub fn ending<G: Gate>(
         &self,
         call: &Call,
@@ -152,6 +156,10 @@ impl<'r, R: Threads + Sync> Runner<'r, R> {
     }
 
     /// Whether the run of a call over these devices ends with this status, writes this and reports this.
+    ///
+    /// # Errors
+    ///
+    /// `AllocError` if memory runs out for what the run is called with or for what is kept of its end. Want of memory in the run is one of its ends.
     pub fn ends(
         &self,
         call: &Call,
@@ -165,6 +173,10 @@ impl<'r, R: Threads + Sync> Runner<'r, R> {
     }
 
     /// Whether the run of a row over these devices ends as the row says, but reports this.
+    ///
+    /// # Errors
+    ///
+    /// `AllocError` if memory runs out for what the run is called with or for what is kept of its end. Want of memory in the run is one of its ends.
     pub fn tells(&self, row: &Row, devices: Devices, told: &[u8]) -> Result<bool, AllocError> {
         self.ends(&row.call, devices, row.code, &row.written, told)
     }

@@ -52,6 +52,10 @@ impl Gate for Meeting {
 
 impl<'r, R: Threads + Sync> Runner<'r, R> {
     /// Whether the run of a row ends as the row says, with a report that begins so; and each number of workers ends it in the same way.
+    ///
+    /// # Errors
+    ///
+    /// `AllocError` if memory runs out for what a run is called with or for what is kept of its end. Want of memory in a run is one of its ends.
     pub fn do_workers_agree(&self, row: &Row) -> Result<bool, AllocError> {
         let alone = self.ending(&row.call, PIECES, &FreeGate)?;
         if !row.begins(&alone) {
@@ -68,6 +72,10 @@ impl<'r, R: Threads + Sync> Runner<'r, R> {
 
     /// Whether the run of a row ends with its status, and its text and its report begin as the row says; and two workers whose jobs meet end it in the
     /// same way.
+    ///
+    /// # Errors
+    ///
+    /// `AllocError` if memory runs out for what a run is called with or for what is kept of its end. Want of memory in a run is one of its ends.
     pub fn do_workers_meet(&self, row: &Row) -> Result<bool, AllocError> {
         let gate = Meeting {
             first: AtomicU64::new(0),
