@@ -20,7 +20,8 @@ use Rattle.gf_ideal_theory.proofs.PieceLaws.{Contains-polys, Contains-marked, sp
 use Rattle.gf_ideal_theory.proofs.StepLaws.{IsPieceIn, closed-ring}
 use Rattle.gf_facets_theory.specs.Regions.{Region}
 use Rattle.gf_facets_theory.specs.MarkedBases.{IsMarkedReducedBasis, IsBasisInRegion}
-use Rattle.gf_bases_theory.specs.Laws.{DicksonsLemma, MarkedBasesAreReduced, OnlyIdealsCount, BasesAreToldByMarks, HomogeneousBases, ReducedBasesExist, WeightsHaveBases, VectorsHaveBases, BasesAreFinite}
+use Rattle.gf_bases_theory.specs.Laws.{DicksonsLemma, MarkedBasesAreReduced, OnlyIdealsCount, BasesAreToldByMarks, HomogeneousBases, ReducedBasesExist}
+use Rattle.gf_bases_theory.specs.Laws.{WeightsHaveBases, VectorsHaveBases, BasesAreFinite}
 use Rattle.gf_bases_theory.proofs.DicksonLaws.{IsNew, dickson}
 use Rattle.gf_bases_theory.proofs.ExistenceLaws.{reduced_exists, weighted_exists, marked_unique}
 use Rattle.gf_bases_theory.proofs.ContainmentLaws.{contained_equal}

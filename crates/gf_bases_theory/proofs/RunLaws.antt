@@ -21,7 +21,8 @@ use Rattle.gf_ideal_theory.proofs.Identities.{neg_one, taken_over}
 use Rattle.gf_ideal_theory.proofs.ListLaws.{Each-weaker, contained_each}
 use Rattle.gf_ideal_theory.proofs.MembershipLaws.{member-generator, variables_of_member, spans_of_member}
 use Rattle.gf_ideal_theory.proofs.PieceLaws.{combined_of_spans}
-use Rattle.gf_ideal_theory.proofs.StepLaws.{IsClosed, closed-below, closed-both, multiple_within, sum_within, IsPieceIn, IsWithin, member-s_polynomial, monic-monomials}
+use Rattle.gf_ideal_theory.proofs.StepLaws.{IsClosed, closed-below, closed-both, multiple_within, sum_within, IsPieceIn, IsWithin, member-s_polynomial}
+use Rattle.gf_ideal_theory.proofs.StepLaws.{monic-monomials}
 use Rattle.gf_ideal_theory.proofs.GeneratorLaws.{member-monic}
 use Rattle.gf_ideal_theory.proofs.OrderWeights.{IsGrading, HasWeightsFor}
 use Rattle.gf_ideal_theory.proofs.MarkWeights.{IsGradedBy, mark-there, marked_positive}

@@ -4,7 +4,8 @@
 //! computes anything: each one's contract is a theorem, so that the check proves it.
 #![tactic(auto)]
 
-ghost use Rattle.gf_bases_theory.specs.Laws.{DicksonsLemma, MarkedBasesAreReduced, OnlyIdealsCount, BasesAreToldByMarks, HomogeneousBases, ReducedBasesExist, WeightsHaveBases, VectorsHaveBases, BasesAreFinite};
+ghost use Rattle.gf_bases_theory.specs.Laws.{DicksonsLemma, MarkedBasesAreReduced, OnlyIdealsCount, BasesAreToldByMarks, HomogeneousBases, ReducedBasesExist};
+ghost use Rattle.gf_bases_theory.specs.Laws.{WeightsHaveBases, VectorsHaveBases, BasesAreFinite};
 
 /// In each sequence of monomials one divides a later one (Dickson 1913).
 pub fn dicksons_lemma()

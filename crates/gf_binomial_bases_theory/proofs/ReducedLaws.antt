@@ -17,7 +17,8 @@ use Rattle.gf_ideal_theory.proofs.LeadingLaws.{top_heaviest}
 use Rattle.gf_bases_theory.proofs.DifferenceLaws.{difference, less_zero}
 use Rattle.gf_bases_theory.proofs.GradedBasisLaws.{basis-graded}
 use Rattle.gf_binomials_theory.specs.Binomials.{indicator, AreBinomials, IsMarkedBinomial, AreMarkedBinomials}
-use Rattle.gf_binomial_bases_theory.proofs.CongruenceLaws.{monomial_terms, monomial_terms-is, binomial, binomial-is, IsDecided, AreCongruent, congruence-grading, congruent_symmetric, member_of_congruent, generators_congruent, at_other}
+use Rattle.gf_binomial_bases_theory.proofs.CongruenceLaws.{monomial_terms, monomial_terms-is, binomial, binomial-is, IsDecided, AreCongruent}
+use Rattle.gf_binomial_bases_theory.proofs.CongruenceLaws.{congruence-grading, congruent_symmetric, member_of_congruent, generators_congruent, at_other}
 use Rattle.gf_ideal_theory.proofs.UniquenessLaws.{equal_if}
 
 at_itself : (x y : Exponents) → same y x ≡ true → indicator (Some x) y ≡ one_ℚ

@@ -20,7 +20,8 @@ use Rattle.gf_reduced.specs.Refusals.{IsPairCause, IsRequireCause, IsTestCause, 
 use Rattle.gf_reduced.proofs.FormLaws.{is_form, form_of}
 use Rattle.gf_binomials_theory.specs.Binomials.{IsBinomial, AreBinomials, IsMarkedBinomial, AreMarkedBinomials}
 use Rattle.gf_binomials_theory.proofs.WholeLaws.{IsSmallWhole, IsPlusMinusOne, fits-div}
-use Rattle.gf_binomials_theory.proofs.BinomialLaws.{binomial-s_polynomial, binomial-monic, binomial-marked, coefficient-small, coefficient-plus_minus, reduction_fits, s_polynomial_fits, monic_fits}
+use Rattle.gf_binomials_theory.proofs.BinomialLaws.{binomial-s_polynomial, binomial-monic, binomial-marked, coefficient-small, coefficient-plus_minus}
+use Rattle.gf_binomials_theory.proofs.BinomialLaws.{reduction_fits, s_polynomial_fits, monic_fits}
 use Rattle.gf_binomials_theory.proofs.RunLaws.{tail_fits}
 use Rattle.gf_binomial_calls_theory.specs.Sets.{IsBinomialSet}
 use Rattle.gf_binomial_calls_theory.proofs.FlipLaws.{forms_binomials}

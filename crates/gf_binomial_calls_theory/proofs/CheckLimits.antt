@@ -21,7 +21,8 @@ use Rattle.gf_division.specs.Autoreduction.{AreNeededForms, IsAutoreductionRefus
 use Rattle.gf_reduced.specs.Forms.{monic_of, monic_set, IsFormRefusal}
 use Rattle.gf_reduced.specs.Refusals.{IsPairCause, IsPairsRefusal, AreChecksWithinLimits}
 use Rattle.gf_reduced.proofs.FormLaws.{is_form}
-use Rattle.gf_binomials_theory.proofs.PrincipalRuns.{IsAmong, AreAmong, there_along, unraised, closed-among, reached_within, shift_short, step_short, tail_within, form-among}
+use Rattle.gf_binomials_theory.proofs.PrincipalRuns.{IsAmong, AreAmong, there_along, unraised, closed-among, reached_within, shift_short, step_short}
+use Rattle.gf_binomials_theory.proofs.PrincipalRuns.{tail_within, form-among}
 use Rattle.gf_binomial_calls_theory.specs.Sets.{IsBinomialSet}
 use Rattle.gf_binomial_calls_theory.specs.Limits.{IsPlainGenerator, HasExponentsUpTo}
 use Rattle.gf_binomial_calls_theory.proofs.CheckLaws.{head_there, member_fits, forms_binomial, pairs_fit, monic_forms_fit}

@@ -17,7 +17,8 @@ use Rattle.gf_ideal_theory.specs.Operands.{IsStepOperation, IsReductionOperation
 use Rattle.gf_ideal_theory.proofs.Identities.{neg_one}
 use Rattle.gf_binomials_theory.specs.Binomials.{indicator, IsBinomialOf, IsBinomial, IsMarkedBinomial, AreMarkedBinomials}
 use Rattle.gf_binomials_theory.proofs.WholeLaws.{IsSmallWhole, IsPlusMinusOne, small-neg, small-*, small-+, fits-sub, fits-mul, fits-div}
-use Rattle.gf_binomials_theory.proofs.MonomialLaws.{at_like, IsTheMonomial, indicator-small, binomial_of-small, binomial_of-equal, first_alone, second_alone, IsFirst, one_of_two, shifted, multiple_of_binomial, first_replaced, second_replaced, turned_round}
+use Rattle.gf_binomials_theory.proofs.MonomialLaws.{at_like, IsTheMonomial, indicator-small, binomial_of-small, binomial_of-equal, first_alone, second_alone}
+use Rattle.gf_binomials_theory.proofs.MonomialLaws.{IsFirst, one_of_two, shifted, multiple_of_binomial, first_replaced, second_replaced, turned_round}
 
 -- ---- one step
 

@@ -11,7 +11,8 @@ use Rattle.gf_poly.specs.Marking.{MarkedPolynomial}
 use Rattle.gf_ideal_theory.specs.Operands.{IsStepOperation}
 use Rattle.gf_ideal_theory.specs.WorkLists.{IsOrigin, IsWorkList, IsTail, IsRunOperation}
 use Rattle.gf_binomials_theory.specs.Binomials.{IsBinomial, AreBinomials, IsMarkedBinomial, AreMarkedBinomials}
-use Rattle.gf_binomials_theory.proofs.BinomialLaws.{binomial_step, binomial-reached, binomial-s_polynomial, binomial-monic, binomial-marked, step_fits, reduction_fits, s_polynomial_fits, monic_fits}
+use Rattle.gf_binomials_theory.proofs.BinomialLaws.{binomial_step, binomial-reached, binomial-s_polynomial, binomial-monic, binomial-marked, step_fits}
+use Rattle.gf_binomials_theory.proofs.BinomialLaws.{reduction_fits, s_polynomial_fits, monic_fits}
 
 pub origin-binomial : (fs : List Terms) (bs : List MarkedPolynomial) (f : Terms) → AreBinomials fs → AreMarkedBinomials (Contains bs) →
     IsOrigin fs bs f → IsBinomial f

@@ -8,7 +8,8 @@ use Rattle.std.proofs.lemmas.Bool.Decides.{nat_tests}
 use Rattle.std.proofs.lemmas.List.{get_or_default}
 use Rattle.std.proofs.lemmas.List.Elements.{Contains-push, Contains-push_cases, Contains-append_left}
 use Rattle.gf_exponents_theory.specs.Exponents.{Exponents, same, plus, degree, Divides, NoMultiple}
-use Rattle.gf_exponents_theory.proofs.ExponentsLaws.{plus_comm, same-refl, same_of, same_flip, same_trans, same_by_entries, entries_same, entry-plus, multiple_or_not}
+use Rattle.gf_exponents_theory.proofs.ExponentsLaws.{plus_comm, same-refl, same_of, same_flip, same_trans, same_by_entries, entries_same, entry-plus}
+use Rattle.gf_exponents_theory.proofs.ExponentsLaws.{multiple_or_not}
 use Rattle.gf_exponents_theory.proofs.WeightLaws.{degree-plus, degree-same}
 use Rattle.gf_int_theory.proofs.ListLaws.{Contains-here}
 use Rattle.gf_poly.specs.declared.error.PolyError.{PolyError}

@@ -2,7 +2,8 @@
 use Rattle.std.proofs.Common.{arith}
 use Rattle.gf_exponents_theory.specs.Exponents.{plus, join, minus}
 use Rattle.gf_exponents_theory.specs.Laws.{ProductsOfMonomials, LeastCommonMultiples, MonomialOrders, TermOrders, RowsAreWholeWeights, ComparisonsAreOrders}
-use Rattle.gf_exponents_theory.proofs.ExponentsLaws.{plus_assoc, plus_comm, same-plus, same_flip, minus_left, minus_right, same_by_entries, entries_same, entry-plus, entry-join, entry-minus}
+use Rattle.gf_exponents_theory.proofs.ExponentsLaws.{plus_assoc, plus_comm, same-plus, same_flip, minus_left, minus_right, same_by_entries, entries_same}
+use Rattle.gf_exponents_theory.proofs.ExponentsLaws.{entry-plus, entry-join, entry-minus}
 use Rattle.gf_exponents_theory.proofs.OrderLaws.{lex-compares, deglex-compares}
 use Rattle.gf_exponents_theory.proofs.WholeWeightLaws.{row-less, row-alike, negated-less, negated-alike, natural-weight}
 use Rattle.gf_exponents_theory.proofs.SixOrdersLaws.{order-is, term-order, term-weights}

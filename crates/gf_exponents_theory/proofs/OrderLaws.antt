@@ -8,7 +8,8 @@ use Rattle.std.proofs.Common.{◌≡◌, ◌⊎◌, ℕ, zero, suc, ◌+◌, ◌
 use Rattle.std.proofs.lemmas.Bool.{cases_lt}
 use Rattle.std.proofs.lemmas.Cmp.{ranked}
 use Rattle.gf_exponents_theory.specs.Exponents.{Exponents, entry, same, plus, degree, weight}
-use Rattle.gf_exponents_theory.specs.Orders.{deglex, lighter, IsStrict, IsMonomialOrder, IsLexBelow, IsRevlexBelow, IsDeglexBelow, IsWeightedBelow, IsWeightedRevlexBelow}
+use Rattle.gf_exponents_theory.specs.Orders.{deglex, lighter, IsStrict, IsMonomialOrder, IsLexBelow, IsRevlexBelow, IsDeglexBelow, IsWeightedBelow}
+use Rattle.gf_exponents_theory.specs.Orders.{IsWeightedRevlexBelow}
 use Rattle.gf_exponents_theory.proofs.ExponentsLaws.{entry-plus, entry-past, entries_same, same_by_entries}
 use Rattle.gf_exponents_theory.proofs.WeightLaws.{weight-plus, weight-same, degree-plus, degree-same}
 

@@ -7,7 +7,8 @@ use Rattle.std.proofs.lemmas.Int.{ints}
 use Rattle.std.proofs.lemmas.List.Elements.{recursion_from_All}
 use Rattle.std.specs.List.{AllByRecursion}
 use Rattle.gf_exponents_theory.specs.Exponents.{Exponents, entry, same, plus, weight, whole_weight}
-use Rattle.gf_exponents_theory.specs.Orders.{IsStrict, IsMonomialOrder, WeightRow, is_less, is_alike, row_of, negated_row_of, gains, losses, IsLexBelow, IsFacetBelow}
+use Rattle.gf_exponents_theory.specs.Orders.{IsStrict, IsMonomialOrder, WeightRow, is_less, is_alike, row_of, negated_row_of, gains, losses, IsLexBelow}
+use Rattle.gf_exponents_theory.specs.Orders.{IsFacetBelow}
 use Rattle.gf_exponents_theory.proofs.WeightLaws.{weight-plus, weight-same}
 use Rattle.gf_exponents_theory.proofs.OrderLaws.{lex-strict, lex-total}
 

@@ -2,7 +2,8 @@
 use Rattle.std.specs.Prelude.{◌≡◌, ◌↔◌, ℕ, List, length, All, ℤ, pos, ◌<ℤ◌, ◌≤ℤ◌}
 use Rattle.std.specs.Ordering.{MatchOrdering}
 use Rattle.gf_exponents_theory.specs.Exponents.{Exponents, same, plus, join, Divides, weight, whole_weight}
-use Rattle.gf_exponents_theory.specs.Orders.{IsMonomialOrder, IsTermOrder, IsLexBelow, IsDeglexBelow, is_less, is_alike, row_of, negated_row_of, gains, lex, deglex}
+use Rattle.gf_exponents_theory.specs.Orders.{IsMonomialOrder, IsTermOrder, IsLexBelow, IsDeglexBelow, is_less, is_alike, row_of, negated_row_of, gains, lex}
+use Rattle.gf_exponents_theory.specs.Orders.{deglex}
 use Rattle.gf_exponents_theory.specs.SixOrders.{MonomialOrder, below_of, HasTermWeights}
 
 -- products of monomials: associative, commutative, and a common factor cancels

@@ -5,7 +5,8 @@
 //! nothing: each one's contract is a law, so that the check proves it.
 #![tactic(auto)]
 
-ghost use Rattle.gf_exponents_theory.specs.Laws.{ProductsOfMonomials, LeastCommonMultiples, MonomialOrders, TermOrders, RowsAreWholeWeights, ComparisonsAreOrders};
+ghost use Rattle.gf_exponents_theory.specs.Laws.{ProductsOfMonomials, LeastCommonMultiples, MonomialOrders, TermOrders, RowsAreWholeWeights};
+ghost use Rattle.gf_exponents_theory.specs.Laws.{ComparisonsAreOrders};
 
 /// Monomials are a commutative monoid in which a common factor cancels.
 pub fn products_of_monomials()

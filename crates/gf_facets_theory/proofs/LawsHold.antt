@@ -1,5 +1,6 @@
 -- The theorems of specs/Laws.antt.
-use Rattle.gf_facets_theory.specs.Laws.{LexPositiveVectors, VectorsAreOrdered, LinearMapsGivePoints, NormalsDefineCones, FacetsDefineCones, WeightsAreSolutions, FacetsAreTold, FlippableNormalsAreTold}
+use Rattle.gf_facets_theory.specs.Laws.{LexPositiveVectors, VectorsAreOrdered, LinearMapsGivePoints, NormalsDefineCones, FacetsDefineCones}
+use Rattle.gf_facets_theory.specs.Laws.{WeightsAreSolutions, FacetsAreTold, FlippableNormalsAreTold}
 use Rattle.gf_facets_theory.proofs.LexPositiveLaws.{lex-zeros, lex-cases, lex-not_both, lex-plus, lex-times, lex-untimes}
 use Rattle.gf_facets_theory.proofs.VectorOrder.{before_strict, vectors_compare}
 use Rattle.gf_facets_theory.proofs.RootSignLaws.{negative_sign, sign_negative}

@@ -4,7 +4,8 @@
 //! The functions compute nothing: each one's contract is a theorem, so that the check proves it.
 #![tactic(auto)]
 
-ghost use Rattle.gf_facets_theory.specs.Laws.{LexPositiveVectors, VectorsAreOrdered, LinearMapsGivePoints, NormalsDefineCones, FacetsDefineCones, WeightsAreSolutions, FacetsAreTold, FlippableNormalsAreTold};
+ghost use Rattle.gf_facets_theory.specs.Laws.{LexPositiveVectors, VectorsAreOrdered, LinearMapsGivePoints, NormalsDefineCones, FacetsDefineCones};
+ghost use Rattle.gf_facets_theory.specs.Laws.{WeightsAreSolutions, FacetsAreTold, FlippableNormalsAreTold};
 
 /// A vector is zero, or its first nonzero entry is positive, or that of its negative is; vectors of the second kind are
 /// closed under sums and positive multiples.

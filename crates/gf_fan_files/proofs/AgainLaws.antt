@@ -13,13 +13,19 @@ use Rattle.gf_fan_files.specs.declared.parts.ListedCone.{ListedCone}
 use Rattle.gf_fan_files.specs.Lines.{Section, sections, before_comment, is_section_name, content_tokens, end_before}
 use Rattle.gf_fan_files.specs.NumberText.{IsOneNumberText}
 use Rattle.gf_fan_files.specs.ConeText.{most_number}
-use Rattle.gf_fan_files.specs.FanText.{number_to, rows, cones, any, Content, the_number, the_rows, the_cones, passed, Table, Named, kind_in, is_second, version_number, version_in, told_version, IsKnownVersion, fan_table, AreHeld, found, file_version, ambient_dim, rays_name, lineality_space, maximal_cones, maximal_interiors, IsContentText}
-use Rattle.gf_fan_files.specs.FanWords.{FanWords, section, greatest_dim, count_of, f_vector, is_simplicial, is_pure, spaced_entries, comment, ray_lines, number_lines, cone_text, told_cone, cone_line, cone_lines, truth_line, dim_line, front_sections, back_sections, fan_text}
+use Rattle.gf_fan_files.specs.FanText.{number_to, rows, cones, any, Content, the_number, the_rows, the_cones, passed, Table, Named, kind_in, is_second}
+use Rattle.gf_fan_files.specs.FanText.{version_number, version_in, told_version, IsKnownVersion, fan_table, AreHeld, found, file_version, ambient_dim}
+use Rattle.gf_fan_files.specs.FanText.{rays_name, lineality_space, maximal_cones, maximal_interiors, IsContentText}
+use Rattle.gf_fan_files.specs.FanWords.{FanWords, section, greatest_dim, count_of, f_vector, is_simplicial, is_pure, spaced_entries, comment, ray_lines}
+use Rattle.gf_fan_files.specs.FanWords.{number_lines, cone_text, told_cone, cone_line, cone_lines, truth_line, dim_line, front_sections, back_sections}
+use Rattle.gf_fan_files.specs.FanWords.{fan_text}
 use Rattle.gf_fan_files.specs.FansAgain.{AreWritable, IsWritableCone, IsWritable, file_of, FansAreReadAgain}
 use Rattle.gf_fan_files.specs.Files.{AreInteriorsOf, IsFileOf}
 use Rattle.gf_fan_files.proofs.WrittenLaws.{no_byte, IsContentLine, AreContentLines, ArePlain, contents, IsSaid, AreSaid, written_again}
-use Rattle.gf_fan_files.proofs.PrintedRowsLaws.{no_tail, comment_tail, IsSmall, AreSmall, IsRowLine, AreRowLines, row_as_line, rows_hold, rows_content, rows_plain, first_digit}
-use Rattle.gf_fan_files.proofs.PrintedConesLaws.{IsNumber, AreNumbers, number_is, number_no, number_holds, IsConeLine, AreConeLines, cone_as_line, cones_hold, cones_content, cones_plain, numbers_content, numbers_no}
+use Rattle.gf_fan_files.proofs.PrintedRowsLaws.{no_tail, comment_tail, IsSmall, AreSmall, IsRowLine, AreRowLines, row_as_line, rows_hold, rows_content}
+use Rattle.gf_fan_files.proofs.PrintedRowsLaws.{rows_plain, first_digit}
+use Rattle.gf_fan_files.proofs.PrintedConesLaws.{IsNumber, AreNumbers, number_is, number_no, number_holds, IsConeLine, AreConeLines, cone_as_line, cones_hold}
+use Rattle.gf_fan_files.proofs.PrintedConesLaws.{cones_content, cones_plain, numbers_content, numbers_no}
 
 -- ---- limits, one after another
 

@@ -10,7 +10,8 @@ use Rattle.gf_text.proofs.SetTokensLaws.{number_no_mark, is_mark, le_from, le_te
 use Rattle.gf_text.specs.Marks.{brace, brace_end}
 use Rattle.gf_text.specs.SetText.{IsNumberText}
 use Rattle.gf_fan_files.specs.Lines.{line_end, section_end}
-use Rattle.gf_fan_files.specs.ConeText.{most_number, AreNumberTexts, IsConeNumbersText, AreConeTexts, ConePlace, before, inside, closed, ConeState, ConeMove, cone_step, cone_start}
+use Rattle.gf_fan_files.specs.ConeText.{most_number, AreNumberTexts, IsConeNumbersText, AreConeTexts, ConePlace, before, inside, closed, ConeState, ConeMove}
+use Rattle.gf_fan_files.specs.ConeText.{cone_step, cone_start}
 
 abbrev Texts : Type 0
 Texts = List (List ℕ)

@@ -4,7 +4,8 @@ use Rattle.std.proofs.Common.{◌≡◌, ℕ, zero, suc, ◌+◌, Bool, true, fa
 use Rattle.gf_text.specs.Machine.{Lexeme, behind, texts, Move, go, done, halt, moved, run, followed, after}
 use Rattle.gf_text.specs.Tokens.{is_space, lex_tokens, word_more}
 use Rattle.gf_text.specs.Marks.{minus_mark}
-use Rattle.gf_fan_files.specs.Lines.{lines, before_comment, blank, all_parted, line_tokens, is_section_name, Section, Sections, with_name, with_line, with_tokens, sections_of, sections, line_end, section_end, place_from, content_tokens}
+use Rattle.gf_fan_files.specs.Lines.{lines, before_comment, blank, all_parted, line_tokens, is_section_name, Section, Sections, with_name, with_line}
+use Rattle.gf_fan_files.specs.Lines.{with_tokens, sections_of, sections, line_end, section_end, place_from, content_tokens}
 
 -- the token has bytes
 abbrev pub IsSome : Lexeme → Type 0

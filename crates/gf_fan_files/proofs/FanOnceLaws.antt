@@ -20,7 +20,8 @@ use Rattle.gf_fan_files.specs.declared.error.FanFileError.TheVariants as errors
 use Rattle.gf_fan_files.specs.declared.file.FanFile.{FanFile}
 use Rattle.gf_fan_files.specs.Files.{IsOfLimits}
 use Rattle.gf_fan_files.specs.Certificates.{IsInsideAt, AreInsideCones, AreCertified, IsFirstRowOutside, IsCertificateFault, other_count, at_row, too_wide}
-use Rattle.gf_fan_files.specs.FilesFans.{IsConeOfFile, AreConesOfFile, IsFanOfFile, IsFanOfText, refusal_of_fan, IsFanFault, in_cone, in_certificate, in_fan, IsFanFileRefusal, before_cones, behind_form}
+use Rattle.gf_fan_files.specs.FilesFans.{IsConeOfFile, AreConesOfFile, IsFanOfFile, IsFanOfText, refusal_of_fan, IsFanFault, in_cone, in_certificate, in_fan}
+use Rattle.gf_fan_files.specs.FilesFans.{IsFanFileRefusal, before_cones, behind_form}
 use Rattle.gf_fan_files.proofs.FilesLaws.{file_once}
 use Rattle.gf_fan_files.proofs.OnceLaws.{refused_once, refused_unsound}
 

@@ -19,7 +19,9 @@ use Rattle.gf_fan_files.specs.ConeText.{most_number, before, inside, closed, Con
 use Rattle.gf_fan_files.specs.declared.numbers.NumberState.{NumberState}
 use Rattle.gf_fan_files.specs.declared.numbers.NumberState.TheVariants.{Unread, Read, Finished}
 use Rattle.gf_fan_files.specs.NumberText as one
-use Rattle.gf_fan_files.specs.FanText.{ContentKind, number_to, rows, cones, any, Content, the_number, the_rows, the_cones, passed, IsContentText, held, is_above, first_value, content_read, Table, kind_in, Named, then_content, sections_read, text_read, AreHeld, IsFaultOf, IsContentFault, IsFirstFault}
+use Rattle.gf_fan_files.specs.FanText.{ContentKind, number_to, rows, cones, any, Content, the_number, the_rows, the_cones, passed, IsContentText, held}
+use Rattle.gf_fan_files.specs.FanText.{is_above, first_value, content_read, Table, kind_in, Named, then_content, sections_read, text_read, AreHeld, IsFaultOf}
+use Rattle.gf_fan_files.specs.FanText.{IsContentFault, IsFirstFault}
 use Rattle.gf_text.specs.Kinds.{IsNumberKind}
 use Rattle.gf_fan_files.proofs.KindsLaws.{row_kind, cone_kind, number_kind}
 use Rattle.gf_fan_files.proofs.RowTextLaws.{row_machine}

@@ -30,7 +30,9 @@ use Rattle.gf_fan_files.specs.declared.file.FanFile.{FanFile}
 use Rattle.gf_fan_files.specs.Duals.{DualsOfDuals}
 use Rattle.gf_fan_files.specs.Files.{IsFileOf, AreBelow, IsSoundFile, no_memory}
 use Rattle.gf_fan_files.specs.Certificates.{AreInsideCones, AreCertified, IsCertificateFault, other_count, at_row, too_wide}
-use Rattle.gf_fan_files.specs.FilesFans.{IsGeneratedCone, IsConeOfFile, AreConesOfFile, IsFanOfFile, IsFanOfText, IsGeneratingStep, of_dual, of_cone, IsConesStep, IsFileWithinLimits, IsCertifiedFile, AreFileConesMeeting, refusal_of_gordan, refusal_of_fan, IsFanFault, in_cone, in_certificate, in_fan, IsFanFileRefusal, before_cones, behind_form}
+use Rattle.gf_fan_files.specs.FilesFans.{IsGeneratedCone, IsConeOfFile, AreConesOfFile, IsFanOfFile, IsFanOfText, IsGeneratingStep, of_dual, of_cone}
+use Rattle.gf_fan_files.specs.FilesFans.{IsConesStep, IsFileWithinLimits, IsCertifiedFile, AreFileConesMeeting, refusal_of_gordan, refusal_of_fan, IsFanFault}
+use Rattle.gf_fan_files.specs.FilesFans.{in_cone, in_certificate, in_fan, IsFanFileRefusal, before_cones, behind_form}
 use Rattle.gf_fan_files.proofs.FilesLaws.{file_once, file_within}
 
 -- ---- the rays of a cone

@@ -12,10 +12,14 @@ use Rattle.gf_text.specs.declared.error.Section.TheVariants as names
 use Rattle.gf_fan_files.specs.declared.file.FanFile.{FanFile}
 use Rattle.gf_fan_files.specs.declared.sections.Contents.{Contents}
 use Rattle.gf_fan_files.specs.Lines.{Section, sections, content_tokens, end_before}
-use Rattle.gf_fan_files.specs.FanText.{ContentKind, number_to, Content, the_number, the_rows, the_cones, IsContentText, kind_in, Named, is_second, told_version, IsKnownVersion, fan_table, told_table, text_read, AreHeld, found, wanted, wanted_last, first_missing, ambient_dim, rays_name, lineality_space, maximal_cones, maximal_interiors}
+use Rattle.gf_fan_files.specs.FanText.{ContentKind, number_to, Content, the_number, the_rows, the_cones, IsContentText, kind_in, Named, is_second}
+use Rattle.gf_fan_files.specs.FanText.{told_version, IsKnownVersion, fan_table, told_table, text_read, AreHeld, found, wanted, wanted_last, first_missing}
+use Rattle.gf_fan_files.specs.FanText.{ambient_dim, rays_name, lineality_space, maximal_cones, maximal_interiors}
 use Rattle.gf_fan_files.specs.Found.{IsRefusedSo}
 use Rattle.gf_fan_files.specs.Contents.{Says, number_kept, rows_kept, cones_kept, AreInteriorsKept}
-use Rattle.gf_fan_files.specs.Files.{AreSectionsOf, AreInteriorsOf, interior_rows, IsFileOf, IsOutside, AreBelow, IsSoundFile, IsTestStep, AreTestsWithin, IsBehind, IsLengthFault, IsFormFault, zero_dimension, at_rays, at_lineality, at_interiors, at_ray, at_number, IsFileRefused, in_text, bad_version, not_there, in_form, no_memory}
+use Rattle.gf_fan_files.specs.Files.{AreSectionsOf, AreInteriorsOf, interior_rows, IsFileOf, IsOutside, AreBelow, IsSoundFile, IsTestStep, AreTestsWithin}
+use Rattle.gf_fan_files.specs.Files.{IsBehind, IsLengthFault, IsFormFault, zero_dimension, at_rays, at_lineality, at_interiors, at_ray, at_number}
+use Rattle.gf_fan_files.specs.Files.{IsFileRefused, in_text, bad_version, not_there, in_form, no_memory}
 use Rattle.gf_fan_files.proofs.FanTextLaws.{text_said, text_given, text_fault, text_sound}
 
 -- ---- the ambient dimension is at most MOST_VARIABLES

@@ -11,7 +11,8 @@ use Rattle.gf_text.specs.Marks.{minus_mark}
 use Rattle.gf_text.specs.Tokens.{lex_tokens, lexemes, lexeme, word_more}
 use Rattle.gf_text.proofs.TokensLaws.{behind-lexeme}
 use Rattle.gf_text.proofs.PrintedTokensLaws.{byte_itself}
-use Rattle.gf_fan_files.specs.Lines.{blank, parted, before_line, lines, goes_on_line, is_no_comment, before_comment, all_parted, line_tokens, tokens_between, Sections, no_sections, with_name, with_line, with_tokens, sections_of, sections_from, is_section_name}
+use Rattle.gf_fan_files.specs.Lines.{blank, parted, before_line, lines, goes_on_line, is_no_comment, before_comment, all_parted, line_tokens, tokens_between}
+use Rattle.gf_fan_files.specs.Lines.{Sections, no_sections, with_name, with_line, with_tokens, sections_of, sections_from, is_section_name}
 
 -- ---- the first line
 

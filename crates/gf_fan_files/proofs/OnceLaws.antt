@@ -15,8 +15,11 @@ use Rattle.gf_fan_files.specs.Lines.{Section as TextSection, sections, content_t
 use Rattle.gf_fan_files.specs.RowText.{AreRowTexts}
 use Rattle.gf_fan_files.specs.ConeText.{AreConeTexts}
 use Rattle.gf_fan_files.specs.NumberText.{IsOneNumberText}
-use Rattle.gf_fan_files.specs.FanText.{ContentKind, number_to, rows, cones, any, kind_in, Table, Named, told_version, IsKnownVersion, told_table, IsFaultOf, IsContentFault, IsFirstFault, wanted, first_missing}
-use Rattle.gf_fan_files.specs.Files.{AreSectionsOf, IsFileOf, section_name, interior_rows, IsOutside, AreBelow, IsSoundFile, IsBehind, IsLengthFault, IsRayFault, IsNumberFault, IsFormFault, zero_dimension, at_rays, at_lineality, at_interiors, at_ray, at_number, IsFileRefused, in_text, bad_version, not_there, in_form, no_memory, IsOfLimits}
+use Rattle.gf_fan_files.specs.FanText.{ContentKind, number_to, rows, cones, any, kind_in, Table, Named, told_version, IsKnownVersion, told_table, IsFaultOf}
+use Rattle.gf_fan_files.specs.FanText.{IsContentFault, IsFirstFault, wanted, first_missing}
+use Rattle.gf_fan_files.specs.Files.{AreSectionsOf, IsFileOf, section_name, interior_rows, IsOutside, AreBelow, IsSoundFile, IsBehind, IsLengthFault}
+use Rattle.gf_fan_files.specs.Files.{IsRayFault, IsNumberFault, IsFormFault, zero_dimension, at_rays, at_lineality, at_interiors, at_ray, at_number}
+use Rattle.gf_fan_files.specs.Files.{IsFileRefused, in_text, bad_version, not_there, in_form, no_memory, IsOfLimits}
 use Rattle.gf_fan_files.proofs.FanTextLaws.{content_sound, text_sound}
 use Rattle.gf_fan_files.proofs.FilesLaws.{sections_once, file_once, behind_holds, length_sound, none_missing, version_known, sound_refused}
 

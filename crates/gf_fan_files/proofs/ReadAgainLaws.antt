@@ -39,7 +39,9 @@ use Rattle.gf_fan_files.specs.FanWords.{fan_text}
 use Rattle.gf_fan_files.specs.FansAgain.{IsWritable, file_of}
 use Rattle.gf_fan_files.specs.FanTexts.{listed_cone, listed_cones, one_listed, listed_at, interiors_of, parts_of_fan, IsWritingStep}
 use Rattle.gf_fan_files.specs.Certificates.{AreCertified, AreInsideCones, IsCertificateFault, other_count, at_row, too_wide}
-use Rattle.gf_fan_files.specs.FilesFans.{IsConeOfFile, AreConesOfFile, IsFanOfFile, IsFanOfText, IsCertifiedFile, AreFileConesMeeting, testing, finding, making, IsFileLimit, refusal_of_vectors, refusal_of_fan, IsFanFault, in_cone, in_certificate, in_fan, IsFanFileRefusal, before_cones, behind_form}
+use Rattle.gf_fan_files.specs.FilesFans.{IsConeOfFile, AreConesOfFile, IsFanOfFile, IsFanOfText, IsCertifiedFile, AreFileConesMeeting, testing, finding}
+use Rattle.gf_fan_files.specs.FilesFans.{making, IsFileLimit, refusal_of_vectors, refusal_of_fan, IsFanFault, in_cone, in_certificate, in_fan}
+use Rattle.gf_fan_files.specs.FilesFans.{IsFanFileRefusal, before_cones, behind_form}
 use Rattle.gf_fan_files.specs.WrittenFans.{IsConeAt, IsAgainLimit, WrittenFansAreRead}
 use Rattle.gf_fan_files.proofs.AgainLaws.{fans_again}
 use Rattle.gf_fan_files.proofs.FanPartsLaws.{parts_same}

@@ -11,7 +11,8 @@ use Rattle.gf_text.proofs.SetTokensLaws.{number_no_mark, is_mark, le_from, le_te
 use Rattle.gf_text.specs.Marks.{minus_mark}
 use Rattle.gf_text.specs.SetText.{IsNumberText}
 use Rattle.gf_fan_files.specs.Lines.{line_end, section_end}
-use Rattle.gf_fan_files.specs.RowText.{most_row_entry, IsRowEntryText, AreRowEntryTexts, IsRowText, AreRowTexts, RowState, RowMove, row_state, row_size_step, row_entry_step, row_step_at, row_step, row_start}
+use Rattle.gf_fan_files.specs.RowText.{most_row_entry, IsRowEntryText, AreRowEntryTexts, IsRowText, AreRowTexts, RowState, RowMove, row_state, row_size_step}
+use Rattle.gf_fan_files.specs.RowText.{row_entry_step, row_step_at, row_step, row_start}
 
 abbrev Texts : Type 0
 Texts = List (List ℕ)

@@ -13,9 +13,12 @@ use Rattle.gf_fan_files.specs.declared.sections.Contents.{Contents}
 use Rattle.gf_fan_files.specs.Lines.{with_name, sections_from, content_from}
 use Rattle.gf_fan_files.specs.Refused.{refused_at}
 use Rattle.gf_fan_files.specs.ConeText.{most_number}
-use Rattle.gf_fan_files.specs.FanText.{ContentKind, Content, number_to, rows, cones, any, the_number, the_rows, the_cones, passed, Named, is_second, told_version, version_kind, interiors_kind, fan_table, told_table, kind_in, content_read, then_content, sections_read, text_read, found, file_version, ambient_dim, rays_name, lineality_space, maximal_cones, maximal_interiors}
+use Rattle.gf_fan_files.specs.FanText.{ContentKind, Content, number_to, rows, cones, any, the_number, the_rows, the_cones, passed, Named, is_second}
+use Rattle.gf_fan_files.specs.FanText.{told_version, version_kind, interiors_kind, fan_table, told_table, kind_in, content_read, then_content, sections_read}
+use Rattle.gf_fan_files.specs.FanText.{text_read, found, file_version, ambient_dim, rays_name, lineality_space, maximal_cones, maximal_interiors}
 use Rattle.gf_fan_files.specs.Found.{IsRefusedSo}
-use Rattle.gf_fan_files.specs.Contents.{no_contents, IsSectionKept, at_ambient, at_rays, at_lineality, at_cones, at_interiors, at_other, number_kept, rows_kept, cones_kept, AreInteriorsKept, AreSectionsKept, Says}
+use Rattle.gf_fan_files.specs.Contents.{no_contents, IsSectionKept, at_ambient, at_rays, at_lineality, at_cones, at_interiors, at_other, number_kept}
+use Rattle.gf_fan_files.specs.Contents.{rows_kept, cones_kept, AreInteriorsKept, AreSectionsKept, Says}
 
 abbrev pub names_of : Named → List (List ℕ)
 names_of all = map (λ (h : List ℕ × Content). h.0) all

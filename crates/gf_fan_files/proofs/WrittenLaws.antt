@@ -8,7 +8,8 @@ use Rattle.gf_text.specs.Marks.{minus_mark}
 use Rattle.gf_text.specs.Tokens.{is_space, lex_tokens, word_more}
 use Rattle.gf_text.specs.RingText.{has, is_name}
 use Rattle.gf_text.proofs.SpelledLaws.{word_token, lex-token}
-use Rattle.gf_fan_files.specs.Lines.{before_line, lines, before_comment, all_parted, line_tokens, is_capital, is_section_name, Sections, with_name, with_line, with_tokens, sections_of, sections, content_tokens, end_before}
+use Rattle.gf_fan_files.specs.Lines.{before_line, lines, before_comment, all_parted, line_tokens, is_capital, is_section_name, Sections, with_name, with_line}
+use Rattle.gf_fan_files.specs.Lines.{with_tokens, sections_of, sections, content_tokens, end_before}
 use Rattle.gf_fan_files.specs.FanText.{Content, IsContentText, Table, kind_in, Named, AreHeld}
 use Rattle.gf_fan_files.specs.FanWords.{TextSection, lines_text, section_text, sections_text}
 

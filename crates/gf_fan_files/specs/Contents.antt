@@ -2,7 +2,8 @@
 use Rattle.std.specs.Prelude.{◌≡◌, ◌⊎◌, ℕ, ℤ, Bool, true, false, List, bytes_eq, Option, Some, None, Result, Ok}
 use Rattle.gf_fan_files.specs.declared.error.FanFileError.{FanFileError}
 use Rattle.gf_fan_files.specs.declared.sections.Contents.{Contents}
-use Rattle.gf_fan_files.specs.FanText.{Content, the_number, the_rows, the_cones, Named, is_second, told_version, told_table, text_read, found, ambient_dim, rays_name, lineality_space, maximal_cones, maximal_interiors}
+use Rattle.gf_fan_files.specs.FanText.{Content, the_number, the_rows, the_cones, Named, is_second, told_version, told_table, text_read, found, ambient_dim}
+use Rattle.gf_fan_files.specs.FanText.{rays_name, lineality_space, maximal_cones, maximal_interiors}
 
 -- nothing is known of the file yet but its version
 abbrev pub no_contents : Option ℕ → Contents

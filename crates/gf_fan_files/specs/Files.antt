@@ -14,7 +14,8 @@ use Rattle.gf_text.specs.declared.error.Section.{Section}
 use Rattle.gf_text.specs.declared.error.Section.TheVariants as names
 use Rattle.gf_fan_files.specs.declared.file.FanFile.{FanFile}
 use Rattle.gf_fan_files.specs.Lines.{sections}
-use Rattle.gf_fan_files.specs.FanText.{Content, the_number, the_rows, the_cones, Named, is_second, told_version, IsKnownVersion, told_table, AreHeld, IsFirstFault, found, wanted, first_missing, ambient_dim, rays_name, lineality_space, maximal_cones, maximal_interiors}
+use Rattle.gf_fan_files.specs.FanText.{Content, the_number, the_rows, the_cones, Named, is_second, told_version, IsKnownVersion, told_table, AreHeld}
+use Rattle.gf_fan_files.specs.FanText.{IsFirstFault, found, wanted, first_missing, ambient_dim, rays_name, lineality_space, maximal_cones, maximal_interiors}
 
 -- ---- what a file says
 

@@ -10,7 +10,8 @@ use Rattle.gf_fan_files.specs.declared.places.Token.{Token}
 use Rattle.gf_fan_files.specs.declared.places.Token.TheVariants as tokens
 use Rattle.gf_fan_files.specs.declared.places.Place.{Place}
 use Rattle.gf_fan_files.specs.declared.places.Place.TheVariants as places
-use Rattle.gf_fan_files.specs.Lines.{Sections, no_sections, with_name, with_line, sections_from, tokens_between, blank, all_parted, line_end, section_end, front_place, content_from}
+use Rattle.gf_fan_files.specs.Lines.{Sections, no_sections, with_name, with_line, sections_from, tokens_between, blank, all_parted, line_end, section_end}
+use Rattle.gf_fan_files.specs.Lines.{front_place, content_from}
 
 -- ---- lines
 

@@ -7,7 +7,8 @@ ghost use Rattle.gf_text.specs.declared.TheConstants.{MOST_VARIABLES};
 ghost use Rattle.gf_fan_files.specs.declared.error.FanFileError.TheVariants.{Memory};
 ghost use Rattle.gf_fan_files.specs.Files.{IsFileOf, AreBelow, IsSoundFile, IsOfLimits};
 ghost use Rattle.gf_fan_files.specs.Certificates.{AreCertified};
-ghost use Rattle.gf_fan_files.specs.FilesFans.{IsGeneratedCone, IsConeOfFile, AreConesOfFile, IsFanOfFile, IsFanOfText, IsGeneratingStep, IsConesStep, IsFileWithinLimits, IsCertifiedFile, AreFileConesMeeting, IsFanFault, IsFanFileRefusal};
+ghost use Rattle.gf_fan_files.specs.FilesFans.{IsGeneratedCone, IsConeOfFile, AreConesOfFile, IsFanOfFile, IsFanOfText, IsGeneratingStep, IsConesStep};
+ghost use Rattle.gf_fan_files.specs.FilesFans.{IsFileWithinLimits, IsCertifiedFile, AreFileConesMeeting, IsFanFault, IsFanFileRefusal};
 
 use crate::certificates::check_certificates;
 use crate::cones::RayNumbers;

@@ -7,7 +7,8 @@ ghost use Rattle.gf_text.specs.declared.TheConstants.{MOST_VARIABLES};
 ghost use Rattle.gf_fan_files.specs.declared.error.FanFileError.TheVariants.{Memory};
 ghost use Rattle.gf_fan_files.specs.Contents.{Says};
 ghost use Rattle.gf_fan_files.specs.FanText.{is_second, IsKnownVersion};
-ghost use Rattle.gf_fan_files.specs.Files.{IsFileOf, IsOutside, AreBelow, interior_rows, IsSoundFile, IsRayTestStep, AreTestsWithin, IsBehind, IsLengthFault, IsRayFault, IsNumberFault, IsFormFault, IsFileRefused, IsOfLimits};
+ghost use Rattle.gf_fan_files.specs.Files.{IsFileOf, IsOutside, AreBelow, interior_rows, IsSoundFile, IsRayTestStep, AreTestsWithin, IsBehind, IsLengthFault};
+ghost use Rattle.gf_fan_files.specs.Files.{IsRayFault, IsNumberFault, IsFormFault, IsFileRefused, IsOfLimits};
 
 use crate::cones::{ConeList, RayNumbers};
 use crate::error::FanFileError;

@@ -1,7 +1,8 @@
 //! The lines of a text: where they end, and the first one that has tokens.
 ghost use Rattle.std.specs.Prelude.{◌≡◌, ◌<◌, ◌≤◌, length, take_while, IfSome, MatchOption};
 ghost use Rattle.std.specs.List.{list_all};
-ghost use Rattle.gf_fan_files.specs.Lines.{is_capital, is_section_byte, is_section_name, goes_on_line, is_no_comment, sections_from, with_tokens, tokens_between};
+ghost use Rattle.gf_fan_files.specs.Lines.{is_capital, is_section_byte, is_section_name, goes_on_line, is_no_comment, sections_from, with_tokens};
+ghost use Rattle.gf_fan_files.specs.Lines.{tokens_between};
 ghost use Rattle.gf_fan_files.specs.Found.{IsLineFound, IsLineWithin};
 
 use gf_text::word_from;

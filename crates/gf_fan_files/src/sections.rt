@@ -2,7 +2,8 @@
 ghost use Rattle.std.specs.Prelude.{◌≡◌, ◌≤◌, ◌<◌, [], None, Some, Ok, List, ℤ, false, length, bytes_eq, IfOk, IfSome, MatchBool, MatchOption, MatchResult};
 ghost use Rattle.gf_text.specs.Tokens.{lexeme};
 ghost use Rattle.gf_fan_files.specs.Lines.{sections_from, content_from, with_name};
-ghost use Rattle.gf_fan_files.specs.FanText.{Content, the_rows, passed, content_read, kind_in, is_second, told_version, version_kind, interiors_kind, fan_table, told_table, text_read, ambient_dim, rays_name, lineality_space, maximal_cones};
+ghost use Rattle.gf_fan_files.specs.FanText.{Content, the_rows, passed, content_read, kind_in, is_second, told_version, version_kind, interiors_kind};
+ghost use Rattle.gf_fan_files.specs.FanText.{fan_table, told_table, text_read, ambient_dim, rays_name, lineality_space, maximal_cones};
 ghost use Rattle.gf_fan_files.specs.Found.{IsRefusedSo};
 ghost use Rattle.gf_fan_files.specs.Contents.{IsSectionKept, Says, no_contents};
 

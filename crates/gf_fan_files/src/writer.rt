@@ -2,7 +2,9 @@
 ghost use Rattle.std.specs.Prelude.{◌≡◌, ◌++◌, ◌∷◌, [], Option, OnOk, IfOk, codes, decimal, flat_map, map};
 ghost use Rattle.gf_text.specs.VectorText.{entry_text};
 ghost use Rattle.gf_fan_files.specs.FanText.{rays_name};
-ghost use Rattle.gf_fan_files.specs.FanWords.{spaced_entries, spaced_numbers, comment, ray_lines, number_lines, cone_text, told_cone, cone_line, cone_lines, truth_line, dim_line, section, lines_text, section_text, sections_text, front_sections, back_sections, fan_text};
+ghost use Rattle.gf_fan_files.specs.FanWords.{spaced_entries, spaced_numbers, comment, ray_lines, number_lines, cone_text, told_cone, cone_line, cone_lines};
+ghost use Rattle.gf_fan_files.specs.FanWords.{truth_line, dim_line, section, lines_text, section_text, sections_text, front_sections, back_sections};
+ghost use Rattle.gf_fan_files.specs.FanWords.{fan_text};
 
 use crate::parts::{FanParts, ListedCone, f_vector, greatest_dim, is_pure, is_simplicial};
 use gf_text::{push_entry, push_number};

@@ -1,5 +1,6 @@
 -- What is done with texts that are loaded is what the run of the command does.
--- To cite: done_by, stopped_by, nothing_left, nothing_but_limit, text_stopped, answer_whole, once_along, once_alone, not_cut, loaded_length, once_done, once_cut, once_refused. The rest are steps.
+-- To cite: done_by, stopped_by, nothing_left, nothing_but_limit, text_stopped, answer_whole, once_along, once_alone, not_cut,
+-- loaded_length, once_done, once_cut, once_refused. The rest are steps.
 use Rattle.std.specs.Prelude.{◌≡◌, ℕ, List, [], ◌∷◌, length}
 use Rattle.std.specs.Io.KnownBytes.{Appends}
 use Rattle.std.proofs.Common.{arith, refl, inl}

@@ -27,7 +27,8 @@ use Rattle.gf_ideal_theory.proofs.RingLaws.{ring-along}
 use Rattle.gf_ideal_theory.proofs.SpanLaws.{Spans-equal, Spans-difference}
 use Rattle.gf_ideal_theory.proofs.MembershipLaws.{variables_of_member, spans_of_member, member_of_spans}
 use Rattle.gf_ideal_theory.proofs.PieceLaws.{Found, NoneAt, find, spans_value}
-use Rattle.gf_ideal_theory.proofs.StepLaws.{IsClosed, closed_downward, closed-below, closed-up_to, closed-ring, closed-both, IsPieceIn, IsWithin, IsUpTo, member-reached, member-s_polynomial}
+use Rattle.gf_ideal_theory.proofs.StepLaws.{IsClosed, closed_downward, closed-below, closed-up_to, closed-ring, closed-both, IsPieceIn, IsWithin, IsUpTo}
+use Rattle.gf_ideal_theory.proofs.StepLaws.{member-reached, member-s_polynomial}
 use Rattle.gf_ideal_theory.proofs.MarkWeights.{mark-there}
 use Rattle.gf_ideal_theory.proofs.CriterionLaws.{irreducible_zero}
 use Rattle.gf_ideal_theory.proofs.ReductionLaws.{s_polynomial-within}

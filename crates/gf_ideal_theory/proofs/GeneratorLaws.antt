@@ -11,7 +11,8 @@ use Rattle.gf_poly.specs.Marking.{MarkedPolynomial, polys}
 use Rattle.gf_ideal_theory.specs.Membership.{IsInVariables, AreInVariables, IsMember, AreSameIdeal}
 use Rattle.gf_ideal_theory.specs.Reduction.{Reached, IsMonicForm, AreMonicForms}
 use Rattle.gf_ideal_theory.proofs.ListLaws.{Contains-there, Contains-cases}
-use Rattle.gf_ideal_theory.proofs.MembershipLaws.{member-equal, member-zero, member-generator, variables_of_member, spans_of_member, member_of_spans, member-trans, same_ideal}
+use Rattle.gf_ideal_theory.proofs.MembershipLaws.{member-equal, member-zero, member-generator, variables_of_member, spans_of_member, member_of_spans}
+use Rattle.gf_ideal_theory.proofs.MembershipLaws.{member-trans, same_ideal}
 use Rattle.gf_ideal_theory.proofs.PieceLaws.{Contains-polys, Contains-marked}
 use Rattle.gf_ideal_theory.proofs.StepLaws.{variables-reached, member-reached, member-reached_back, spans-monic, spans-of_monic, monic-monomials}
 

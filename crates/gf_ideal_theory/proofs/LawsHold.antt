@@ -3,8 +3,10 @@ use Rattle.std.proofs.Common.{[], Contains, refl}
 use Rattle.gf_exponents_theory.specs.Exponents.{Exponents}
 use Rattle.gf_exponents_theory.specs.Orders.{IsLexBelow, IsDeglexBelow, IsWeightedBelow}
 use Rattle.gf_ideal_theory.specs.MonomialOrders.{below_of, IsOfGrade}
-use Rattle.gf_ideal_theory.specs.Laws.{MembersAreSpanned, IdealsAreClosed, StepsKeepTheIdeal, GeneratorsMayBeExchanged, StepsLeaveLessWork, OrdersAreWeights, MarksHaveWeights}
-use Rattle.gf_ideal_theory.proofs.MembershipLaws.{member-equal, member-zero, member-generator, member-++, member-times, member-difference, spans_of_member, variables_of_member, member_of_spans, member-trans}
+use Rattle.gf_ideal_theory.specs.Laws.{MembersAreSpanned, IdealsAreClosed, StepsKeepTheIdeal, GeneratorsMayBeExchanged, StepsLeaveLessWork, OrdersAreWeights}
+use Rattle.gf_ideal_theory.specs.Laws.{MarksHaveWeights}
+use Rattle.gf_ideal_theory.proofs.MembershipLaws.{member-equal, member-zero, member-generator, member-++, member-times, member-difference, spans_of_member}
+use Rattle.gf_ideal_theory.proofs.MembershipLaws.{variables_of_member, member_of_spans, member-trans}
 use Rattle.gf_ideal_theory.proofs.StepLaws.{member-reached, member-reached_back, member-s_polynomial}
 use Rattle.gf_ideal_theory.proofs.GeneratorLaws.{dropped_generator, reduced_generator, monic_generator, member-monic, monic_list}
 use Rattle.gf_ideal_theory.proofs.MeasureLaws.{work_left-smaller, work_left-smaller_at}

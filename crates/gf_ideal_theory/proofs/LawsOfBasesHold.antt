@@ -11,15 +11,19 @@ use Rattle.gf_ideal_theory.specs.MonomialOrders.{MonomialOrder, below_of, IsOfGr
 use Rattle.gf_ideal_theory.specs.Bases.{IsBasis, IsReducedBasis, IsHeaviest, IsGreatest}
 use Rattle.gf_ideal_theory.specs.Settled.{ArePairsSettled}
 use Rattle.gf_ideal_theory.specs.WorkLists.{IsWorkList}
-use Rattle.gf_ideal_theory.specs.LawsOfBases.{AreHomogeneous, DoPairsReduceToZero, BuchbergersCriterion, PairsAreSettled, BasesGoByTheirMarks, MembershipIsDecided, NormalFormsAreUnique, BasesMayBeInterreduced, BasesMayBeArranged, ReducedBasesAreUnique, RunsEndWithABasis}
+use Rattle.gf_ideal_theory.specs.LawsOfBases.{AreHomogeneous, DoPairsReduceToZero, BuchbergersCriterion, PairsAreSettled, BasesGoByTheirMarks}
+use Rattle.gf_ideal_theory.specs.LawsOfBases.{MembershipIsDecided, NormalFormsAreUnique, BasesMayBeInterreduced, BasesMayBeArranged, ReducedBasesAreUnique}
+use Rattle.gf_ideal_theory.specs.LawsOfBases.{RunsEndWithABasis}
 use Rattle.gf_ideal_theory.proofs.MembershipLaws.{member-zero, member-equal, member-generator, spans_of_member}
 use Rattle.gf_ideal_theory.proofs.StepLaws.{member-reached_back}
 use Rattle.gf_ideal_theory.proofs.PieceLaws.{Contains-polys, Contains-marked, combined_of_polys}
 use Rattle.gf_ideal_theory.proofs.OrderWeights.{order-is, grading}
 use Rattle.gf_ideal_theory.proofs.MarkWeights.{IsGradedBy, mark-there, order-marks}
 use Rattle.gf_ideal_theory.proofs.SettledLaws.{settled_everywhere}
-use Rattle.gf_ideal_theory.proofs.BasisLaws.{remainder_zero, settled_of_basis, basis_by_pairs, groebner_by_weight, groebner_by_order, basis_of_groebner, basis_of_groebner_for}
-use Rattle.gf_ideal_theory.proofs.InterreductionLaws.{basis-kept, basis-of_tails, tail-marked, reduced_by_weight, reduced_by_order, interreduced, reduced-tails, apart-tails}
+use Rattle.gf_ideal_theory.proofs.BasisLaws.{remainder_zero, settled_of_basis, basis_by_pairs, groebner_by_weight, groebner_by_order, basis_of_groebner}
+use Rattle.gf_ideal_theory.proofs.BasisLaws.{basis_of_groebner_for}
+use Rattle.gf_ideal_theory.proofs.InterreductionLaws.{basis-kept, basis-of_tails, tail-marked, reduced_by_weight, reduced_by_order, interreduced}
+use Rattle.gf_ideal_theory.proofs.InterreductionLaws.{reduced-tails, apart-tails}
 use Rattle.gf_ideal_theory.proofs.ArrangementLaws.{basis-arranged, reduced-arranged}
 use Rattle.gf_ideal_theory.proofs.ArrangedLists.{arranged_equal}
 use Rattle.gf_ideal_theory.proofs.UniquenessLaws.{unique_by_weight, unique_by_order}

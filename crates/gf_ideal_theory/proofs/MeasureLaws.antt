@@ -7,7 +7,8 @@ use Rattle.gf_frac.specs.Fraction.{Fraction, ◌+ℚ◌, neg_ℚ, zero_ℚ}
 use Rattle.gf_frac.proofs.FractionLaws.{zero_by_num, zero-+ℚ, zero_or_not, num_by_zero}
 use Rattle.gf_exponents_theory.specs.Exponents.{Exponents, entry, same, plus, minus}
 use Rattle.gf_exponents_theory.specs.Orders.{lighter}
-use Rattle.gf_exponents_theory.proofs.ExponentsLaws.{same-refl, same-sym, same_along, same_flip, same_trans, same_shift, same_shift_right, same_by_entries, entries_same, entry-plus, entry-minus}
+use Rattle.gf_exponents_theory.proofs.ExponentsLaws.{same-refl, same-sym, same_along, same_flip, same_trans, same_shift, same_shift_right, same_by_entries}
+use Rattle.gf_exponents_theory.proofs.ExponentsLaws.{entries_same, entry-plus, entry-minus}
 use Rattle.gf_exponents_theory.proofs.WeightLaws.{weight-plus, weight-same}
 use Rattle.gf_poly.specs.Polynomial.{Terms, coefficient, times}
 use Rattle.gf_poly.specs.Marking.{MarkedPolynomial, Each}
@@ -15,7 +16,8 @@ use Rattle.gf_poly.proofs.PolynomialLaws.{coefficient-++, coefficient-same}
 use Rattle.gf_ideal_theory.specs.Membership.{HasMonomial}
 use Rattle.gf_ideal_theory.specs.Marks.{IsMarked, AreMarked, HasPositiveWeight}
 use Rattle.gf_ideal_theory.specs.Reduction.{IsStep}
-use Rattle.gf_ideal_theory.specs.Measure.{within, except, all_raised, total, is_zero_number, lists, support_in, support, IsInBox, FitsBox, front, fronts, box, brought, all_brought, inside_list, height, work_in, work_left}
+use Rattle.gf_ideal_theory.specs.Measure.{within, except, all_raised, total, is_zero_number, lists, support_in, support, IsInBox, FitsBox, front, fronts, box}
+use Rattle.gf_ideal_theory.specs.Measure.{brought, all_brought, inside_list, height, work_in, work_left}
 use Rattle.gf_ideal_theory.proofs.ListLaws.{Contains-cases}
 use Rattle.gf_ideal_theory.proofs.TermLaws.{found}
 use Rattle.gf_ideal_theory.proofs.StepLaws.{step-gone}

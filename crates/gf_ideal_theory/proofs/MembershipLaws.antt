@@ -11,7 +11,8 @@ use Rattle.gf_int_theory.proofs.ListLaws.{Contains-here}
 use Rattle.gf_poly.specs.Polynomial.{Terms, coefficient, SamePolynomial, times}
 use Rattle.gf_poly.specs.Marking.{Each}
 use Rattle.gf_poly.proofs.PolynomialLaws.{coefficient-++, coefficient-times, coefficient-times_factor, SamePolynomial-times, times-times, times-++}
-use Rattle.gf_ideal_theory.specs.Membership.{HasMonomial, IsInVariables, AreInVariables, IntegerTerms, product, combination, IsMultiplier, IsMember, AreSameIdeal, Spans}
+use Rattle.gf_ideal_theory.specs.Membership.{HasMonomial, IsInVariables, AreInVariables, IntegerTerms, product, combination, IsMultiplier, IsMember}
+use Rattle.gf_ideal_theory.specs.Membership.{AreSameIdeal, Spans}
 use Rattle.gf_ideal_theory.proofs.Identities.{whole-*, den_times, divided_by, exchange}
 use Rattle.gf_ideal_theory.proofs.ListLaws.{Each-++, Contains-there, Contains-cases, each_contained}
 use Rattle.gf_ideal_theory.proofs.RingLaws.{in_ring, ring-along, ring-left, ring-plus}

@@ -5,14 +5,16 @@ use Rattle.std.proofs.Common.{◌≡◌, ◌⊎◌, ℕ, zero, suc, ◌+◌, ◌
 use Rattle.std.proofs.Math.Nat.{mul-le-mul_left}
 use Rattle.std.proofs.lemmas.Bool.{cases_lt}
 use Rattle.gf_exponents_theory.specs.Exponents.{Exponents, entry, same, plus, degree, weight}
-use Rattle.gf_exponents_theory.specs.Orders.{lighter, WeightRow, is_less, is_alike, IsLexBelow, IsDeglexBelow, IsRevlexBelow, IsWeightedBelow, IsWeightedRevlexBelow, IsFacetBelow}
+use Rattle.gf_exponents_theory.specs.Orders.{lighter, WeightRow, is_less, is_alike, IsLexBelow, IsDeglexBelow, IsRevlexBelow, IsWeightedBelow}
+use Rattle.gf_exponents_theory.specs.Orders.{IsWeightedRevlexBelow, IsFacetBelow}
 use Rattle.gf_exponents_theory.proofs.ExponentsLaws.{entry-plus, entries_same, same_by_entries}
 use Rattle.gf_exponents_theory.proofs.WeightLaws.{weight-nil, weight-plus, weight-same}
 use Rattle.gf_ideal_theory.specs.Marks.{IsPositive}
 pub use Rattle.gf_exponents_theory.proofs.SixOrdersLaws.{order-is}
 use Rattle.gf_ideal_theory.specs.MonomialOrders.{MonomialOrder, below_of, IsOfGrade, HasNoLoss, IsAdmissible}
 use Rattle.gf_ideal_theory.proofs.RingLaws.{rest, entry-rest, beyond}
-use Rattle.gf_ideal_theory.proofs.RowLaws.{below_by, total, multiple, both_of, weight-multiple, weight-both, entry-both, weight-boxed, times_up, weights_for, lighter-by_rows, lex_rows, lex-by_rows, revlex_rows, revlex-by_rows}
+use Rattle.gf_ideal_theory.proofs.RowLaws.{below_by, total, multiple, both_of, weight-multiple, weight-both, entry-both, weight-boxed, times_up, weights_for}
+use Rattle.gf_ideal_theory.proofs.RowLaws.{lighter-by_rows, lex_rows, lex-by_rows, revlex_rows, revlex-by_rows}
 
 -- ---- what is traded
 

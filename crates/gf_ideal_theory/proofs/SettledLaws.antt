@@ -6,7 +6,8 @@ use Rattle.gf_frac.specs.Fraction.{Fraction, ◌+ℚ◌, ◌*ℚ◌, neg_ℚ, ze
 use Rattle.gf_frac.proofs.FractionLaws.{+ℚ_assoc, +ℚ-zero, one-*ℚ}
 use Rattle.gf_exponents_theory.specs.Exponents.{Exponents, plus, same, join, minus}
 use Rattle.gf_exponents_theory.specs.Orders.{IsStrict}
-use Rattle.gf_exponents_theory.proofs.ExponentsLaws.{plus_assoc, same-sym, same_along, same_flip, same_shift, same_shift_right, same_trans, same_of, over_join, over_join_right, join_divides, cancel, minus_left, minus_right}
+use Rattle.gf_exponents_theory.proofs.ExponentsLaws.{plus_assoc, same-sym, same_along, same_flip, same_shift, same_shift_right, same_trans, same_of}
+use Rattle.gf_exponents_theory.proofs.ExponentsLaws.{over_join, over_join_right, join_divides, cancel, minus_left, minus_right}
 use Rattle.gf_poly.specs.Polynomial.{Terms, coefficient, times}
 use Rattle.gf_poly.specs.Marking.{MarkedPolynomial}
 use Rattle.gf_poly.proofs.PolynomialLaws.{coefficient-++, SamePolynomial-times, times-times, times-++, coefficient-factor, times-plain}

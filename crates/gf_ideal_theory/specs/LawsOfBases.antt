@@ -8,7 +8,8 @@ use Rattle.gf_ideal_theory.specs.Membership.{IsInVariables, AreInVariables, IsMe
 use Rattle.gf_ideal_theory.specs.Marks.{IsMarked, AreMarked, IsPositive}
 use Rattle.gf_ideal_theory.specs.Reduction.{IsDivisible, IsIrreducible, Reached, IsSPolynomial, IsKept, HasOneMonomial}
 use Rattle.gf_ideal_theory.specs.MonomialOrders.{MonomialOrder, below_of, IsHomogeneous, IsAdmissible, Comparison, compared_by}
-use Rattle.gf_ideal_theory.specs.Bases.{AreMembers, IsBasis, AreApart, HasReducedTails, IsGroebnerBasis, IsGroebnerBasisFor, IsReducedBasis, IsReducedBasisFor, AreSameBasis, AreArranged}
+use Rattle.gf_ideal_theory.specs.Bases.{AreMembers, IsBasis, AreApart, HasReducedTails, IsGroebnerBasis, IsGroebnerBasisFor, IsReducedBasis}
+use Rattle.gf_ideal_theory.specs.Bases.{IsReducedBasisFor, AreSameBasis, AreArranged}
 use Rattle.gf_ideal_theory.specs.Settled.{IsAt, IsSettledPair, ArePairsSettled}
 use Rattle.gf_ideal_theory.specs.NormalForms.{IsNormalForm}
 use Rattle.gf_ideal_theory.specs.WorkLists.{IsWorkList, IsTail, AreReducedTails}

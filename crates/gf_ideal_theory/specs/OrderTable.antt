@@ -2,7 +2,8 @@
 -- Laws: proofs/OrderTableLaws.antt. Source: Sturmfels, Gröbner Bases and Convex Polytopes, 1.
 use Rattle.std.specs.Prelude.{◌≡◌, ℕ, List, get_or, All, ℤ, pos, ◌+ℤ◌, ◌*ℤ◌, ◌≤ℤ◌}
 use Rattle.gf_exponents_theory.specs.Exponents.{Exponents, entry, IsInRing, degree, whole_weight}
-use Rattle.gf_exponents_theory.specs.Orders.{lighter, negated_row_of, IsLexBelow, IsDeglexBelow, IsRevlexBelow, IsWeightedBelow, IsWeightedRevlexBelow, IsFacetBelow}
+use Rattle.gf_exponents_theory.specs.Orders.{lighter, negated_row_of, IsLexBelow, IsDeglexBelow, IsRevlexBelow, IsWeightedBelow, IsWeightedRevlexBelow}
+use Rattle.gf_exponents_theory.specs.Orders.{IsFacetBelow}
 use Rattle.gf_poly.specs.Polynomial.{Terms}
 use Rattle.gf_ideal_theory.specs.Membership.{HasMonomial, IsInVariables}
 use Rattle.gf_ideal_theory.specs.Marks.{IsPositive}

@@ -10,7 +10,8 @@ use Rattle.gf_poly.specs.Marking.{MarkedPolynomial}
 use Rattle.gf_ideal_theory.specs.Membership.{HasMonomial}
 use Rattle.gf_ideal_theory.specs.Marks.{IsMarked}
 use Rattle.gf_ideal_theory.specs.Reduction.{IsDivisible, IsStep, Reached, IsSPolynomial, IsMonicForm}
-use Rattle.gf_ideal_theory.specs.Operands.{IsStepOperation, IsReductionOperation, IsSPolynomialOperation, IsMonicOperation, IsStepExponents, IsReductionExponents, IsSPolynomialExponents}
+use Rattle.gf_ideal_theory.specs.Operands.{IsStepOperation, IsReductionOperation, IsSPolynomialOperation, IsMonicOperation, IsStepExponents}
+use Rattle.gf_ideal_theory.specs.Operands.{IsReductionExponents, IsSPolynomialExponents}
 use Rattle.gf_ideal_theory.specs.Bases.{IsGreatest}
 
 -- what a reduction starts from: a generator, or the S-polynomial of two members

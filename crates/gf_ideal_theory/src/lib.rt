@@ -5,9 +5,12 @@
 //! The functions compute nothing: each one's contract is a theorem, so that the check proves it.
 #![tactic(auto)]
 
-ghost use Rattle.gf_ideal_theory.specs.LawsOfBases.{BuchbergersCriterion, PairsAreSettled, BasesGoByTheirMarks, MembershipIsDecided, NormalFormsAreUnique, BasesMayBeInterreduced, BasesMayBeArranged, ReducedBasesAreUnique, RunsEndWithABasis, SmallIdealsHaveBases};
+ghost use Rattle.gf_ideal_theory.specs.LawsOfBases.{BuchbergersCriterion, PairsAreSettled, BasesGoByTheirMarks, MembershipIsDecided, NormalFormsAreUnique};
+ghost use Rattle.gf_ideal_theory.specs.LawsOfBases.{BasesMayBeInterreduced, BasesMayBeArranged, ReducedBasesAreUnique, RunsEndWithABasis};
+ghost use Rattle.gf_ideal_theory.specs.LawsOfBases.{SmallIdealsHaveBases};
 ghost use Rattle.gf_ideal_theory.specs.OrderTable.{OrderTable, MultiplesAreHomogeneous};
-ghost use Rattle.gf_ideal_theory.specs.Laws.{MembersAreSpanned, IdealsAreClosed, StepsKeepTheIdeal, GeneratorsMayBeExchanged, StepsLeaveLessWork, OrdersAreWeights, MarksHaveWeights};
+ghost use Rattle.gf_ideal_theory.specs.Laws.{MembersAreSpanned, IdealsAreClosed, StepsKeepTheIdeal, GeneratorsMayBeExchanged, StepsLeaveLessWork};
+ghost use Rattle.gf_ideal_theory.specs.Laws.{OrdersAreWeights, MarksHaveWeights};
 
 /// The members of an ideal, in whole numbers and in the ring's own variables, are the polynomials in these variables
 /// that are sums of multiples of the generators.

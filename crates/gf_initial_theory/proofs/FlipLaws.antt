@@ -43,8 +43,10 @@ use Rattle.gf_initial_theory.proofs.LiftLaws.{part_ring}
 use Rattle.gf_initial_theory.proofs.LiftedLaws.{lifted_basis, lifted_marks, lifted_of_lift, lifted_of_top}
 use Rattle.gf_initial_theory.proofs.ClassLaws.{facet_marks}
 use Rattle.gf_facets_theory.proofs.PrimitiveLaws.{divided-entry}
-use Rattle.gf_facets_theory.proofs.NormalLaws.{normal_of, normal-length, normal-primitive, normal-nonzero, row-further, beyond_of_inside, HasFurther, inside_of_beyond}
-use Rattle.gf_initial_theory.proofs.SideLaws.{IsSide, side-weak, level_of_along, along_of_level, level_parts, parts_marked, parts_of_one_class, apart-negated, negated-apart, same_ideals, sides_same, side_further}
+use Rattle.gf_facets_theory.proofs.NormalLaws.{normal_of, normal-length, normal-primitive, normal-nonzero, row-further, beyond_of_inside, HasFurther}
+use Rattle.gf_facets_theory.proofs.NormalLaws.{inside_of_beyond}
+use Rattle.gf_initial_theory.proofs.SideLaws.{IsSide, side-weak, level_of_along, along_of_level, level_parts, parts_marked, parts_of_one_class, apart-negated}
+use Rattle.gf_initial_theory.proofs.SideLaws.{negated-apart, same_ideals, sides_same, side_further}
 
 -- ---- sides
 

@@ -14,13 +14,15 @@ use Rattle.gf_facets_theory.proofs.RegionLaws.{region-positive}
 use Rattle.gf_facets_theory.proofs.SystemLaws.{marks_of_open, open_of_marks}
 use Rattle.gf_bases_theory.proofs.RegionBases.{basis_at}
 use Rattle.gf_bases_theory.proofs.LawsHold.{to_reduced}
-use Rattle.gf_initial_theory.specs.Laws.{InitialFormsOfBases, PartsAreInitialForms, MonomialIdealsAreOfBases, NeighboursExist, NeighboursAreUnique, NeighboursHaveParts, FlipsGiveNeighbours}
+use Rattle.gf_initial_theory.specs.Laws.{InitialFormsOfBases, PartsAreInitialForms, MonomialIdealsAreOfBases, NeighboursExist, NeighboursAreUnique}
+use Rattle.gf_initial_theory.specs.Laws.{NeighboursHaveParts, FlipsGiveNeighbours}
 use Rattle.gf_initial_theory.proofs.MatchingLaws.{matched-map}
 use Rattle.gf_initial_theory.proofs.PartLaws.{initial_of_level, parts_reduced}
 use Rattle.gf_initial_theory.proofs.InitialLaws.{levels, initial_member, from_initial, into_initial}
 use Rattle.gf_initial_theory.proofs.SideLaws.{IsSide, side-weak, level_of_along}
 use Rattle.gf_initial_theory.proofs.MonomialIdealLaws.{open_where_monomial, monomial_where_open}
-use Rattle.gf_initial_theory.proofs.FlipLaws.{side_of_inside, along_negated, adjacent_unique, adjacent_turned, adjacent_back, part_facts, lifted_all, lifted_tops, crossed, both_sides}
+use Rattle.gf_initial_theory.proofs.FlipLaws.{side_of_inside, along_negated, adjacent_unique, adjacent_turned, adjacent_back, part_facts, lifted_all}
+use Rattle.gf_initial_theory.proofs.FlipLaws.{lifted_tops, crossed, both_sides}
 use Rattle.gf_initial_theory.proofs.NeighbourLaws.{neighbour_exists}
 use Rattle.gf_initial_theory.proofs.CrossingLaws.{parts_of_neighbours}
 

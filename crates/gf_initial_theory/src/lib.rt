@@ -4,7 +4,8 @@
 //! is a theorem, so that the check proves it.
 #![tactic(auto)]
 
-ghost use Rattle.gf_initial_theory.specs.Laws.{InitialFormsOfBases, PartsAreInitialForms, MonomialIdealsAreOfBases, NeighboursExist, NeighboursAreUnique, NeighboursHaveParts, FlipsGiveNeighbours};
+ghost use Rattle.gf_initial_theory.specs.Laws.{InitialFormsOfBases, PartsAreInitialForms, MonomialIdealsAreOfBases, NeighboursExist, NeighboursAreUnique};
+ghost use Rattle.gf_initial_theory.specs.Laws.{NeighboursHaveParts, FlipsGiveNeighbours};
 
 /// In the closed cone of a marked reduced Gröbner basis the initial forms of its members are the marked reduced basis of
 /// the initial ideal (Sturmfels, *Gröbner Bases and Convex Polytopes*, 1 and 2).

@@ -1,12 +1,14 @@
 -- The theorems of specs/Laws.antt.
 use Rattle.gf_gordan.specs.Alternative.{GordansAlternative}
-use Rattle.gf_patterns_theory.specs.Laws.{MeetsAreRefinements, ConesHaveInteriors, FacesOfFacesAreFaces, MaximalConesSuffice, PatternsAreOfInitialForms, PatternsHaveCones, VerticesSuffice, PatternsAreRefined, VectorsAreInOneCone}
+use Rattle.gf_patterns_theory.specs.Laws.{MeetsAreRefinements, ConesHaveInteriors, FacesOfFacesAreFaces, MaximalConesSuffice, PatternsAreOfInitialForms}
+use Rattle.gf_patterns_theory.specs.Laws.{PatternsHaveCones, VerticesSuffice, PatternsAreRefined, VectorsAreInOneCone}
 use Rattle.gf_patterns_theory.specs.Patterns.{IsAnywhere, IsOnPrevariety}
 use Rattle.gf_patterns_theory.proofs.RefinementLaws.{meets_fan, meets_width, meets_refine}
 use Rattle.gf_patterns_theory.proofs.InnerLaws.{inner}
 use Rattle.gf_patterns_theory.proofs.InteriorLaws.{interior_relative}
 use Rattle.gf_patterns_theory.proofs.PatternLaws.{anywhere, on_prevariety, refined_patterns, own_alone}
-use Rattle.gf_patterns_theory.proofs.PatternFanLaws.{interiors, hypersurface_list, minkowski_list, all_singles, all_pairs, vertex_solvable, whole_prevariety, whole_minkowski}
+use Rattle.gf_patterns_theory.proofs.PatternFanLaws.{interiors, hypersurface_list, minkowski_list, all_singles, all_pairs, vertex_solvable, whole_prevariety}
+use Rattle.gf_patterns_theory.proofs.PatternFanLaws.{whole_minkowski}
 use Rattle.gf_patterns_theory.proofs.NestedFaces.{face_of_same, face_of_face}
 use Rattle.gf_patterns_theory.proofs.CoverLaws.{covered_same, patterns_same, refinement_same}
 use Rattle.gf_patterns_theory.proofs.FormLaws.{pattern_form}

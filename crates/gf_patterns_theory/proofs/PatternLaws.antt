@@ -13,7 +13,8 @@ use Rattle.gf_fans_theory.proofs.Meeting.{left_in, right_in}
 use Rattle.gf_fans_theory.proofs.FanLaws.{both_in}
 use Rattle.gf_patterns_theory.specs.Refinements.{IsCommonRefinement}
 use Rattle.gf_patterns_theory.specs.Interiors.{beyond, IsRelativeInterior, HaveInteriors, IsAloneAround}
-use Rattle.gf_patterns_theory.specs.Patterns.{IsHighest, ContainsPattern, ContainsPatterns, IsClosedCone, IsOnPrevariety, IsAnywhere, ArePatternCones, HavePoints}
+use Rattle.gf_patterns_theory.specs.Patterns.{IsHighest, ContainsPattern, ContainsPatterns, IsClosedCone, IsOnPrevariety, IsAnywhere, ArePatternCones}
+use Rattle.gf_patterns_theory.specs.Patterns.{HavePoints}
 use Rattle.gf_patterns_theory.proofs.MeetLaws.{same_refl}
 use Rattle.gf_patterns_theory.proofs.InteriorLaws.{beyond_vec, dot_beyond, bound_of, times_up}
 

@@ -5,7 +5,8 @@
 //! each one's contract is a theorem, so that the check proves it.
 #![tactic(auto)]
 
-ghost use Rattle.gf_patterns_theory.specs.Laws.{MeetsAreRefinements, ConesHaveInteriors, FacesOfFacesAreFaces, MaximalConesSuffice, PatternsAreOfInitialForms, PatternsHaveCones, VerticesSuffice, PatternsAreRefined, VectorsAreInOneCone};
+ghost use Rattle.gf_patterns_theory.specs.Laws.{MeetsAreRefinements, ConesHaveInteriors, FacesOfFacesAreFaces, MaximalConesSuffice};
+ghost use Rattle.gf_patterns_theory.specs.Laws.{PatternsAreOfInitialForms, PatternsHaveCones, VerticesSuffice, PatternsAreRefined, VectorsAreInOneCone};
 
 use gf_gordan::gordans_alternative;
 

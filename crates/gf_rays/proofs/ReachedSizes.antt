@@ -23,8 +23,10 @@ use Rattle.gf_gordan.specs.declared.error.ConeOverflow.{ConeOverflow}
 use Rattle.gf_duality_theory.specs.Combining.{IsMixStep, IsCombining, pair}
 use Rattle.gf_duality_theory.specs.Generators.{unit_vectors}
 use Rattle.gf_duality_theory.specs.Rays.{IsZeroOn}
-use Rattle.gf_duality_theory.specs.Elimination.{IsTurned, IsEliminated, begun as eliminated_begun, skipped, turned, IsEliminationStep, IsNormalised, IsNullSpace, IsNullStep, eliminating, reducing, columns}
-use Rattle.gf_duality_theory.specs.Straightening.{IsLeveled, IsStraightened, done as straight_done, next as straight_next, IsOrthogonalized, start, added, gone, IsOrthogonalizing}
+use Rattle.gf_duality_theory.specs.Elimination.{IsTurned, IsEliminated, begun as eliminated_begun, skipped, turned, IsEliminationStep, IsNormalised}
+use Rattle.gf_duality_theory.specs.Elimination.{IsNullSpace, IsNullStep, eliminating, reducing, columns}
+use Rattle.gf_duality_theory.specs.Straightening.{IsLeveled, IsStraightened, done as straight_done, next as straight_next, IsOrthogonalized, start, added}
+use Rattle.gf_duality_theory.specs.Straightening.{gone, IsOrthogonalizing}
 use Rattle.gf_duality_theory.proofs.ListLaws.{none_in, first_in, zip_from, of_rest, place, less, at, more}
 use Rattle.gf_duality_theory.proofs.Echelon.{turn_in}
 use Rattle.gf_rays.specs.declared.ray.Ray.{Ray}

@@ -16,7 +16,8 @@ use Rattle.gf_duality_theory.specs.Combining.{pair}
 use Rattle.gf_duality_theory.specs.Generators.{unit_vectors}
 use Rattle.gf_duality_theory.specs.Rays.{IsRays, IsZeroOn}
 use Rattle.gf_duality_theory.specs.Elimination.{IsEliminated, IsNormalised, IsNullSpace, IsNullStep, eliminating, reducing, with_values, columns}
-use Rattle.gf_duality_theory.specs.Straightening.{IsLeveled, IsStraightened, done as straight_done, next as straight_next, IsOrthogonalized, start, added, gone, IsStraightening, IsOrthogonalizing}
+use Rattle.gf_duality_theory.specs.Straightening.{IsLeveled, IsStraightened, done as straight_done, next as straight_next, IsOrthogonalized, start, added}
+use Rattle.gf_duality_theory.specs.Straightening.{gone, IsStraightening, IsOrthogonalizing}
 use Rattle.gf_duality_theory.proofs.ListLaws.{none_in, first_in, zip_from, place, less, at, more}
 use Rattle.gf_duality_theory.proofs.Orthogonal.{basis as orthogonal_basis, straightened, head_in}
 use Rattle.gf_fans_theory.proofs.PartNumbers.{of_map}

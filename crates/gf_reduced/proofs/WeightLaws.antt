@@ -23,7 +23,8 @@ use Rattle.gf_facets_theory.specs.Regions.{IsInRegion}
 use Rattle.gf_facets_theory.specs.Facets.{IsInOpenCone}
 use Rattle.gf_facets_theory.specs.MarkedBases.{AreCanonical}
 use Rattle.gf_facets_theory.proofs.ConeLaws.{rows_open, open_by_rows}
-use Rattle.gf_facets_theory.proofs.SystemLaws.{region_rows_wide, rows_of_region, region_of_rows, canonical_all, marked_system_wide, whole_of, whole-in_region, open_of_weight, realisable_of_solution}
+use Rattle.gf_facets_theory.proofs.SystemLaws.{region_rows_wide, rows_of_region, region_of_rows, canonical_all, marked_system_wide, whole_of, whole-in_region}
+use Rattle.gf_facets_theory.proofs.SystemLaws.{open_of_weight, realisable_of_solution}
 use Rattle.gf_reduced.specs.Markings.{GivesMarks, IsInconsistent, IsWeightAnswer, IsMarkingStep, cut_by, system_beside, IsRealisableBeside, IsInconsistentBeside, IsAnswerBeside, IsStepBeside}
 use Rattle.gf_reduced.specs.Refusals.{check_of_gordan, IsSetWeightRefusal, IsWeightRefusalBeside}
 use Rattle.gf_reduced.specs.declared.error.CheckError.{CheckError}

@@ -16,7 +16,8 @@ use Rattle.gf_facets_theory.proofs.NormalLaws.{normal-nonzero}
 use Rattle.gf_facets_theory.proofs.SystemLaws.{open_of_marks}
 use Rattle.gf_initial_theory.proofs.CrossingLaws.{parts_of_neighbours}
 use Rattle.gf_reverse_theory.specs.Upward.{IsParentIn, fan_of, IsNode, IsParent}
-use Rattle.gf_reverse_theory.specs.Laws.{NegativeNormalsCanBeCrossed, RootHasNoWayUp, CrossingsFall, NoCycles, BasesMakeATree, TheTreeIsFinite, BasesHavePaths, IdealsHaveOneList, WhatIsLeft}
+use Rattle.gf_reverse_theory.specs.Laws.{NegativeNormalsCanBeCrossed, RootHasNoWayUp, CrossingsFall, NoCycles, BasesMakeATree, TheTreeIsFinite}
+use Rattle.gf_reverse_theory.specs.Laws.{BasesHavePaths, IdealsHaveOneList, WhatIsLeft}
 use Rattle.gf_reverse_theory.proofs.StepsLaws.{below_by_negative}
 use Rattle.gf_reverse_theory.proofs.CrossingLaws.{Enters, IsPulledOut, something_enters, what_enters_pulls}
 use Rattle.gf_reverse_theory.proofs.RootwardLaws.{root_weight, weight_everywhere, negative_gives_flippable}

@@ -18,7 +18,8 @@ use Rattle.gf_reverse_theory.specs.Upward.{IsWayUp, Fan, IsFanOfIdeal, IsNodeIn,
 use Rattle.gf_bases_theory.proofs.LawsHold.{only_ideals_count}
 use Rattle.gf_facets_theory.proofs.VectorOrder.{before_strict}
 use Rattle.gf_reverse_theory.proofs.UpwardLaws.{parents_tree, parent_nodes}
-use Rattle.gf_reverse_theory.proofs.FanLaws.{bases_of, rank_in, parents_fall, parents_climb, roots_one, node_list, basis_listed, listed_basis, node_listed, listed_node, basis_below}
+use Rattle.gf_reverse_theory.proofs.FanLaws.{bases_of, rank_in, parents_fall, parents_climb, roots_one, node_list, basis_listed, listed_basis, node_listed}
+use Rattle.gf_reverse_theory.proofs.FanLaws.{listed_node, basis_below}
 
 -- ---- one ideal by other generators
 pub record SameFan (F G : Fan) : Type 0 where

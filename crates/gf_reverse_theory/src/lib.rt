@@ -5,7 +5,8 @@
 #![tactic(auto)]
 
 ghost use Rattle.gf_reverse_theory.specs.TermOrders.{TermOrdersHaveBases};
-ghost use Rattle.gf_reverse_theory.specs.Laws.{BasesAreListed, WeightsAreListed, NegativeNormalsCanBeCrossed, RootHasNoWayUp, CrossingsFall, NoCycles, BasesMakeATree, TheTreeIsFinite, BasesHavePaths, IdealsHaveOneList, WhatIsLeft};
+ghost use Rattle.gf_reverse_theory.specs.Laws.{BasesAreListed, WeightsAreListed, NegativeNormalsCanBeCrossed, RootHasNoWayUp, CrossingsFall, NoCycles};
+ghost use Rattle.gf_reverse_theory.specs.Laws.{BasesMakeATree, TheTreeIsFinite, BasesHavePaths, IdealsHaveOneList, WhatIsLeft};
 
 /// The list of all bases holds exactly the marked reduced Gröbner bases of the ideal in the region (Mora, Robbiano 1988).
 pub fn bases_are_listed()

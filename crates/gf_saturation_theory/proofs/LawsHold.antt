@@ -7,10 +7,13 @@ use Rattle.gf_poly.specs.Marking.{MarkedPolynomial}
 use Rattle.gf_ideal_theory.specs.Membership.{AreInVariables, IsMember}
 use Rattle.gf_ideal_theory.specs.Bases.{IsBasis, IsReducedBasisFor}
 use Rattle.gf_saturation_theory.specs.Saturations.{IsSaturatedBy, AreExtended, last_weight, AreLeftOver}
-use Rattle.gf_saturation_theory.specs.Laws.{SaturationsAreEliminations, SaturationsCompose, VariablesOneByOne, BasesEliminate, SaturationsAreWorkedOut, MonomialsAreTold}
-use Rattle.gf_saturation_theory.proofs.SaturationLaws.{extended_variables, variables_of_saturated, extended_of_saturated, saturated_of_extended, saturated_twice, saturated_same, saturated_product}
+use Rattle.gf_saturation_theory.specs.Laws.{SaturationsAreEliminations, SaturationsCompose, VariablesOneByOne, BasesEliminate, SaturationsAreWorkedOut}
+use Rattle.gf_saturation_theory.specs.Laws.{MonomialsAreTold}
+use Rattle.gf_saturation_theory.proofs.SaturationLaws.{extended_variables, variables_of_saturated, extended_of_saturated, saturated_of_extended}
+use Rattle.gf_saturation_theory.proofs.SaturationLaws.{saturated_twice, saturated_same, saturated_product}
 use Rattle.gf_saturation_theory.proofs.OneByOneLaws.{saturated_none, saturated_next, saturated_all}
-use Rattle.gf_saturation_theory.proofs.EliminationLaws.{free_by_head, bound_by_head, left_over_variables, member_of_left_over, left_over_of_member, deglex_basis, member_of_basis, basis_of_member}
+use Rattle.gf_saturation_theory.proofs.EliminationLaws.{free_by_head, bound_by_head, left_over_variables, member_of_left_over, left_over_of_member}
+use Rattle.gf_saturation_theory.proofs.EliminationLaws.{deglex_basis, member_of_basis, basis_of_member}
 use Rattle.gf_saturation_theory.proofs.OneTermLaws.{saturated_one, one_term_of_saturated, one_by_mark, mark_of_one}
 
 pub saturations_are_eliminations : SaturationsAreEliminations

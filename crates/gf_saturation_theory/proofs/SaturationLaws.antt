@@ -6,7 +6,8 @@ use Rattle.std.proofs.Common.{◌≡◌, ◌⊎◌, ◌↔◌, ℕ, zero, suc, �
 use Rattle.gf_frac.specs.Fraction.{Fraction, ◌+ℚ◌, ◌*ℚ◌, neg_ℚ, zero_ℚ, one_ℚ}
 use Rattle.gf_frac.proofs.FractionLaws.{+ℚ-zero, zero-+ℚ, *ℚ_comm, one-*ℚ, +ℚ-neg_ℚ, +ℚ-middle}
 use Rattle.gf_exponents_theory.specs.Exponents.{Exponents, entry, same, plus, IsInRing}
-use Rattle.gf_exponents_theory.proofs.ExponentsLaws.{same-sym, same_along, same_flip, same_shift_right, same_by_entries, entries_same, entry-plus, plus-nil, plus_assoc, plus_comm}
+use Rattle.gf_exponents_theory.proofs.ExponentsLaws.{same-sym, same_along, same_flip, same_shift_right, same_by_entries, entries_same, entry-plus, plus-nil}
+use Rattle.gf_exponents_theory.proofs.ExponentsLaws.{plus_assoc, plus_comm}
 use Rattle.gf_poly.specs.declared.Term.{Term}
 use Rattle.gf_poly.specs.Polynomial.{Terms, coefficient, SamePolynomial, times}
 use Rattle.gf_poly.proofs.PolynomialLaws.{coefficient-++, coefficient-times, SamePolynomial-times, times-plain}
@@ -15,9 +16,11 @@ use Rattle.gf_ideal_theory.proofs.Identities.{neg_one, turned}
 use Rattle.gf_ideal_theory.proofs.RingLaws.{ring-along, ring-plus}
 use Rattle.gf_ideal_theory.proofs.ListedTerms.{by_terms}
 use Rattle.gf_ideal_theory.proofs.SpanLaws.{Spans-equal, Spans-zero, Spans-generator, Spans-++, Spans-times, Spans-difference, Spans-trans}
-use Rattle.gf_ideal_theory.proofs.MembershipLaws.{variables-times, variables-equal, variables_of_member, spans_of_member, member_of_spans, member-equal, member-times}
+use Rattle.gf_ideal_theory.proofs.MembershipLaws.{variables-times, variables-equal, variables_of_member, spans_of_member, member_of_spans, member-equal}
+use Rattle.gf_ideal_theory.proofs.MembershipLaws.{member-times}
 use Rattle.gf_saturation_theory.specs.Saturations.{powered, product_power, IsSaturatedBy, IsSaturated, next_variable, rabinowitsch, AreExtended}
-use Rattle.gf_saturation_theory.proofs.SubstitutionLaws.{mapped, mapped-++, mapped_same, cut, inverted, inverted-keeps, inverted_multiple, inverted_trick, ring-powered, ring-next}
+use Rattle.gf_saturation_theory.proofs.SubstitutionLaws.{mapped, mapped-++, mapped_same, cut, inverted, inverted-keeps, inverted_multiple, inverted_trick}
+use Rattle.gf_saturation_theory.proofs.SubstitutionLaws.{ring-powered, ring-next}
 use Rattle.gf_poly.proofs.MergeLaws.{swap_first}
 use Rattle.gf_ideal_theory.proofs.SettledLaws.{twice}
 

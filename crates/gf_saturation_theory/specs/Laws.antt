@@ -7,7 +7,8 @@ use Rattle.gf_poly.specs.Marking.{MarkedPolynomial, polys}
 use Rattle.gf_ideal_theory.specs.Membership.{IsInVariables, AreInVariables, IsMember}
 use Rattle.gf_ideal_theory.specs.Marks.{IsMarked}
 use Rattle.gf_ideal_theory.specs.Bases.{IsReducedBasisFor}
-use Rattle.gf_saturation_theory.specs.Saturations.{IsSaturatedBy, IsSaturated, product_power, AreExtended, next_variable, last_weight, AreLeftOver, HasOneTermMember, one_polynomial}
+use Rattle.gf_saturation_theory.specs.Saturations.{IsSaturatedBy, IsSaturated, product_power, AreExtended, next_variable, last_weight, AreLeftOver}
+use Rattle.gf_saturation_theory.specs.Saturations.{HasOneTermMember, one_polynomial}
 
 -- a polynomial in n variables is in the ideal of the extended list exactly where it is in the saturation by u
 pub record SaturationsAreEliminations : Type 0 where

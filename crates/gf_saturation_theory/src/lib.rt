@@ -5,7 +5,8 @@
 //! is a theorem, so that the check proves it.
 #![tactic(auto)]
 
-ghost use Rattle.gf_saturation_theory.specs.Laws.{SaturationsAreEliminations, SaturationsCompose, VariablesOneByOne, BasesEliminate, SaturationsAreWorkedOut, MonomialsAreTold};
+ghost use Rattle.gf_saturation_theory.specs.Laws.{SaturationsAreEliminations, SaturationsCompose, VariablesOneByOne, BasesEliminate, SaturationsAreWorkedOut};
+ghost use Rattle.gf_saturation_theory.specs.Laws.{MonomialsAreTold};
 
 /// Rabinowitsch's trick for any monomial u: with `u*t - 1` and one more variable t among the generators, what the ideal has
 /// without t is the saturation by u (Cox, Little, O'Shea, *Ideals, Varieties, and Algorithms*, 4.4).

@@ -17,8 +17,10 @@ use Rattle.gf_fan_files.specs.Lines.{Section, sections, content_tokens, end_befo
 use Rattle.gf_fan_files.specs.RowText.{AreRowTexts}
 use Rattle.gf_fan_files.specs.ConeText.{AreConeTexts}
 use Rattle.gf_fan_files.specs.NumberText.{IsOneNumberText}
-use Rattle.gf_fan_files.specs.FanText.{ContentKind, number_to, rows, cones, any, told_version, kind_in, Table, told_table, IsFaultOf, IsContentFault, IsFirstFault, first_missing, wanted}
-use Rattle.gf_fan_files.specs.Files.{IsOfLimits, interior_rows, IsFormFault, zero_dimension, at_rays, at_lineality, at_interiors, at_ray, at_number, IsFileRefused, in_text, bad_version, not_there, in_form, no_memory}
+use Rattle.gf_fan_files.specs.FanText.{ContentKind, number_to, rows, cones, any, told_version, kind_in, Table, told_table, IsFaultOf, IsContentFault}
+use Rattle.gf_fan_files.specs.FanText.{IsFirstFault, first_missing, wanted}
+use Rattle.gf_fan_files.specs.Files.{IsOfLimits, interior_rows, IsFormFault, zero_dimension, at_rays, at_lineality, at_interiors, at_ray, at_number}
+use Rattle.gf_fan_files.specs.Files.{IsFileRefused, in_text, bad_version, not_there, in_form, no_memory}
 use Rattle.gf_fan_files.specs.Certificates.{IsCertificateFault, other_count, at_row, too_wide}
 use Rattle.gf_fan_files.specs.FilesFans.{IsFanOfText, refusal_of_fan, IsFanFault, in_cone, in_certificate, in_fan, IsFanFileRefusal, before_cones, behind_form}
 use Rattle.gf_fan_files.proofs.FanTextLaws.{text_sound}

@@ -53,7 +53,8 @@ use Rattle.gf_ideal_theory.proofs.LawsOfBasesHold.{buchbergers_criterion, pairs_
 use Rattle.gf_ideal_theory.proofs.MarkWeights.{mark-there}
 use Rattle.gf_ideal_theory.proofs.MembershipLaws.{member-generator, variables_of_member}
 use Rattle.gf_ideal_theory.proofs.PieceLaws.{Contains-marked, Contains-polys}
-use Rattle.gf_ideal_theory.proofs.StepLaws.{IsClosed, IsWithin, reached-one, multiple_within, sum_within, taken, monic-monomials, member-reached, member-s_polynomial}
+use Rattle.gf_ideal_theory.proofs.StepLaws.{IsClosed, IsWithin, reached-one, multiple_within, sum_within, taken, monic-monomials, member-reached}
+use Rattle.gf_ideal_theory.proofs.StepLaws.{member-s_polynomial}
 use Rattle.gf_ideal_theory.proofs.WorkLaws.{work-marked, work-members}
 use Rattle.gf_buchberger.specs.Pairs.{pairs_below}
 use Rattle.gf_binomials_theory.proofs.PrincipalRuns.{form_to}

@@ -1,6 +1,7 @@
 use Rattle.std.proofs.Common.{◌≡◌, ◌∷◌, [], ◌++◌, codes, length, map, None, ap, ◌∙◌, List, ℕ, ℤ, Bool}
 use Rattle.gf_fan_files.specs.FanText.{maximal_cones, maximal_interiors}
-use Rattle.gf_fan_files.specs.FanWords.{section, spaced_entries, number_lines, f_vector, truth_line, is_simplicial, is_pure, cone_lines, TextSection, FanWords, section_text, back_sections, sections_text}
+use Rattle.gf_fan_files.specs.FanWords.{section, spaced_entries, number_lines, f_vector, truth_line, is_simplicial, is_pure, cone_lines, TextSection}
+use Rattle.gf_fan_files.specs.FanWords.{FanWords, section_text, back_sections, sections_text}
 use Rattle.gf_fan_files.proofs.FanWordsLaws.{none_yet, one_more}
 use Rattle.gf_fan_files.proofs.writer.push_back.Goals as goal
 

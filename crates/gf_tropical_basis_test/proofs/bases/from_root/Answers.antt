@@ -8,7 +8,8 @@ use Rattle.gf_tree.specs.Walks.{walk_at}
 use Rattle.gf_tree.specs.Steps.{IsAdvance, IsStepTo, IsEnd}
 use Rattle.gf_tropical_basis_test.specs.Verdicts.{HasBasisOutcome, maximal_rows}
 use Rattle.gf_tropical_basis_test.specs.Refusals.{AreBasesRefused, IsRefusedWithBasis}
-use Rattle.gf_tropical_basis_test.proofs.WalkLaws.{PassedSoFar, passed_none, passed_more, step_variables, all_passed, one_failed, reached_refused, search_refused}
+use Rattle.gf_tropical_basis_test.proofs.WalkLaws.{PassedSoFar, passed_none, passed_more, step_variables, all_passed, one_failed, reached_refused}
+use Rattle.gf_tropical_basis_test.proofs.WalkLaws.{search_refused}
 use Rattle.gf_tropical_basis_test.proofs.bases.from_root.Goals as goal
 
 pub loop-walker-init : goal.loop-walker-init
