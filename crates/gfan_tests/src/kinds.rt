@@ -1,7 +1,8 @@
-//! Rows of some kinds: without words, with a long input, whose report is one of several or only begins as the row says, and sessions.
-use crate::rows::Row;
+//! Rows of some kinds: without words, over bytes in memory, with a long input, whose report is one of several or only begins as the row says, and sessions.
+use crate::rows::{Call, Row};
 use crate::runs::{Devices, Ending, PIECES, Runner, is_report_begun};
 use gf_waves::FreeGate;
+use gfan_on_bytes::run_on_bytes;
 use std::alloc::{AllocError, Global};
 use std::thread::Threads;
 
@@ -57,6 +58,25 @@ impl<'r, R: Threads + Sync> Runner<'r, R> {
     pub fn is_wordless(&self, mut row: Row) -> Result<bool, AllocError> {
         row.call.words.clear();
         self.tells(&row, PIECES, &row.told)
+    }
+
+    /// Whether the run of a row over bytes in memory, by `run_on_bytes`, ends as the row says.
+    ///
+    /// # Errors
+    ///
+    /// `AllocError` if memory runs out for what the run is called with. Want of memory in the run is one of its ends.
+    pub fn is_right_on_bytes(&self, row: &Row) -> Result<bool, AllocError> {
+        let Call {
+            words,
+            input,
+            files,
+        } = row.call.copied(self.alloc)?;
+        let end = run_on_bytes(self.rt, self.alloc, &words, input, files);
+        Ok(
+            end.status.code() == row.code
+                && end.output.bytes() == row.written.as_slice()
+                && end.errors.bytes() == row.told.as_slice(),
+        )
     }
 
     /// Whether the run of a row over its input so many times ends as the row says.

@@ -29,6 +29,7 @@ fn is_right<R: Threads + Sync>(runner: &Runner<'_, R>, line: &str) -> Result<boo
             runner.is_session_right(&row, rest, &left)
         }
         ("no-words", "") => runner.is_wordless(row),
+        ("bytes", "") => runner.is_right_on_bytes(&row),
         ("times", "") => runner.is_right_at_length(&row, rest),
         ("one-of", "") => runner.tells_one_of(&row),
         ("begins", "") => runner.begins_right(&row),
