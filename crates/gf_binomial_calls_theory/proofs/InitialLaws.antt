@@ -1,6 +1,6 @@
 -- Initial forms of differences of two monomials, by whole weights of any sign: such differences again.
 -- To cite: initial_binomial, initial_monomial, forms_at_binomials, forms_at_variables. The rest are steps.
-use Rattle.std.proofs.Common.{if◌then◌else◌, ◌≡◌, ◌⊎◌, ℕ, true, List, Contains, ℤ, ◌<ℤ◌, ◌≤ℤ◌, Option, Some, None, arith, refl, sym, ap, subst, inl, inr}
+use Rattle.std.proofs.Common.{◌≡◌, ◌⊎◌, ℕ, true, List, Contains, ℤ, ◌<ℤ◌, ◌≤ℤ◌, Option, Some, None, arith, refl, sym, ap, subst, inl, inr}
 use Rattle.std.proofs.lemmas.Int.{ints}
 use Rattle.gf_frac.specs.Fraction.{neg_ℚ, zero_ℚ, one_ℚ}
 use Rattle.gf_frac.proofs.FractionLaws.{zero_or_not}

@@ -9,5 +9,6 @@ pub mod ServedLaws  -- what the answer of `_bases` has
 pub mod SourceLaws  -- what a job is handed, from the texts of its sources
 pub mod RunLaws  -- the ring in whose names a refusal of a run is told, and the limit of a list
 pub mod PlainReadLaws  -- what is read of monomials and differences of two, written without numbers
+pub mod PlainTexts  -- texts that are written so
 pub mod PlainToolLaws  -- what saturations, cones and tests do with them
 pub mod PlainInputLaws  -- where no coefficient leaves its range

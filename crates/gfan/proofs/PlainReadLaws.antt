@@ -1,9 +1,9 @@
 -- What is read where each polynomial is written as a monomial or as the difference of two, without numbers: sets of such binomials, and no sum of like
 -- terms leaves the range.
 -- To cite: tells_text, no_weight, basis_never, tree_never, check_never, poly_never; set_binomials, marked_binomials, sum_never, set_text_never,
--- marked_text_never; one_input.
+-- marked_text_never.
 use Rattle.std.specs.Prelude.{◌≡◌, ℕ, Bool, true, false, List, [], ◌∷◌, length, map, Contains}
-use Rattle.std.proofs.Common.{arith, refl, sym, ap, ◌∙◌, subst, inl, inr}
+use Rattle.std.proofs.Common.{refl, sym, ap, ◌∙◌, subst}
 use Rattle.gf_frac.specs.declared.refusal.Overflow.{Overflow}
 use Rattle.gf_exponents_theory.specs.SixOrders.{MonomialOrder}
 use Rattle.gf_exponents_theory.proofs.ExponentsLaws.{same_lists, entries_same}
@@ -20,7 +20,7 @@ use Rattle.gf_text.specs.declared.tree.WrittenTerm.{WrittenTerm}
 use Rattle.gf_text.specs.declared.written.Written.{Written}
 use Rattle.gf_text.specs.declared.written.Written.TheVariants as written
 use Rattle.gf_text.specs.Machine.{Reads}
-use Rattle.gf_text.specs.Tokens.{Position, lexemes, ring_more, lex_tokens}
+use Rattle.gf_text.specs.Tokens.{Position, lexemes, ring_more}
 use Rattle.gf_text.specs.Rings.{IsRingRead}
 use Rattle.gf_text.specs.SetText.{IsSetText}
 use Rattle.gf_text.specs.Combining.{SumsHaveVariables, IsSumMarked}
@@ -181,63 +181,3 @@ module _ (source : List ℕ) (b : BeginsPlainly source) where
   marked_text_never o (IsTextRefused.in_items (IsOneRefused.at_first h)) = h
   marked_text_never o (IsTextRefused.in_items (IsOneRefused.at_second behind ring r h)) = sum_never behind ring o r h
   marked_text_never o (IsTextRefused.behind_items end a s r m q) = cc
-
--- ---- an input that is written so
-
--- Q[a,b]{a-b}
-abbrev an_input : List ℕ
-an_input = 81 ∷ 91 ∷ 97 ∷ 44 ∷ 98 ∷ 93 ∷ 123 ∷ 97 ∷ 45 ∷ 98 ∷ 125 ∷ []
-
-abbrev two_names : List (List ℕ)
-two_names = (97 ∷ []) ∷ (98 ∷ []) ∷ []
-
-abbrev term_of : Bool → ℕ → WrittenTerm
-term_of minus variable = record { minus = minus; numer = 1; denom = 1; factors = record { variable = variable; exponent = 1 } ∷ [] }
-
-its_ring : IsRingRead (from an_input 0) 6 two_names
-unfolding lex_tokens
-its_ring = record {
-  text = record {
-    front = record { text = 81 ∷ []; at = 0 } ∷ record { text = 91 ∷ []; at = 1 } ∷ record { text = 97 ∷ []; at = 2 } ∷ record { text = 44 ∷ []; at = 3 } ∷ record { text = 98 ∷ []; at = 4 } ∷ record { text = 93 ∷ []; at = 5 } ∷ [];
-    back = record { text = 123 ∷ []; at = 6 } ∷ record { text = 97 ∷ []; at = 7 } ∷ record { text = 45 ∷ []; at = 8 } ∷ record { text = 98 ∷ []; at = 9 } ∷ record { text = 125 ∷ []; at = 10 } ∷ [];
-    whole = refl;
-    text = record { tokens = refl; some = omega arith; different = (refl, refl, (refl, refl, tt)) };
-    end = refl;
-  };
-  ring = record { some = omega arith; few = omega arith; different = (refl, refl, (refl, refl, tt)) };
-}
-
-its_set : Reads (IsSetText two_names) (lexemes (ring_more two_names) an_input 6) ((term_of false 0 ∷ term_of true 1 ∷ []) ∷ []) 11
-unfolding lex_tokens
-its_set = record {
-  front = record { text = 123 ∷ []; at = 6 } ∷ record { text = 97 ∷ []; at = 7 } ∷ record { text = 45 ∷ []; at = 8 } ∷ record { text = 98 ∷ []; at = 9 } ∷ record { text = 125 ∷ []; at = 10 } ∷ [];
-  back = [];
-  whole = refl;
-  text = (
-    (97 ∷ []) ∷ (45 ∷ []) ∷ (98 ∷ []) ∷ [],
-    [],
-    refl,
-    (
-      [],
-      (97 ∷ []) ∷ [],
-      (45 ∷ []) ∷ (98 ∷ []) ∷ [],
-      refl,
-      inr (refl, refl),
-      inr (refl, refl, ((97 ∷ []) ∷ [], [], refl, (97 ∷ [], refl, inl (refl, refl)), refl)),
-      ((98 ∷ []) ∷ [], [], refl, inr (refl, refl, ((98 ∷ []) ∷ [], [], refl, (98 ∷ [], refl, inl (refl, refl)), refl)), refl),
-    ),
-    refl,
-  );
-  end = refl;
-}
-
-pub one_input : BeginsPlainly an_input
-one_input = record {
-  ring = two_names;
-  behind = 6;
-  is_ring = its_ring;
-  said = (term_of false 0 ∷ term_of true 1 ∷ []) ∷ [];
-  place = 11;
-  is_set = its_set;
-  plain = ((record { numerator = refl; denominator = refl }, record { numerator = refl; denominator = refl }, λ e. cc), tt);
-}
