@@ -13,6 +13,7 @@ pub mod SettleLaws  -- all pairs of a run
 pub mod GeneratorsOfRuns  -- generators that enter a run
 pub mod InterreductionOfRuns  -- the end of a run, autoreduced
 pub mod RefusalsOfRuns  -- refusals are operations of the run
+pub mod RuledLaws  -- runs by the rule of the program
 pub mod BasesOfRuns  -- where a run ends
 pub mod MonomialRuns  -- the runs on one monomial
 pub mod HomogeneityLaws  -- the first term of another degree

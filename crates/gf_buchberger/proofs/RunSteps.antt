@@ -25,6 +25,7 @@ use Rattle.gf_ideal_theory.proofs.StepLaws.{reached-more}
 use Rattle.gf_ideal_theory.proofs.WorkLaws.{work-marked}
 use Rattle.gf_ideal_theory.proofs.DividingLaws.{member_contained}
 use Rattle.gf_division.proofs.ReducerLaws.{members_equal}
+use Rattle.gf_buchberger.specs.declared.queue.Strategy.{Strategy}
 use Rattle.gf_buchberger.specs.declared.queue.Waiting.{Waiting}
 use Rattle.gf_buchberger.specs.Pairs.{PairMarks, is_settled, with_settled, with_member}
 use Rattle.gf_buchberger.specs.Runs.{MembersHaveVariables, AreComparable, IsJoinable, State, with_pair, IsWaiting, IsState, IsRun, PairsPushed, IsAppended, CountsAsSettled, IsExcused, IsReducedPair}
@@ -35,11 +36,12 @@ use Rattle.gf_buchberger.proofs.CoveredLaws.{covered_longer}
 
 -- ---- states
 
-pub state_eq : (s t : State) → s.members ≡ t.members → s.table ≡ t.table → s.queue ≡ t.queue → s ≡ t
-state_eq s t em et eq =
-    ap (λ (m : List MarkedPolynomial). let r : State = record { members = m; table = s.table; queue = s.queue } in r) em
-    ∙ ap (λ (m : PairMarks). let r : State = record { members = t.members; table = m; queue = s.queue } in r) et
-    ∙ ap (λ (q : List Waiting). let r : State = record { members = t.members; table = t.table; queue = q } in r) eq
+pub state_eq : (s t : State) → s.members ≡ t.members → s.table ≡ t.table → s.queue ≡ t.queue → s.strategy ≡ t.strategy → s ≡ t
+state_eq s t em et eq es =
+    ap (λ (m : List MarkedPolynomial). let r : State = record { members = m; table = s.table; queue = s.queue; strategy = s.strategy } in r) em
+    ∙ ap (λ (m : PairMarks). let r : State = record { members = t.members; table = m; queue = s.queue; strategy = s.strategy } in r) et
+    ∙ ap (λ (q : List Waiting). let r : State = record { members = t.members; table = t.table; queue = q; strategy = s.strategy } in r) eq
+    ∙ ap (λ (k : Strategy). let r : State = record { members = t.members; table = t.table; queue = t.queue; strategy = k } in r) es
 
 pub in_variables : (n : ℕ) (bs : List MarkedPolynomial) → MembersHaveVariables n bs → AreInVariables n (polys bs)
 in_variables n bs v f c = let m = Contains-marked bs f c in subst (IsInVariables n) m.2 (variables_by_terms n m.0.poly (v.polys m.0 m.1))
@@ -94,8 +96,10 @@ excused_pair order n fs s i j b c r (inr (inr (k, h))) x y = at (member_at s.mem
 
 -- ---- a new member
 
-appended-waiting : (order : MonomialOrder) (n : ℕ) (fs : List Terms) (old : State) (b : MarkedPolynomial) (queue : List Waiting) (i j : ℕ) → IsRun order n fs old → PairsPushed (old.members ++ b ∷ []) old.queue queue (length old.members) (length old.members) → i < j → j < suc (length old.members) → (is_settled (with_member old.table) i j ≡ true) ⊎ IsWaiting queue i j ⊎ IsCovered (old.members ++ b ∷ []) i j
-appended-waiting order n fs old b queue i j r p l m = at (cases_lt j (length old.members))
+appended-waiting : (order : MonomialOrder) (n : ℕ) (fs : List Terms) (old : State) (b : MarkedPolynomial) (strategy : Strategy) (queue : List Waiting) (i j : ℕ) →
+    IsRun order n fs old → PairsPushed strategy order (old.members ++ b ∷ []) old.queue queue (length old.members) (length old.members) → i < j →
+    j < suc (length old.members) → (is_settled (with_member old.table) i j ≡ true) ⊎ IsWaiting queue i j ⊎ IsCovered (old.members ++ b ∷ []) i j
+appended-waiting order n fs old b strategy queue i j r p l m = at (cases_lt j (length old.members))
   where
     before : j < length old.members → (is_settled old.table i j ≡ true) ⊎ IsWaiting old.queue i j ⊎ IsCovered old.members i j → (is_settled (with_member old.table) i j ≡ true) ⊎ IsWaiting queue i j ⊎ IsCovered (old.members ++ b ∷ []) i j
     before k (inl e) = inl (settled-member_old old.table i j r.state.table l (omega (arith, r.state.size)) ∙ e)
@@ -136,8 +140,10 @@ pub joined_comparable : (order : MonomialOrder) (b : MarkedPolynomial) (bs cs : 
     AreComparable order cs
 joined_comparable order b bs cs e j = subst (AreComparable order) (sym e) (record { n = j.n; each = appended-variables j.n bs b j.members j.head j.poly; entries = j.entries })
 
-appended-valid : (old : State) (d : MarkedPolynomial) (queue : List Waiting) (w : Waiting) → IsState old → PairsPushed (old.members ++ d ∷ []) old.queue queue (length old.members) (length old.members) → Contains queue w → (w.first < w.second) × (w.second < length (old.members ++ d ∷ []))
-appended-valid old d queue w s p c = at (p.only w c)
+appended-valid : (strategy : Strategy) (order : MonomialOrder) (old : State) (d : MarkedPolynomial) (queue : List Waiting) (w : Waiting) → IsState old →
+    PairsPushed strategy order (old.members ++ d ∷ []) old.queue queue (length old.members) (length old.members) → Contains queue w → (w.first < w.second) ×
+    (w.second < length (old.members ++ d ∷ []))
+appended-valid strategy order old d queue w s p c = at (p.only w c)
   where
     at : Contains old.queue w ⊎ ((w.first < length old.members) × (w.second ≡ length old.members)) → (w.first < w.second) × (w.second < length (old.members ++ d ∷ []))
     at (inl k) = let v = s.valid w k in (v.0, omega (arith, v.1, length-last old.members d))
@@ -145,16 +151,22 @@ appended-valid old d queue w s p c = at (p.only w c)
 
 -- what is left of an origin, appended
 pub run-appended : (order : MonomialOrder) (n : ℕ) (fs : List Terms) (old new : State) (f r : Terms) → IsRun order n fs old → IsOrigin fs old.members f → Reached (Contains old.members) f r → IsIrreducible (Contains old.members) r → HasVariables n r → IsAppended order r old new → IsRun order n fs new
-run-appended order n fs old new f r run origin steps irreducible v a = subst (IsRun order n fs) (sym (state_eq new (record { members = old.members ++ a.member ∷ []; table = with_member old.table; queue = new.queue }) a.members a.table refl)) (record {
-  work = IsWorkList.more old.members f r a.member run.work origin steps a.monic a.marked (λ d. irreducible a.member.head a.monic.there d);
-  variables = appended-variables n old.members a.member run.variables (a.head n v) (a.poly n v);
-  state = record { table = IsPairTable-member old.table run.state.table; size = ap suc run.state.size ∙ sym (length-last old.members a.member); valid = λ w c. appended-valid old a.member new.queue w run.state pairs c };
-  settled = λ i j b c l x y e. appended-settled order n fs old a.member i j b c run l x y e;
-  waiting = λ i j l m. appended-waiting order n fs old a.member new.queue i j run pairs l (omega (arith, m, length-last old.members a.member));
-})
+run-appended order n fs old new f r run origin steps irreducible v a =
+    subst (IsRun order n fs)
+    (sym (state_eq new (record { members = old.members ++ a.member ∷ []; table = with_member old.table; queue = new.queue; strategy = new.strategy }) a.members a.table refl refl))
+    (record {
+      work = IsWorkList.more old.members f r a.member run.work origin steps a.monic a.marked (λ d. irreducible a.member.head a.monic.there d);
+      variables = appended-variables n old.members a.member run.variables (a.head n v) (a.poly n v);
+      state =
+          record { table = IsPairTable-member old.table run.state.table; size = ap suc run.state.size ∙ sym (length-last old.members a.member); valid = λ w c. appended-valid new.strategy order old a.member new.queue w run.state pairs c };
+      settled = λ i j b c l x y e. appended-settled order n fs old a.member i j b c run l x y e;
+      waiting = λ i j l m. appended-waiting order n fs old a.member new.strategy new.queue i j run pairs l (omega (arith, m, length-last old.members a.member));
+    })
   where
-    pairs : PairsPushed (old.members ++ a.member ∷ []) old.queue new.queue (length old.members) (length old.members)
-    pairs = subst (λ (bs : List MarkedPolynomial). PairsPushed bs old.queue new.queue (length old.members) (length old.members)) a.members a.pairs
+    pairs : PairsPushed new.strategy order (old.members ++ a.member ∷ []) old.queue new.queue (length old.members) (length old.members)
+    pairs =
+        subst
+        (λ (bs : List MarkedPolynomial). PairsPushed new.strategy order bs old.queue new.queue (length old.members) (length old.members)) a.members a.pairs
 
 -- ---- the pairs that wait
 
@@ -163,13 +175,15 @@ waiting-permuted p q i j e w = record { pair = w.pair; contained = Contains-perm
 
 -- the same pairs in another order
 pub run-permuted : (order : MonomialOrder) (n : ℕ) (fs : List Terms) (s t : State) → t.members ≡ s.members → t.table ≡ s.table → IsPermutation s.queue t.queue → IsRun order n fs s → IsRun order n fs t
-run-permuted order n fs s t em et p r = subst (IsRun order n fs) (sym (state_eq t (record { members = s.members; table = s.table; queue = t.queue }) em et refl)) (record {
-  work = r.work;
-  variables = r.variables;
-  state = record { table = r.state.table; size = r.state.size; valid = λ w c. r.state.valid w (Contains-permutation t.queue s.queue w (IsPermutation-sym s.queue t.queue p) c) };
-  settled = r.settled;
-  waiting = λ i j l m. elim (r.waiting i j l m) [ inl e ↦ inl e | inr v ↦ elim v [ inl w ↦ inr (inl (waiting-permuted s.queue t.queue i j p w)) | inr c ↦ inr (inr c) ] ];
-})
+run-permuted order n fs s t em et p r =
+    subst (IsRun order n fs) (sym (state_eq t (record { members = s.members; table = s.table; queue = t.queue; strategy = t.strategy }) em et refl refl))
+    (record {
+      work = r.work;
+      variables = r.variables;
+      state = record { table = r.state.table; size = r.state.size; valid = λ w c. r.state.valid w (Contains-permutation t.queue s.queue w (IsPermutation-sym s.queue t.queue p) c) };
+      settled = r.settled;
+      waiting = λ i j l m. elim (r.waiting i j l m) [ inl e ↦ inl e | inr v ↦ elim v [ inl w ↦ inr (inl (waiting-permuted s.queue t.queue i j p w)) | inr c ↦ inr (inr c) ] ];
+    })
 
 -- the pair w, taken out, stays out where a member is appended
 pub appended-beside : (order : MonomialOrder) (r : Terms) (w : Waiting) (old new : State) → IsAppended order r old new → IsAppended order r (with_pair w old) (with_pair w new)
@@ -194,14 +208,21 @@ appended-beside order r w old new a = record {
       | inl e ↦ inl (subst (λ (z : Waiting). Contains (w ∷ old.queue) z) e (Contains-here w old.queue))
       | inr k ↦ elim (a.pairs.only v k) [ inl o ↦ inl (Contains-there w v old.queue o) | inr o ↦ inr o ]
     ];
+    keyed = λ v c. elim (Contains-cases w v new.queue c) [
+      | inl e ↦ inl (subst (λ (z : Waiting). Contains (w ∷ old.queue) z) e (Contains-here w old.queue))
+      | inr k ↦ elim (a.pairs.keyed v k) [ inl o ↦ inl (Contains-there w v old.queue o) | inr o ↦ inr o ]
+    ];
     count = omega (arith, a.pairs.count);
   };
+  strategy = a.strategy;
 }
 
 -- ---- a pair worked off
 
 -- the pair that was taken out is settled: its mark takes its place
-pub run-settled : (order : MonomialOrder) (n : ℕ) (fs : List Terms) (w : Waiting) (s : State) → IsRun order n fs (with_pair w s) → ((b c : MarkedPolynomial) → IsAt s.members w.first b → IsAt s.members w.second c → IsSettledPair n s.members (below_of order) b c) → IsRun order n fs (record { members = s.members; table = with_settled s.table w.first w.second; queue = s.queue })
+pub run-settled : (order : MonomialOrder) (n : ℕ) (fs : List Terms) (w : Waiting) (s : State) → IsRun order n fs (with_pair w s) →
+    ((b c : MarkedPolynomial) → IsAt s.members w.first b → IsAt s.members w.second c → IsSettledPair n s.members (below_of order) b c) →
+    IsRun order n fs (record { members = s.members; table = with_settled s.table w.first w.second; queue = s.queue; strategy = s.strategy })
 run-settled order n fs w s r h = record {
   work = r.work;
   variables = r.variables;

@@ -2,7 +2,7 @@
 use Rattle.std.specs.Prelude.{◌≡◌, ◌≢◌, ◌⊎◌, ℕ, suc, ◌+◌, ◌*◌, ◌-◌, ◌<◌, ◌≤◌, true, false, List, [], ◌∷◌, length, Contains, IsPermutation}
 use Rattle.std.proofs.Common.{arith, refl, sym, ap, ◌∙◌, subst, inl, inr}
 use Rattle.std.proofs.lemmas.Bool.{cases_lt}
-use Rattle.std.proofs.lemmas.List.Sorted.{length_permutation}
+use Rattle.std.proofs.lemmas.List.Sorted.{length_permutation, Contains-permutation, IsPermutation-sym}
 use Rattle.gf_exponents_theory.specs.SixOrders.{MonomialOrder, below_of}
 use Rattle.gf_int_theory.proofs.ListLaws.{Contains-here}
 use Rattle.gf_poly.specs.declared.error.PolyError.{PolyError}
@@ -12,10 +12,14 @@ use Rattle.gf_poly.specs.Marking.{MarkedPolynomial}
 use Rattle.gf_ideal_theory.specs.Settled.{IsAt, IsSettledPair}
 use Rattle.gf_ideal_theory.proofs.ListLaws.{Contains-there, Contains-cases}
 use Rattle.gf_buchberger.specs.Covered.{IsCovered}
+use Rattle.gf_buchberger.specs.declared.queue.Strategy.{Strategy}
 use Rattle.gf_buchberger.specs.declared.queue.Waiting.{Waiting}
+use Rattle.gf_buchberger.specs.Keys.{IsFirst}
+use Rattle.gf_buchberger.specs.Progress.{IsSettling, IsWorkedThrough, IsStop}
+use Rattle.gf_buchberger.specs.Ruled.{IsRuled}
 use Rattle.gf_buchberger.specs.declared.runs.Stop.TheVariants as stops
 use Rattle.gf_buchberger.specs.Pairs.{PairMarks, IsPairTable, is_settled, settled_count, with_settled}
-use Rattle.gf_buchberger.specs.Runs.{AreReducers, State, with_pair, IsWaiting, IsState, IsRun, IsAppended, CountsAsSettled, IsExcused, IsPairWorkedOff, IsSettledBy, IsSettlingRefusal, IsSomeRun, IsSettling, IsWorkedThrough, IsStop}
+use Rattle.gf_buchberger.specs.Runs.{AreReducers, State, with_pair, IsWaiting, IsState, IsRun, IsAppended, CountsAsSettled, IsExcused, IsPairWorkedOff, IsSettledBy, IsSettlingRefusal, IsSomeRun}
 use Rattle.gf_buchberger.proofs.PairsLaws.{settled_count-settle, settled_count-member, settled-member_old, IsPairTable-member}
 use Rattle.gf_buchberger.proofs.JobLaws.{run_reducers}
 use Rattle.gf_buchberger.proofs.RunSteps.{state_eq, excused_pair, reduced_pair, run-permuted, run-settled, length-last, contained_old}
@@ -23,9 +27,17 @@ use Rattle.gf_buchberger.proofs.RunSteps.{state_eq, excused_pair, reduced_pair, 
 -- ---- the run so far
 
 -- a pair taken out of the queue
-pub settling-popped : (order : MonomialOrder) (old : State) (members : List MarkedPolynomial) (table : PairMarks) (queue rest : List Waiting) (w : Waiting) (done : ℕ) → IsPermutation queue (w ∷ rest) → IsSettling order old (record { members = members; table = table; queue = queue }) done → IsSettling order old (with_pair w (record { members = members; table = table; queue = rest })) done
-settling-popped order old members table queue rest w done p s = record {
-  run = λ n fs r. run-permuted order n fs (record { members = members; table = table; queue = queue }) (record { members = members; table = table; queue = w ∷ rest }) refl refl p (s.run n fs r);
+pub settling-popped : (order : MonomialOrder) (old : State) (members : List MarkedPolynomial) (table : PairMarks) (strategy : Strategy) (queue rest : List Waiting) (w : Waiting) (done : ℕ) →
+    IsPermutation queue (w ∷ rest) → IsSettling order old (record { members = members; table = table; queue = queue; strategy = strategy }) done →
+    IsSettling order old (with_pair w (record { members = members; table = table; queue = rest; strategy = strategy })) done
+settling-popped order old members table strategy queue rest w done p s = record {
+  run =
+      λ n fs r. run-permuted order n fs (record { members = members; table = table; queue = queue; strategy = strategy })
+      (record { members = members; table = table; queue = w ∷ rest; strategy = strategy }) refl refl p (s.run n fs r);
+  ruled =
+      λ k fs r. IsRuled.turned (length fs) (record { members = members; table = table; queue = queue; strategy = strategy })
+      (record { members = members; table = table; queue = w ∷ rest; strategy = strategy }) (s.ruled k fs r)
+      (record { members = refl; table = refl; queue = p; strategy = refl });
   kept = s.kept;
   members = s.members;
   count = s.count;
@@ -54,9 +66,16 @@ is_next order old s w done some h = record {
     valid : (w.first < w.second) × (w.second < length s.members)
     valid = run.state.valid w (Contains-here w s.queue)
 
--- a pair that is settled already, or covered
-pub settling-skipped : (order : MonomialOrder) (old s : State) (w : Waiting) (done : ℕ) → (is_settled s.table w.first w.second ≡ true) ⊎ IsCovered s.members w.first w.second → IsSettling order old (with_pair w s) done → IsSettling order old s done
-settling-skipped order old s w done e h = record { run = λ n fs r. here n fs (h.run n fs r); kept = h.kept; members = h.members; count = h.count }
+-- a pair that is settled already, or covered, is passed over
+pub run-passed : (order : MonomialOrder) (n : ℕ) (fs : List Terms) (s : State) (w : Waiting) →
+    (is_settled s.table w.first w.second ≡ true) ⊎ IsCovered s.members w.first w.second → IsRun order n fs (with_pair w s) → IsRun order n fs s
+run-passed order n fs s w e r = record {
+  work = r.work;
+  variables = r.variables;
+  state = record { table = r.state.table; size = r.state.size; valid = λ v c. r.state.valid v (Contains-there w v s.queue c) };
+  settled = r.settled;
+  waiting = λ i j l m. stays i j (r.waiting i j l m);
+}
   where
     moved : (v : Waiting) → w ≡ v → (is_settled s.table w.first w.second ≡ true) ⊎ IsCovered s.members w.first w.second → (is_settled s.table v.first v.second ≡ true) ⊎ IsWaiting s.queue v.first v.second ⊎ IsCovered s.members v.first v.second
     moved v q (inl k) = inl (subst (λ (z : Waiting). is_settled s.table z.first z.second ≡ true) q k)
@@ -71,14 +90,16 @@ settling-skipped order old s w done e h = record { run = λ n fs r. here n fs (h
     stays i j (inr (inl v)) = place i j v.pair v.first v.second (Contains-cases w v.pair s.queue v.contained)
     stays i j (inr (inr c)) = inr (inr c)
 
-    here : (n : ℕ) (fs : List Terms) → IsRun order n fs (with_pair w s) → IsRun order n fs s
-    here n fs r = record {
-      work = r.work;
-      variables = r.variables;
-      state = record { table = r.state.table; size = r.state.size; valid = λ v c. r.state.valid v (Contains-there w v s.queue c) };
-      settled = r.settled;
-      waiting = λ i j l m. stays i j (r.waiting i j l m);
-    }
+pub settling-skipped : (order : MonomialOrder) (old s : State) (w : Waiting) (done : ℕ) → IsFirst (w ∷ s.queue) w →
+    (is_settled s.table w.first w.second ≡ true) ⊎ IsCovered s.members w.first w.second → IsSettling order old (with_pair w s) done →
+    IsSettling order old s done
+settling-skipped order old s w done first e h = record {
+  run = λ n fs r. run-passed order n fs s w e (h.run n fs r);
+  ruled = λ k fs r. IsRuled.passed w s (h.ruled k fs r) first e;
+  kept = h.kept;
+  members = h.members;
+  count = h.count;
+}
 
 -- ---- one pair more
 
@@ -133,9 +154,26 @@ middle_table order old mid i j v (inr h) = elim h.left [
   | inr z ↦ subst IsPairTable (sym z.1.table) (IsPairTable-member old.table v)
 ]
 
-pub settling-more : (order : MonomialOrder) (start old new : State) (w : Waiting) (done : ℕ) → IsNext order old w → is_settled old.table w.first w.second ≡ false → IsSettling order start (with_pair w old) done → IsSettledBy order old new w.first w.second → IsSettling order start new (done + 1)
-settling-more order start old new w done next u h b = subst (λ (s : State). IsSettling order start s (done + 1)) (sym whole) (record {
-  run = λ n fs r. let m = worked-run order n fs old b.middle w (h.run n fs r) b.worked in run-settled order n fs w b.middle m.0 m.1;
+-- the state behind it
+settled-whole : (order : MonomialOrder) (old new : State) (w : Waiting) (b : IsSettledBy order old new w.first w.second) →
+    new ≡ record { members = b.middle.members; table = with_settled b.middle.table w.first w.second; queue = b.middle.queue; strategy = b.middle.strategy }
+settled-whole order old new w b =
+    state_eq new
+    (record { members = b.middle.members; table = with_settled b.middle.table w.first w.second; queue = b.middle.queue; strategy = b.middle.strategy })
+    b.members b.table b.queue b.strategy
+
+pub run-more : (order : MonomialOrder) (n : ℕ) (fs : List Terms) (old new : State) (w : Waiting) → IsSettledBy order old new w.first w.second →
+    IsRun order n fs (with_pair w old) → IsRun order n fs new
+run-more order n fs old new w b r =
+    let m = worked-run order n fs old b.middle w r b.worked in
+    subst (IsRun order n fs) (sym (settled-whole order old new w b)) (run-settled order n fs w b.middle m.0 m.1)
+
+pub settling-more : (order : MonomialOrder) (start old new : State) (w : Waiting) (done : ℕ) → IsNext order old w → IsFirst (w ∷ old.queue) w →
+    is_settled old.table w.first w.second ≡ false → IsSettling order start (with_pair w old) done → IsSettledBy order old new w.first w.second →
+    IsSettling order start new (done + 1)
+settling-more order start old new w done next first u h b = subst (λ (s : State). IsSettling order start s (done + 1)) (sym whole) (record {
+  run = λ n fs r. subst (IsRun order n fs) whole (run-more order n fs old new w b (h.run n fs r));
+  ruled = λ k fs r. subst (IsRuled k order fs (length fs)) whole (IsRuled.settled w old new (h.ruled k fs r) first b);
   kept = λ d c. k.kept d (h.kept d c);
   members = omega (arith, k.members, h.members);
   count = settled_count-settle b.middle.table w.first w.second table next.pair (omega (arith, k.size, next.member)) (k.unsettled ∙ u) ∙ omega (arith, k.count, h.count);
@@ -147,8 +185,8 @@ settling-more order start old new w done next u h b = subst (λ (s : State). IsS
     table : IsPairTable b.middle.table
     table = middle_table order old b.middle w.first w.second next.state.table b.worked
 
-    whole : new ≡ record { members = b.middle.members; table = with_settled b.middle.table w.first w.second; queue = b.middle.queue }
-    whole = state_eq new (record { members = b.middle.members; table = with_settled b.middle.table w.first w.second; queue = b.middle.queue }) b.members b.table b.queue
+    whole : new ≡ record { members = b.middle.members; table = with_settled b.middle.table w.first w.second; queue = b.middle.queue; strategy = b.middle.strategy }
+    whole = settled-whole order old new w b
 
 -- ---- fewer are left
 
@@ -171,26 +209,51 @@ fewer order start old new w budget done l next h b =
 plus_less : (x a b : ℕ) → a < b → x + a < x + b
 plus_less x a b l = omega arith
 
-pub skipped_fewer : (budget first done : ℕ) (members : List MarkedPolynomial) (table : PairMarks) (queue rest : List Waiting) (w : Waiting) → IsPermutation queue (w ∷ rest) → left_over budget first (record { members = members; table = table; queue = rest }) done < left_over budget first (record { members = members; table = table; queue = queue }) done
-skipped_fewer budget first done members table queue rest w p = plus_less ((budget - done) * (first + budget + 2)) (length rest) (length queue) (omega (arith, length_permutation queue (w ∷ rest) p))
+pub skipped_fewer : (budget first done : ℕ) (members : List MarkedPolynomial) (table : PairMarks) (strategy : Strategy) (queue rest : List Waiting) (w : Waiting) →
+    IsPermutation queue (w ∷ rest) →
+    left_over budget first (record { members = members; table = table; queue = rest; strategy = strategy }) done < left_over budget first (record { members = members; table = table; queue = queue; strategy = strategy }) done
+skipped_fewer budget first done members table strategy queue rest w p =
+    plus_less ((budget - done) * (first + budget + 2)) (length rest) (length queue) (omega (arith, length_permutation queue (w ∷ rest) p))
 
-pub settled_fewer : (order : MonomialOrder) (start new : State) (members : List MarkedPolynomial) (table : PairMarks) (queue rest : List Waiting) (w : Waiting) (budget done : ℕ) → IsSomeRun order start → IsPermutation queue (w ∷ rest) → done ≤ budget → done ≢ budget → IsSettling order start (record { members = members; table = table; queue = queue }) done → IsSettledBy order (record { members = members; table = table; queue = rest }) new w.first w.second → left_over budget (length start.members) new (done + 1) < left_over budget (length start.members) (record { members = members; table = table; queue = queue }) done
-settled_fewer order start new members table queue rest w budget done some p l n h b =
-    let q = settling-popped order start members table queue rest w done p h in
-    subst (λ (k : ℕ). left_over budget (length start.members) new (done + 1) < (budget - done) * (length start.members + budget + 2) + k) (length_permutation queue (w ∷ rest) p) (fewer order start (record { members = members; table = table; queue = rest }) new w budget done (below done budget l n) (is_next order start (record { members = members; table = table; queue = rest }) w done some q) q b)
+pub settled_fewer : (order : MonomialOrder) (start new : State) (members : List MarkedPolynomial) (table : PairMarks) (strategy : Strategy) (queue rest : List Waiting) (w : Waiting) (budget done : ℕ) →
+    IsSomeRun order start → IsPermutation queue (w ∷ rest) → done ≤ budget → done ≢ budget →
+    IsSettling order start (record { members = members; table = table; queue = queue; strategy = strategy }) done →
+    IsSettledBy order (record { members = members; table = table; queue = rest; strategy = strategy }) new w.first w.second →
+    left_over budget (length start.members) new (done + 1) < left_over budget (length start.members) (record { members = members; table = table; queue = queue; strategy = strategy }) done
+settled_fewer order start new members table strategy queue rest w budget done some p l n h b =
+    let q = settling-popped order start members table strategy queue rest w done p h in
+    subst (λ (k : ℕ). left_over budget (length start.members) new (done + 1) < (budget - done) * (length start.members + budget + 2) + k)
+    (length_permutation queue (w ∷ rest) p)
+    (fewer order start (record { members = members; table = table; queue = rest; strategy = strategy }) new w budget done (below done budget l n) (is_next order start (record { members = members; table = table; queue = rest; strategy = strategy }) w done some q) q b)
 
 -- ---- stops
 
 -- the next of a run whose pair was taken out
-pub popped_next : (order : MonomialOrder) (start : State) (members : List MarkedPolynomial) (table : PairMarks) (queue rest : List Waiting) (w : Waiting) (done : ℕ) → IsSomeRun order start → IsPermutation queue (w ∷ rest) → IsSettling order start (record { members = members; table = table; queue = queue }) done → IsNext order (record { members = members; table = table; queue = rest }) w
-popped_next order start members table queue rest w done some p h = is_next order start (record { members = members; table = table; queue = rest }) w done some (settling-popped order start members table queue rest w done p h)
+pub popped_next : (order : MonomialOrder) (start : State) (members : List MarkedPolynomial) (table : PairMarks) (strategy : Strategy) (queue rest : List Waiting) (w : Waiting) (done : ℕ) →
+    IsSomeRun order start → IsPermutation queue (w ∷ rest) →
+    IsSettling order start (record { members = members; table = table; queue = queue; strategy = strategy }) done →
+    IsNext order (record { members = members; table = table; queue = rest; strategy = strategy }) w
+popped_next order start members table strategy queue rest w done some p h =
+    is_next order start (record { members = members; table = table; queue = rest; strategy = strategy }) w done some
+    (settling-popped order start members table strategy queue rest w done p h)
 
-pub is_refused_run : (order : MonomialOrder) (budget : ℕ) (start at : State) (w : Waiting) (done : ℕ) (e : PolyError) → done < budget → IsSettling order start (with_pair w at) done → IsSettlingRefusal order at w.first w.second e → IsStop order budget start (stops.Refused e)
-is_refused_run order budget start at w done (errors.Overflow o) l h r = record { done = done; within = l; at = at; pair = w; settling = h; refused = r }
-is_refused_run order budget start at w done (errors.Exponent o) l h r = record { done = done; within = l; at = at; pair = w; settling = h; refused = r }
-is_refused_run order budget start at w done errors.Memory l h r = tt
+pub is_refused_run : (order : MonomialOrder) (budget : ℕ) (start at : State) (w : Waiting) (done : ℕ) (e : PolyError) → done < budget →
+    IsSettling order start (with_pair w at) done → IsFirst (w ∷ at.queue) w → IsSettlingRefusal order at w.first w.second e →
+    IsStop order budget start (stops.Refused e)
+is_refused_run order budget start at w done (errors.Overflow o) l h f r =
+    record { done = done; within = l; at = at; pair = w; settling = h; first = f; refused = r }
+is_refused_run order budget start at w done (errors.Exponent o) l h f r =
+    record { done = done; within = l; at = at; pair = w; settling = h; first = f; refused = r }
+is_refused_run order budget start at w done errors.Memory l h f r = tt
+
+-- the pair that comes first of a queue comes first of it and the others
+pub first_popped : (queue rest : List Waiting) (w : Waiting) → IsPermutation queue (w ∷ rest) → IsFirst queue w → IsFirst (w ∷ rest) w
+first_popped queue rest w p f v c = f v (Contains-permutation (w ∷ rest) queue v (IsPermutation-sym queue (w ∷ rest) p) c)
 
 -- ---- the end
 
-pub drained : (order : MonomialOrder) (start : State) (members : List MarkedPolynomial) (table : PairMarks) (queue rest : List Waiting) (budget done : ℕ) → queue ≡ [] → rest ≡ [] → done ≤ budget → IsSettling order start (record { members = members; table = table; queue = queue }) done → IsWorkedThrough order budget start (record { members = members; table = table; queue = rest })
-drained order start members table queue rest budget done e f l h = record { done = done; within = l; settling = subst (λ (q : List Waiting). IsSettling order start (record { members = members; table = table; queue = q }) done) (e ∙ sym f) h; none = f }
+pub drained : (order : MonomialOrder) (start : State) (members : List MarkedPolynomial) (table : PairMarks) (strategy : Strategy) (queue rest : List Waiting) (budget done : ℕ) →
+    queue ≡ [] → rest ≡ [] → done ≤ budget → IsSettling order start (record { members = members; table = table; queue = queue; strategy = strategy }) done →
+    IsWorkedThrough order budget start (record { members = members; table = table; queue = rest; strategy = strategy })
+drained order start members table strategy queue rest budget done e f l h =
+    record { done = done; within = l; settling = subst (λ (q : List Waiting). IsSettling order start (record { members = members; table = table; queue = q; strategy = strategy }) done) (e ∙ sym f) h; none = f }

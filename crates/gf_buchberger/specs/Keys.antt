@@ -5,6 +5,9 @@ use Rattle.gf_exponents_theory.specs.Exponents.{Exponents, degree}
 use Rattle.std.specs.declared.cmp.Ordering.{Ordering}
 use Rattle.std.specs.Cmp.Lexicographic.{slice_cmp}
 use Rattle.std.specs.Ordering.{nat_cmp, int_cmp, ordering_then, is_lt}
+use Rattle.gf_exponents_theory.specs.SixOrders.{MonomialOrder}
+use Rattle.gf_order.specs.Comparisons.{ends_by_revlex, level_of}
+use Rattle.gf_division.specs.Keys.{AreKeyExponents}
 use Rattle.gf_buchberger.specs.declared.queue.Key.{Key}
 use Rattle.gf_buchberger.specs.declared.queue.Waiting.{Waiting}
 use Rattle.gf_buchberger.specs.declared.queue.Strategy.{Strategy}
@@ -28,6 +31,13 @@ abbrev pub kept_excesses : Strategy → List ℕ → ℕ → List ℕ
 kept_excesses strategies.Degree excesses excess = excesses
 kept_excesses strategies.Order excesses excess = excesses
 kept_excesses strategies.Sugar excesses excess = excesses ++ excess ∷ []
+
+-- the key of a pair whose marks have the least common multiple x; the sugar is by `excess` more than its degree
+pub record IsKeyOf (strategy : Strategy) (order : MonomialOrder) (x : Exponents) (key : Key) : Type 0 where
+  pub excess : ℕ
+  pub degree : key.degree ≡ degree_for strategy excess x
+  pub level : key.level ≡ level_of order x
+  pub exponents : AreKeyExponents (ends_by_revlex order) x key.exponents
 
 -- ---- which pair comes first
 

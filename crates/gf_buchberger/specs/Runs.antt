@@ -12,6 +12,7 @@ use Rattle.gf_poly.specs.Polynomial.{Terms, HasVariables}
 use Rattle.gf_poly.specs.Marking.{MarkedPolynomial}
 use Rattle.gf_poly.specs.Refusals.{IsRefusedBy, NoSum, UnlessMemory}
 use Rattle.gf_ideal_theory.specs.Marks.{IsMarked}
+use Rattle.gf_ideal_theory.specs.NormalForms.{IsNormalForm}
 use Rattle.gf_ideal_theory.specs.Reduction.{IsMonicForm, IsSPolynomial, HasOneMonomial}
 use Rattle.gf_division.specs.Remainders.{IsRemainder}
 use Rattle.gf_ideal_theory.specs.Bases.{IsGreatest}
@@ -25,6 +26,8 @@ use Rattle.gf_buchberger.specs.declared.runs.Run.{Run}
 use Rattle.gf_buchberger.specs.declared.runs.Stop.{Stop}
 use Rattle.gf_buchberger.specs.declared.runs.Stop.TheVariants as stops
 use Rattle.gf_buchberger.specs.declared.queue.Waiting.{Waiting}
+use Rattle.gf_buchberger.specs.declared.queue.Strategy.{Strategy}
+use Rattle.gf_buchberger.specs.Keys.{IsKeyOf}
 use Rattle.gf_buchberger.specs.Jobs.{IsBasisJob}
 use Rattle.gf_buchberger.specs.Covered.{IsCovered}
 use Rattle.gf_buchberger.specs.Pairs.{PairMarks, IsPairTable, is_settled, settled_count, with_settled, with_member}
@@ -56,15 +59,16 @@ pub record AreReducers (order : MonomialOrder) (bs : List MarkedPolynomial) : Ty
 
 -- ---- the state
 
--- the members, the marks of their pairs, and the pairs that wait
+-- the members, the marks of their pairs, the pairs that wait, and which of these come first
 pub record State : Type 0 where
   pub members : List MarkedPolynomial
   pub table : PairMarks
   pub queue : List Waiting
+  pub strategy : Strategy
 
 -- the state of a run of the program
 abbrev pub state_of : Run → State
-state_of r = record { members = r.members.items; table = r.table; queue = r.queue }
+state_of r = record { members = r.members.items; table = r.table; queue = r.queue; strategy = r.strategy }
 
 -- the pair of i and j waits
 pub record IsWaiting (queue : List Waiting) (i j : ℕ) : Type 0 where
@@ -89,15 +93,27 @@ pub record IsRun (order : MonomialOrder) (n : ℕ) (fs : List Terms) (s : State)
 
 -- the state with one pair more that waits
 abbrev pub with_pair : Waiting → State → State
-with_pair w s = record { members = s.members; table = s.table; queue = w ∷ s.queue }
+with_pair w s = record { members = s.members; table = s.table; queue = w ∷ s.queue; strategy = s.strategy }
 
 -- ---- a new member
 
--- of the pairs of the first k members of bs with that at `second` the queue has gained those that aren't covered, and nothing else
-pub record PairsPushed (bs : List MarkedPolynomial) (old new : List Waiting) (k second : ℕ) : Type 0 where
+-- m is the least common multiple of the marks at i and j
+abbrev pub IsMultipleOf : List MarkedPolynomial → ℕ → ℕ → Exponents → Type 0
+IsMultipleOf bs i j m = (b c : MarkedPolynomial) → IsAt bs i b → IsAt bs j c → m ≡ join b.head c.head
+
+-- w waits by the key of the marks of its members
+pub record IsKeyed (strategy : Strategy) (order : MonomialOrder) (bs : List MarkedPolynomial) (w : Waiting) : Type 0 where
+  pub multiple : Exponents
+  pub is : IsMultipleOf bs w.first w.second multiple
+  pub key : IsKeyOf strategy order multiple w.key
+
+-- of the pairs of the first k members of bs with that at `second` the queue has gained those that aren't covered, by their keys, and nothing
+-- else; a covered pair may have been added, too
+pub record PairsPushed (strategy : Strategy) (order : MonomialOrder) (bs : List MarkedPolynomial) (old new : List Waiting) (k second : ℕ) : Type 0 where
   pub kept : (w : Waiting) → Contains old w → Contains new w
   pub added : (i : ℕ) → i < k → IsWaiting new i second ⊎ IsCovered bs i second
   pub only : (w : Waiting) → Contains new w → Contains old w ⊎ ((w.first < k) × (w.second ≡ second))
+  pub keyed : (w : Waiting) → Contains new w → Contains old w ⊎ IsKeyed strategy order bs w
   pub count : length new ≤ length old + k
 
 -- the monic form of r, marked at its greatest monomial, is the last member now, and its pairs wait or are covered
@@ -109,7 +125,8 @@ pub record IsAppended (order : MonomialOrder) (r : Terms) (old new : State) : Ty
   pub head : (n : ℕ) → HasVariables n r → length member.head ≡ n
   pub members : new.members ≡ old.members ++ member ∷ []
   pub table : new.table ≡ with_member old.table
-  pub pairs : PairsPushed new.members old.queue new.queue (length old.members) (length old.members)
+  pub pairs : PairsPushed new.strategy order new.members old.queue new.queue (length old.members) (length old.members)
+  pub strategy : new.strategy ≡ old.strategy
 
 -- the new member has the variables of the members, and the weight of the order, where it has one, as many entries
 pub record IsJoinable (order : MonomialOrder) (b : MarkedPolynomial) (bs : List MarkedPolynomial) : Type 0 where
@@ -120,14 +137,15 @@ pub record IsJoinable (order : MonomialOrder) (b : MarkedPolynomial) (bs : List 
   pub entries : HasEntries n order
 
 -- b is the last member now, and its pairs wait or are covered
-pub record IsJoined (b : MarkedPolynomial) (old new : State) : Type 0 where
+pub record IsJoined (order : MonomialOrder) (b : MarkedPolynomial) (old new : State) : Type 0 where
   pub members : new.members ≡ old.members ++ b ∷ []
   pub table : new.table ≡ with_member old.table
-  pub pairs : PairsPushed new.members old.queue new.queue (length old.members) (length old.members)
+  pub pairs : PairsPushed new.strategy order new.members old.queue new.queue (length old.members) (length old.members)
+  pub strategy : new.strategy ≡ old.strategy
 
 -- what is left is the last member now; where nothing is, the state is as before
-abbrev pub IsTakenUp : Option MarkedPolynomial → State → State → Type 0
-IsTakenUp left old new = MatchOption left (new ≡ old) (λ b. IsJoined b old new)
+abbrev pub IsTakenUp : MonomialOrder → Option MarkedPolynomial → State → State → Type 0
+IsTakenUp order left old new = MatchOption left (new ≡ old) (λ b. IsJoined order b old new)
 
 -- b is the monic form of r, marked at its greatest monomial
 pub record IsNewMember (order : MonomialOrder) (r : Terms) (b : MarkedPolynomial) : Type 0 where
@@ -168,10 +186,6 @@ pub record IsChain (s : State) (i j k : ℕ) : Type 0 where
   pub left : CountsAsSettled s i k
   pub right : CountsAsSettled s k j
 
--- m is the least common multiple of the marks at i and j
-abbrev pub IsMultipleOf : List MarkedPolynomial → ℕ → ℕ → Exponents → Type 0
-IsMultipleOf bs i j m = (b c : MarkedPolynomial) → IsAt bs i b → IsAt bs j c → m ≡ join b.head c.head
-
 -- those of a state
 abbrev pub IsMultipleAt : State → ℕ → ℕ → Exponents → Type 0
 IsMultipleAt s i j m = IsMultipleOf s.members i j m
@@ -186,7 +200,7 @@ IsExcused s i j = ((b c : MarkedPolynomial) → IsAt s.members i b → IsAt s.me
 
 -- ---- one pair
 
--- r is a remainder by the members of the S-polynomial of those at i and j: zero, and the state is as before, or a new
+-- r is the normal form by the members of the S-polynomial of those at i and j: zero, and the state is as before, or a new
 -- member
 pub record IsReducedPair (order : MonomialOrder) (old new : State) (i j : ℕ) : Type 0 where
   pub b : MarkedPolynomial
@@ -197,6 +211,7 @@ pub record IsReducedPair (order : MonomialOrder) (old new : State) (i j : ℕ) :
   pub is_s : IsSPolynomial b c s
   pub r : Terms
   pub normal : IsRemainder old.members s r
+  pub rule : IsNormalForm old.members s r
   pub variables : (n : ℕ) → MembersHaveVariables n old.members → HasVariables n r
   pub left : ((r ≡ []) × (new ≡ old)) ⊎ ((r ≢ []) × IsAppended order r old new)
 
@@ -210,6 +225,7 @@ pub record IsLeftOfPair (order : MonomialOrder) (at : State) (i j : ℕ) (left :
   pub is_s : IsSPolynomial b c s
   pub r : Terms
   pub normal : IsRemainder at.members s r
+  pub rule : IsNormalForm at.members s r
   pub variables : (n : ℕ) → MembersHaveVariables n at.members → HasVariables n r
   pub is_left : IsLeftMember order r left
 
@@ -224,12 +240,14 @@ pub record IsSettledBy (order : MonomialOrder) (old new : State) (i j : ℕ) : T
   pub members : new.members ≡ middle.members
   pub table : new.table ≡ with_settled middle.table i j
   pub queue : new.queue ≡ middle.queue
+  pub strategy : new.strategy ≡ middle.strategy
 
 -- where a pair is refused: at its S-polynomial, at the reduction of that, or in making what is left monic
 pub data IsRefusedPair (order : MonomialOrder) (s : State) (i j : ℕ) (e : PolyError) : Type 0 where
   s_polynomial : (b c : MarkedPolynomial) → IsAt s.members i b → IsAt s.members j c → IsMonicPairRefusal b c e → IsRefusedPair order s i j e
   reduction : (b c : MarkedPolynomial) (f : Terms) → IsAt s.members i b → IsAt s.members j c → IsSPolynomial b c f → IsReductionRefusal s.members f e → IsRefusedPair order s i j e
-  monic : (b c : MarkedPolynomial) (f r : Terms) → IsAt s.members i b → IsAt s.members j c → IsSPolynomial b c f → IsRemainder s.members f r → IsAppendRefusal order r e → IsRefusedPair order s i j e
+  monic : (b c : MarkedPolynomial) (f r : Terms) → IsAt s.members i b → IsAt s.members j c → IsSPolynomial b c f → IsRemainder s.members f r →
+      IsNormalForm s.members f r → IsAppendRefusal order r e → IsRefusedPair order s i j e
 
 -- the same, unless there is no memory
 abbrev pub IsSettlingRefusal : MonomialOrder → State → ℕ → ℕ → PolyError → Type 0
@@ -243,37 +261,3 @@ pub record IsSomeRun (order : MonomialOrder) (s : State) : Type 0 where
   pub fs : List Terms
   pub job : IsBasisJob order n fs
   pub run : IsRun order n fs s
-
--- each run that is at `old` may go on to `new`, where `done` pairs more are settled
-pub record IsSettling (order : MonomialOrder) (old new : State) (done : ℕ) : Type 0 where
-  pub run : (n : ℕ) (fs : List Terms) → IsRun order n fs old → IsRun order n fs new
-  pub kept : (b : MarkedPolynomial) → Contains old.members b → Contains new.members b
-  pub members : length new.members ≤ length old.members + done
-  pub count : settled_count new.table ≡ settled_count old.table + done
-
--- no pair waits any more, and at most `budget` were settled
-pub record IsWorkedThrough (order : MonomialOrder) (budget : ℕ) (old new : State) : Type 0 where
-  pub done : ℕ
-  pub within : done ≤ budget
-  pub settling : IsSettling order old new done
-  pub none : new.queue ≡ []
-
--- `budget` pairs were settled, and one was taken out that isn't
-pub record IsSpent (order : MonomialOrder) (budget : ℕ) (old new : State) : Type 0 where
-  pub pair : Waiting
-  pub settling : IsSettling order old (with_pair pair new) budget
-  pub unsettled : is_settled new.table pair.first pair.second ≡ false
-
--- at most `budget` pairs were settled, and the next was refused
-pub record IsRefusedRun (order : MonomialOrder) (budget : ℕ) (old : State) (e : PolyError) : Type 0 where
-  pub done : ℕ
-  pub within : done < budget
-  pub at : State
-  pub pair : Waiting
-  pub settling : IsSettling order old (with_pair pair at) done
-  pub refused : IsRefusedPair order at pair.first pair.second e
-
--- why not all pairs are settled
-abbrev pub IsStop : MonomialOrder → ℕ → State → Stop → Type 0
-IsStop order budget old (stops.Refused e) = UnlessMemory (IsRefusedRun order budget old) e
-IsStop order budget old (stops.Spent run) = IsSpent order budget old (state_of run)

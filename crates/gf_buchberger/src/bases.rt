@@ -5,7 +5,9 @@ ghost use Rattle.gf_order.specs.Comparisons.{HasEntries};
 ghost use Rattle.gf_ideal_theory.specs.Bases.{AreArranged};
 ghost use Rattle.gf_ideal_theory.specs.Marks.{HasPositiveWeight, IsRealisable};
 ghost use Rattle.gf_division.specs.Autoreduction.{IsAutoreduced, IsReducedOf, IsAutoreductionRefusal};
-ghost use Rattle.gf_buchberger.specs.Bases.{IsArrangedBasis, IsBasisRefusal, AreRunsWithinLimits, IsWantOfMemory, IsSpentAnswer, IsStopAnswer, HasStopVariables, of_poly_error};
+ghost use Rattle.gf_buchberger.specs.declared.queue.Strategy.TheVariants.{Degree};
+ghost use Rattle.gf_buchberger.specs.Ruled.{AreRuledRunsWithinLimits};
+ghost use Rattle.gf_buchberger.specs.Bases.{IsArrangedBasis, IsBasisRefusal, IsRuledRefusal, AreRunsWithinLimits, IsWantOfMemory, IsSpentAnswer, IsStopAnswer, HasStopVariables, of_poly_error};
 ghost use Rattle.gf_buchberger.specs.Jobs.{HaveRingVariables, IsSuited, IsBasisJob};
 ghost use Rattle.gf_buchberger.specs.Runs.{MembersHaveVariables};
 
@@ -111,8 +113,8 @@ fn interreduced(
 ///
 /// # Errors
 ///
-/// `Overflow` and `Exponent` hold the operands of an operation that such a run may have, and that don't fit. `PairBudget` where more pairs than the
-/// job allows would have to be settled: it holds the members so far, and the pairs that aren't settled. `Memory` if memory runs out.
+/// `Overflow` and `Exponent` hold the operands of an operation of this run, and that don't fit. `PairBudget` where more pairs than the job allows would
+/// have to be settled: it holds the members so far, and the pairs that aren't settled. `Memory` if memory runs out.
 pub fn run_by(
     alloc: Global,
     job: &Job,
@@ -122,6 +124,7 @@ pub fn run_by(
     requires { IsBasisJob job.now.order.now job.now.n job.now.set.now }
     ensures ok { IfOk result (IsArrangedBasis job.now.order.now job.now.n job.now.set.now) }
     ensures err { IfErr result (IsBasisRefusal job.now.order.now job.now.n job.now.set.now job.now.pairs) }
+    ensures by_rule { IfErr result (IsRuledRefusal strategy job.now.order.now job.now.set.now job.now.pairs) }
 {
     let guide = match guide_of(alloc, job.n, job.order) {
         Ok(guide) => guide,
@@ -168,6 +171,10 @@ pub fn run_by(
 /// holds a list of such a run, and the pairs of places of it that aren't settled, which all but `pairs` are, each of them
 /// once. So where no operation that a run may have leaves its range, and no list of one has more than `pairs` pairs, only
 /// memory may be wanting.
+///
+/// More is promised of the run that is made, which follows a rule (`IsRuled`): the generators enter in turn; of the pairs that wait the one of least
+/// key is taken; what is left of a polynomial is its normal form, by the first member whose mark divides a term. The operands are those of an operation
+/// of this run, and where all of its operations fit and `pairs` pairs suffice, only memory may be wanting.
 pub fn basis(
     alloc: Global,
     n: u32,
@@ -180,7 +187,9 @@ pub fn basis(
     requires suited { IsSuited order.now n set.now }
     ensures ok { IfOk result (IsArrangedBasis order.now n set.now) }
     ensures err { IfErr result (IsBasisRefusal order.now n set.now pairs) }
+    ensures by_rule { IfErr result (IsRuledRefusal Degree order.now set.now pairs) }
     ensures complete { AreRunsWithinLimits order.now set.now pairs → IfErr result IsWantOfMemory }
+    ensures complete_by_rule { AreRuledRunsWithinLimits Degree order.now set.now pairs → IfErr result IsWantOfMemory }
 {
     let job = Job {
         n,

@@ -3,6 +3,7 @@
 //! Start at `basis`, one run; `basis_by_second_run` is another one for where numbers don't fit, `wide_basis` one that goes on in wide
 //! numbers. What a Gröbner basis is, and why the algorithm is right, stands in `gf_ideal_theory`
 //! (`specs/Bases.antt`, `specs/LawsOfBases.antt`); what a run may have on its way in `specs/WorkLists.antt` there.
+//! What the runs of this crate have, by the rule that they follow, stands in `specs/Ruled.antt` here.
 #![tactic(auto)]
 
 mod bases;

@@ -5,7 +5,8 @@ ghost use Rattle.gf_exponents_theory.specs.Exponents.{AreCoprime};
 ghost use Rattle.gf_poly.specs.declared.error.PolyError.TheVariants.{Memory};
 ghost use Rattle.gf_ideal_theory.specs.Reduction.{HasOneMonomial};
 ghost use Rattle.gf_buchberger.specs.Covered.{IsCovered};
-ghost use Rattle.gf_buchberger.specs.Runs.{AreReducers, IsMultipleAt, IsReducedPair, IsPairWorkedOff, IsSettlingRefusal, AreComparable, MembersHaveSomeVariables, state_of, IsState, PairsPushed, IsJoinable, IsJoined, IsTakenUp, IsLeftOfPair, CountsAsSettled, IsChain, IsExcused, IsSettledBy, IsSomeRun, IsWorkedThrough, IsStop};
+ghost use Rattle.gf_buchberger.specs.Progress.{IsWorkedThrough, IsStop};
+ghost use Rattle.gf_buchberger.specs.Runs.{AreReducers, IsMultipleAt, IsReducedPair, IsPairWorkedOff, IsSettlingRefusal, AreComparable, MembersHaveSomeVariables, state_of, IsState, PairsPushed, IsJoinable, IsJoined, IsTakenUp, IsLeftOfPair, CountsAsSettled, IsChain, IsExcused, IsSettledBy, IsSomeRun};
 
 use crate::covered::Redundant;
 use crate::left::{left_of, left_of_wide};
@@ -94,7 +95,7 @@ fn push_pairs(
     requires room { second < 2 ^ 32 }
     requires inside { second < length members.now }
     requires comparable { AreComparable order.now members.now }
-    ensures { OnOk result (PairsPushed members.now queue.old queue.new second second) }
+    ensures { OnOk result (PairsPushed strategy order.now members.now queue.old queue.new second second) }
 {
     let head = members[second].head();
     'members: for i in 0..second {
@@ -117,6 +118,7 @@ impl Run {
         ensures members { result.members.items ≡ [] }
         ensures table { result.table ≡ record { members = 0; marks = [] } }
         ensures queue { result.queue ≡ [] }
+        ensures strategy { result.strategy ≡ strategy }
     {
         Run {
             members: Vec::new(alloc),
@@ -138,7 +140,7 @@ impl Run {
     fn append(&mut self, order: &Order, member: Marked) -> Result<(), PolyError>
         requires state { IsState (state_of self.old) }
         requires variables { IsJoinable order.now member self.old.members.items }
-        ensures ok { OnOk result (IsJoined member (state_of self.old) (state_of self.new)) }
+        ensures ok { OnOk result (IsJoined order.now member (state_of self.old) (state_of self.new)) }
         ensures cause { IfErr result (λ e. e ≡ Memory) }
     {
         let second = self.table.members();
@@ -170,7 +172,7 @@ impl Run {
     pub fn take_up(&mut self, order: &Order, left: Option<Marked>) -> Result<(), PolyError>
         requires state { IsState (state_of self.old) }
         requires variables { IfSome left (λ b. IsJoinable order.now b self.old.members.items) }
-        ensures ok { OnOk result (IsTakenUp left (state_of self.old) (state_of self.new)) }
+        ensures ok { OnOk result (IsTakenUp order.now left (state_of self.old) (state_of self.new)) }
         ensures cause { IfErr result (λ e. e ≡ Memory) }
     {
         match left {

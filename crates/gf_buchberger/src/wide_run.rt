@@ -2,6 +2,8 @@
 
 ghost use Rattle.std.specs.Prelude.{IfOk, IfErr};
 ghost use Rattle.gf_order.specs.Comparisons.{HasEntries};
+ghost use Rattle.gf_buchberger.specs.declared.queue.Strategy.TheVariants.{Degree};
+ghost use Rattle.gf_buchberger.specs.Ruled.{AreRuledRunsWithinLimits};
 ghost use Rattle.gf_buchberger.specs.Bases.{IsArrangedBasis, IsBasisRefusal, AreRunsWithinLimits, IsWantOfMemory};
 ghost use Rattle.gf_buchberger.specs.Jobs.{HaveRingVariables, IsSuited, IsBasisJob};
 
@@ -38,6 +40,7 @@ fn by_wide_runs(alloc: Global, job: &Job) -> Result<MarkedSet, BasisError>
     requires { IsBasisJob job.now.order.now job.now.n job.now.set.now }
     ensures ok { IfOk result (IsArrangedBasis job.now.order.now job.now.n job.now.set.now) }
     ensures err { IfErr result (IsBasisRefusal job.now.order.now job.now.n job.now.set.now job.now.pairs) }
+    ensures complete_by_rule { AreRuledRunsWithinLimits Degree job.now.order.now job.now.set.now job.now.pairs → IfErr result IsWantOfMemory }
 {
     let Ok(precedence) = precedence_of(alloc, job.n, job.order) else {
         return Err(BasisError::Memory);
@@ -71,7 +74,8 @@ fn by_wide_runs(alloc: Global, job: &Job) -> Result<MarkedSet, BasisError>
 /// `Overflow` and `Exponent` hold the operands of an operation in 127 bits that a run of Buchberger's algorithm on these polynomials by this order
 /// may have, and that don't fit; it is that of the first run, where neither run answers. `PairBudget` where the budget of the first run is spent, or
 /// that of the second one: it holds the members, and the pairs that aren't settled. `Memory` if memory runs out. So where no operation that a run may
-/// have leaves its range, and no list of one has more than `pairs` pairs, the error is `Memory`.
+/// have leaves its range, and no list of one has more than `pairs` pairs, the error is `Memory`; and so it is where all operations of the first run by
+/// its rule (`IsRuled`) fit in 127 bits and `pairs` pairs suffice.
 pub fn wide_basis(
     alloc: Global,
     n: u32,
@@ -85,6 +89,7 @@ pub fn wide_basis(
     ensures ok { IfOk result (IsArrangedBasis order.now n set.now) }
     ensures err { IfErr result (IsBasisRefusal order.now n set.now pairs) }
     ensures complete { AreRunsWithinLimits order.now set.now pairs → IfErr result IsWantOfMemory }
+    ensures complete_by_rule { AreRuledRunsWithinLimits Degree order.now set.now pairs → IfErr result IsWantOfMemory }
 {
     let job = Job {
         n,

@@ -4,6 +4,8 @@ ghost use Rattle.gf_exponents_theory.specs.Orders.{gains};
 ghost use Rattle.gf_exponents_theory.specs.SixOrders.{MonomialOrder};
 ghost use Rattle.gf_order.specs.Comparisons.{HasEntries};
 ghost use Rattle.gf_order.specs.Weights.{AreBounded};
+ghost use Rattle.gf_buchberger.specs.declared.queue.Strategy.TheVariants.{Degree};
+ghost use Rattle.gf_buchberger.specs.Ruled.{AreRuledRunsWithinLimits};
 ghost use Rattle.gf_buchberger.specs.Bases.{IsArrangedBasis, IsBasisRefusal, AreRunsWithinLimits, IsWantOfMemory};
 ghost use Rattle.gf_buchberger.specs.Jobs.{HaveRingVariables};
 ghost use Rattle.gf_reverse_theory.specs.Upward.{IsNodeIn, IsNode};
@@ -42,6 +44,8 @@ fn order_by(weight: IntVec) -> Order
 /// - `Overflow`, `Exponent`: the operands of an operation of a run of Buchberger's algorithm on the set by this order don't fit.
 /// - `PairBudget`: such a run has more than `pairs` pairs to settle.
 /// - `Memory`: memory runs out.
+///
+/// If all operations of the first run by its rule (`IsRuled` of `gf_buchberger`) fit, and `pairs` pairs suffice, the error is `Memory`.
 pub fn root_in(
     alloc: Global,
     n: u32,
@@ -56,6 +60,7 @@ pub fn root_in(
     ensures order { IfOk result (IsArrangedBasis (MonomialOrder.weighted (gains region.now.root)) n set.now) }
     ensures err { IfErr result (IsBasisRefusal (MonomialOrder.weighted (gains region.now.root)) n set.now pairs) }
     ensures complete { AreRunsWithinLimits (MonomialOrder.weighted (gains region.now.root)) set.now pairs → IfErr result IsWantOfMemory }
+    ensures complete_by_rule { AreRuledRunsWithinLimits Degree (MonomialOrder.weighted (gains region.now.root)) set.now pairs → IfErr result IsWantOfMemory }
 {
     let Ok(root) = region.root().copy() else {
         return Err(BasisError::Memory);

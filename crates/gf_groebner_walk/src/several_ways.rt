@@ -2,6 +2,8 @@
 
 ghost use Rattle.std.specs.Prelude.{IfOk, IfErr, IfSome, IsTrue};
 ghost use Rattle.gf_order.specs.Comparisons.{HasEntries, is_weight_before_lex};
+ghost use Rattle.gf_buchberger.specs.declared.queue.Strategy.TheVariants.{Degree};
+ghost use Rattle.gf_buchberger.specs.Ruled.{AreRuledRunsWithinLimits};
 ghost use Rattle.gf_buchberger.specs.Bases.{IsArrangedBasis, IsBasisRefusal, AreRunsWithinLimits, IsWantOfMemory};
 ghost use Rattle.gf_buchberger.specs.Jobs.{HaveRingVariables, IsSuited};
 
@@ -97,6 +99,7 @@ fn by_ways(
     requires suited { IsSuited order.now n set.now }
     ensures ok { IfOk result (IsArrangedBasis order.now n set.now) }
     ensures err { IfErr result (IsBasisRefusal order.now n set.now pairs) }
+    ensures complete_by_rule { AreRuledRunsWithinLimits Degree order.now set.now pairs → IfErr result IsWantOfMemory }
 {
     match basis(alloc, n, set, order, pairs) {
         Ok(found) => Ok(found),
@@ -127,6 +130,8 @@ fn by_ways(
 /// - `Overflow`, `Exponent`: the operands of an operation of a run of Buchberger's algorithm on these polynomials by this order don't fit.
 /// - `PairBudget`: such a run has more than `pairs` pairs to settle.
 /// - `Memory`: memory runs out.
+///
+/// If all operations of the first run by its rule (`IsRuled` of `gf_buchberger`) fit, and `pairs` pairs suffice, the error is `Memory`.
 pub fn basis_by_several_ways(
     alloc: Global,
     n: u32,
@@ -140,6 +145,7 @@ pub fn basis_by_several_ways(
     ensures ok { IfOk result (IsArrangedBasis order.now n set.now) }
     ensures err { IfErr result (IsBasisRefusal order.now n set.now pairs) }
     ensures complete { AreRunsWithinLimits order.now set.now pairs → IfErr result IsWantOfMemory }
+    ensures complete_by_rule { AreRuledRunsWithinLimits Degree order.now set.now pairs → IfErr result IsWantOfMemory }
 {
     by_ways(alloc, n, set, order, pairs)
 }

@@ -76,14 +76,17 @@ whole_shares bs spared old now f e h = (whole_worked bs spared old now f e h).va
 pub pair_shares : (bs : List MarkedPolynomial) (b c : MarkedPolynomial) (s : Split) → SharePairMembers bs b c → IsDescending (joined_terms s) → KeepsPairVariables b c (joined_terms s) → ShareVariables s bs None
 pair_shares bs b c s v d k = record { n = v.n; sound = record { descending = d; variables = k.at v.n v.pair }; members = v.members; spare = tt }
 
-pair_remainder : (bs : List MarkedPolynomial) (b c : MarkedPolynomial) (r : Terms) (old : Split) → IsSPolynomial b c (joined_terms old) → KeepsPairVariables b c (joined_terms old) → AreIrreducible bs None r → IsWorkedOn bs None old (uncut r) → IsPairRemainder bs b c r
-pair_remainder bs b c r old p k a h =
+pair_remainder : (bs : List MarkedPolynomial) (w : List ℕ) (b c : MarkedPolynomial) (r : Terms) (old : Split) → AreMarked (lighter w) bs →
+    IsSPolynomial b c (joined_terms old) → KeepsPairVariables b c (joined_terms old) → AreIrreducible bs None r → IsWorkedOn bs None old (uncut r) →
+    IsPairRemainder bs b c r
+pair_remainder bs w b c r old m p k a h =
     let start : IsWorkedOn bs None (uncut (joined_terms old)) (uncut r) = record { reached = h.reached; variables = h.variables; kept = h.kept } in
     record {
       s = joined_terms old;
       is_s = p;
       variables = k;
       remainder = remainder_at bs (joined_terms old) r (uncut (joined_terms old)) (uncut r) refl refl a start;
+      normal_form = normal_form_of bs w (joined_terms old) r (uncut (joined_terms old)) (uncut r) m refl refl a start;
       kept = remainder_keeps bs (joined_terms old) r (uncut (joined_terms old)) (uncut r) refl refl start;
     }
 
@@ -101,6 +104,8 @@ pub if_kept : {E : Type 0} (bs : List MarkedPolynomial) (f : Terms) (old : Split
 if_kept bs f old (Ok r) e h = remainder_keeps bs f r old (uncut r) e refl h
 if_kept bs f old (Err y) e h = tt
 
-pub if_pair_remainder : {E : Type 0} (bs : List MarkedPolynomial) (b c : MarkedPolynomial) (old : Split) (x : Result Terms E) → IsSPolynomial b c (joined_terms old) → KeepsPairVariables b c (joined_terms old) → IfOk x (AreIrreducible bs None) → IfOk x (λ r. IsWorkedOn bs None old (uncut r)) → IfOk x (IsPairRemainder bs b c)
-if_pair_remainder bs b c old (Ok r) p k a h = pair_remainder bs b c r old p k a h
-if_pair_remainder bs b c old (Err y) p k a h = tt
+pub if_pair_remainder : {E : Type 0} (bs : List MarkedPolynomial) (w : List ℕ) (b c : MarkedPolynomial) (old : Split) (x : Result Terms E) →
+    AreMarked (lighter w) bs → IsSPolynomial b c (joined_terms old) → KeepsPairVariables b c (joined_terms old) → IfOk x (AreIrreducible bs None) →
+    IfOk x (λ r. IsWorkedOn bs None old (uncut r)) → IfOk x (IsPairRemainder bs b c)
+if_pair_remainder bs w b c old (Ok r) m p k a h = pair_remainder bs w b c r old m p k a h
+if_pair_remainder bs w b c old (Err y) m p k a h = tt

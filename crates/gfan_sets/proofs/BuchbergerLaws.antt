@@ -14,7 +14,9 @@ use Rattle.gf_text.specs.Sets.{AreIn}
 use Rattle.gf_text.specs.Vectors.{AreEntriesWithin}
 use Rattle.gf_buchberger.specs.declared.bases.BasisError.{BasisError}
 use Rattle.gf_buchberger.specs.declared.bases.BasisError.TheVariants as basis_errors
-use Rattle.gf_buchberger.specs.Bases.{IsBasisRefusal}
+use Rattle.gf_buchberger.specs.declared.queue.Strategy.TheVariants as strategies
+use Rattle.gf_buchberger.specs.Ruled.{AreRuledRunsWithinLimits}
+use Rattle.gf_buchberger.specs.Bases.{IsBasisRefusal, IsWantOfMemory}
 use Rattle.gf_buchberger.specs.declared.homogeneity.NotHomogeneous.{NotHomogeneous}
 use Rattle.gf_buchberger.specs.Jobs.{HaveRingVariables, IsSuited}
 use Rattle.gf_buchberger.proofs.JobLaws.{orders_that_suit}
@@ -59,10 +61,17 @@ entries_by n k r revlex weight order p q d h = subst (HasEntries k) (sym d) (ord
 
 -- ---- the command
 
-pub basis_refused : (o : BuchbergerOptions) (n k : ℕ) (ring : List (List ℕ)) (weight : Option (List ℤ)) (ws : List Written) (fs : List Terms) (order : MonomialOrder) (e : BasisError) → n ≡ length ring → k ≡ length ring → fs ≡ generators_of ws → order ≡ asked_order o.revlex weight → AllHold (form o.revlex n weight (generators_of ws)) → IsBasisRefusal order k fs o.pairs e → IsUnanswered (buchberger_command o) (ring, (ws, weight)) (of_basis e)
-basis_refused o n k ring weight ws fs order e p q f d g h =
-    IsUnanswered.in_work (subst (λ z. AllHold (form o.revlex z weight (generators_of ws))) p g)
-    (e, refl, subst (λ z. IsBasisRefusal z (length ring) (generators_of ws) o.pairs e) d (subst (λ z. IsBasisRefusal order z (generators_of ws) o.pairs e) q (subst (λ z. IsBasisRefusal order k z o.pairs e) f h)))
+pub basis_refused : (o : BuchbergerOptions) (n k : ℕ) (ring : List (List ℕ)) (weight : Option (List ℤ)) (ws : List Written) (fs : List Terms)
+    (order : MonomialOrder) (e : BasisError) → n ≡ length ring → k ≡ length ring → fs ≡ generators_of ws → order ≡ asked_order o.revlex weight →
+    AllHold (form o.revlex n weight (generators_of ws)) → IsBasisRefusal order k fs o.pairs e →
+    (AreRuledRunsWithinLimits strategies.Degree order fs o.pairs → IsWantOfMemory e) → IsUnanswered (buchberger_command o) (ring, (ws, weight)) (of_basis e)
+basis_refused o n k ring weight ws fs order e p q f d g h m =
+    IsUnanswered.in_work (subst (λ z. AllHold (form o.revlex z weight (generators_of ws))) p g) (
+      e,
+      refl,
+      subst (λ z. IsBasisRefusal z (length ring) (generators_of ws) o.pairs e) d (subst (λ z. IsBasisRefusal order z (generators_of ws) o.pairs e) q (subst (λ z. IsBasisRefusal order k z o.pairs e) f h)),
+      subst (λ z. AreRuledRunsWithinLimits strategies.Degree z (generators_of ws) o.pairs → IsWantOfMemory e) d (subst (λ z. AreRuledRunsWithinLimits strategies.Degree order z o.pairs → IsWantOfMemory e) f m),
+    )
 
 pub of_ring : (o : BuchbergerOptions) (source : List ℕ) (ring : List (List ℕ)) (set : List Written) (w : Option (List ℤ)) → IsTextOf (ring_set_vector o.weighted) source (ring, (set, w)) → (e : Refusal) → IsNamedBy (Some ring) e → IsOfSource source (record { refusal = e; ring = Some ring })
 of_ring o source ring set w r e h = record { named = h; ring = (r.read.behind, r.read.one) }
@@ -86,7 +95,7 @@ not_taken o ring set weight p x y (IsUnanswered.in_form (inl h)) = absurd h
 not_taken o ring set weight p x y (IsUnanswered.in_form (inr (l, inl h))) = h
 not_taken o ring set weight p x y (IsUnanswered.in_form (inr (l, inr (t, inl h)))) = absurd h
 not_taken o ring set weight p x y (IsUnanswered.in_form (inr (l, inr (t, inr (w, h))))) = absurd h
-not_taken o ring set weight p x y (IsUnanswered.in_work g (e, q, h)) = absurd (no_basis e p x y q)
+not_taken o ring set weight p x y (IsUnanswered.in_work g (e, q, h, m)) = absurd (no_basis e p x y q)
 not_taken o ring set weight p x y (IsUnanswered.no_memory m) = cc
 
 -- refusals of checks of bases, which name monomials or polynomials
@@ -119,7 +128,7 @@ no_form revlex n weight fs _ h k = k
 
 not_of_checks : (o : BuchbergerOptions) (ring : List (List ℕ)) (set : List Written) (weight : Option (List ℤ)) (r : Refusal) → IsUnanswered (buchberger_command o) (ring, (set, weight)) r → IsOfChecks r → ⊥
 not_of_checks o ring set weight r (IsUnanswered.in_form h) k = no_form o.revlex (length ring) weight (generators_of set) r h k
-not_of_checks o ring set weight r (IsUnanswered.in_work g (e, q, h)) k = no_check e (subst IsOfChecks q k)
+not_of_checks o ring set weight r (IsUnanswered.in_work g (e, q, h, m)) k = no_check e (subst IsOfChecks q k)
 not_of_checks o ring set weight r (IsUnanswered.no_memory m) k = subst IsOfChecks m k
 
 pub named_job : (o : BuchbergerOptions) (ring : List (List ℕ)) (set : List Written) (weight : Option (List ℤ)) (e : Refusal) → HaveRingVariables (length ring) (generators_of set) → IsUnanswered (buchberger_command o) (ring, (set, weight)) e → IsNamedBy (Some ring) e

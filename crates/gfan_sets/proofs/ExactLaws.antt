@@ -1,8 +1,7 @@
 -- Commands whose refusals are each told in one way.
 -- To cite: buchberger_exact, marked_exact, containment_exact, leading_lawful, leading_source, leading_once, containment_tested. The rest are steps.
-use Rattle.std.specs.Prelude.{◌≡◌, Bool, true, false, [], ◌∷◌, length, Err}
+use Rattle.std.specs.Prelude.{◌≡◌, Bool, true, false, [], ◌∷◌, length}
 use Rattle.std.proofs.Common.{refl, sym, ap, ◌∙◌, subst}
-use Rattle.gf_buchberger.proofs.BasesOfRuns.{if_within}
 use Rattle.gf_front.specs.declared.options.BuchbergerOptions.{BuchbergerOptions}
 use Rattle.gf_front.specs.declared.options.LeadingTermsOptions.{LeadingTermsOptions}
 use Rattle.gf_items.specs.Items.{from}
@@ -17,7 +16,7 @@ use Rattle.gf_frame.proofs.CommandLaws.{IsLawful}
 use Rattle.gf_frame.proofs.SoundLaws.{IsExactCommand, IsTestedCommand, untested, sound_lawful}
 use Rattle.gfan_common.specs.Causes.{of_basis}
 use Rattle.gfan_common.specs.Forms.{generators_of}
-use Rattle.gfan_sets.specs.Buchberger.{asked_order, buchberger_command}
+use Rattle.gfan_sets.specs.Buchberger.{buchberger_command}
 use Rattle.gfan_sets.specs.LeadingTerms.{leading_command, leading_terms_command}
 use Rattle.gfan_common.specs.CheckedSets.{of_check}
 use Rattle.gfan_sets.specs.Marked.{marked_command}
@@ -35,7 +34,7 @@ buchberger_exact o = record {
   reading = one_once _ (ring_and_once a_set (vector_where o.weighted ∷ []));
   checks = λ texts v h. of_one_text (ring_set_vector o.weighted) _ texts v h (λ source r. form_once o.revlex (length v.0) v.1.1 (generators_of v.1.0) (set_kept v.0 (from source r.read.behind) r.read.two.behind v.1.0 r.read.two.one));
   work = λ v r h. subst IsOfWork (sym h.1) (basis_work h.0);
-  within = λ v r w h. h.1 ∙ ap of_basis (if_within {A = Unit {0}} (asked_order o.revlex v.1.1) (length v.0) o.pairs (generators_of v.1.0) (Err h.0) w h.2);
+  within = λ v r w h. h.1 ∙ ap of_basis (h.3 w);
 }
 
 -- ---- `_ismarkedgroebnerbasis`

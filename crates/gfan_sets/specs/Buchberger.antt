@@ -6,7 +6,9 @@ use Rattle.gf_poly.specs.Polynomial.{Terms}
 use Rattle.gf_poly.specs.Marking.{MarkedPolynomials}
 use Rattle.gf_text.specs.declared.written.Written.{Written}
 use Rattle.gf_buchberger.specs.declared.bases.BasisError.{BasisError}
-use Rattle.gf_buchberger.specs.Bases.{IsArrangedBasis, IsBasisRefusal, AreRunsWithinLimits}
+use Rattle.gf_buchberger.specs.declared.queue.Strategy.TheVariants as strategies
+use Rattle.gf_buchberger.specs.Ruled.{AreRuledRunsWithinLimits}
+use Rattle.gf_buchberger.specs.Bases.{IsArrangedBasis, IsBasisRefusal, IsWantOfMemory}
 use Rattle.gf_front.specs.declared.options.BuchbergerOptions.{BuchbergerOptions}
 use Rattle.gf_items.specs.Sources.{ring_set_vector}
 use Rattle.gf_frame.specs.Loading.{Origin}
@@ -35,7 +37,8 @@ pub record IsBasisText (order : MonomialOrder) (ring : List (List ℕ)) (fs : Li
 
 -- ---- the command
 
--- the command `_buchberger`
+-- The command `_buchberger`. It is refused for the operands of an operation of a run of Buchberger's algorithm, or for a spent budget; where the run by
+-- the rule of the program stays within its limits, for want of memory alone.
 abbrev pub buchberger_command : BuchbergerOptions → Command
 buchberger_command o = record {
   Value = List (List ℕ) × (List Written × Option (List ℤ));
@@ -43,7 +46,8 @@ buchberger_command o = record {
   reading = of_one (ring_set_vector o.weighted);
   checks = λ v. form o.revlex (length v.0) v.1.1 (generators_of v.1.0);
   IsAnswer = λ v text. IsBasisText (asked_order o.revlex v.1.1) v.0 (generators_of v.1.0) text;
-  IsCause = λ v r. (e : BasisError) × (r ≡ of_basis e) × IsBasisRefusal (asked_order o.revlex v.1.1) (length v.0) (generators_of v.1.0) o.pairs e;
-  IsWithin = λ v. AreRunsWithinLimits (asked_order o.revlex v.1.1) (generators_of v.1.0) o.pairs;
+  IsCause = λ v r. (e : BasisError) × (r ≡ of_basis e) × IsBasisRefusal (asked_order o.revlex v.1.1) (length v.0) (generators_of v.1.0) o.pairs e
+      × (AreRuledRunsWithinLimits strategies.Degree (asked_order o.revlex v.1.1) (generators_of v.1.0) o.pairs → IsWantOfMemory e);
+  IsWithin = λ v. AreRuledRunsWithinLimits strategies.Degree (asked_order o.revlex v.1.1) (generators_of v.1.0) o.pairs;
   writing = Writing.at_end;
 }

@@ -1,7 +1,8 @@
 -- Runs of Buchberger's algorithm on variables and differences of variables: their members stay such, and no two have the same mark. For the S-polynomials of
 -- such a list need no new member, since its marks are coprime: the list is a Gröbner basis of the ideal that it generates.
 -- To cite: same_or_not, entry_low, alone, place_of, place_there, same_places, weight_ones, homogeneous, IsOfDegree, AreLinearMembers, AreLinearMarked, plain,
--- join_low, closed-degree, shift_short, s_polynomial_degree, at_contained, step_short, tail_linear, linear_basis, few, run_short, pairs_mono, linear_runs.
+-- join_low, closed-degree, shift_short, s_polynomial_degree, at_contained, step_short, tail_linear, linear_basis, few, run_short, pairs_mono, linear_runs,
+-- linear_ruled_runs.
 -- The rest are steps.
 use Rattle.std.proofs.Common.{
   ◌≡◌,
@@ -57,9 +58,10 @@ use Rattle.gf_ideal_theory.proofs.StepLaws.{IsClosed, IsWithin, reached-one, mul
 use Rattle.gf_ideal_theory.proofs.StepLaws.{member-s_polynomial}
 use Rattle.gf_ideal_theory.proofs.WorkLaws.{work-marked, work-members}
 use Rattle.gf_buchberger.specs.Pairs.{pairs_below}
+use Rattle.gf_buchberger.proofs.RuledLaws.{ruled_within_limits}
 use Rattle.gf_binomials_theory.proofs.PrincipalRuns.{form_to}
 use Rattle.gf_binomials_theory.proofs.RunLaws.{run_fits}
-use Rattle.gfan_theory.specs.Linear.{IsLinear, AreLinearForms, LinearRunsStayWithinLimits}
+use Rattle.gfan_theory.specs.Linear.{IsLinear, AreLinearForms, LinearRunsStayWithinLimits, LinearRuledRunsStayWithinLimits}
 
 -- ---- numbers
 
@@ -422,3 +424,6 @@ linear_runs order n fs budget a d room = record {
   exponents = λ left right o. run_short order n fs a d.forms left right o;
   pairs = λ bs w. let p = pairs_mono (length bs) n (few order n fs a d.forms bs w) in omega (arith, p, room);
 }
+
+pub linear_ruled_runs : LinearRuledRunsStayWithinLimits
+linear_ruled_runs strategy order n fs budget a v d room = ruled_within_limits strategy order n fs budget v (linear_runs order n fs budget a d room)

@@ -7,7 +7,10 @@ use Rattle.gf_ideal_theory.specs.Membership.{HasMonomial, AreInVariables}
 use Rattle.gf_ideal_theory.specs.MonomialOrders.{MonomialOrder, IsAdmissible}
 use Rattle.gf_binomials_theory.specs.Binomials.{AreBinomials}
 use Rattle.gf_buchberger.specs.Pairs.{pairs_below}
+use Rattle.gf_buchberger.specs.declared.queue.Strategy.{Strategy}
 use Rattle.gf_buchberger.specs.Bases.{AreRunsWithinLimits}
+use Rattle.gf_buchberger.specs.Jobs.{HaveRingVariables}
+use Rattle.gf_buchberger.specs.Ruled.{AreRuledRunsWithinLimits}
 use Rattle.gf_poly.specs.Marking.{MarkedPolynomial, MarkedPolynomials}
 use Rattle.gf_reduced.specs.Markings.{IsMarkedGroebnerBasis}
 use Rattle.gf_reduced.specs.Terms.{AreReduced}
@@ -45,6 +48,11 @@ pub record AreLinearDifferences (n : ℕ) (fs : List Terms) : Type 0 where
 abbrev pub LinearRunsStayWithinLimits : Type 0
 LinearRunsStayWithinLimits = (order : MonomialOrder) (n : ℕ) (fs : List Terms) (budget : ℕ) → IsAdmissible order n (replicate n 1) →
     AreLinearDifferences n fs → pairs_below n ≤ budget → AreRunsWithinLimits order fs budget
+
+-- Nor has the run by the rule of the program, whatever pairs it takes first; with the least degree first, that is what `_buchberger` needs.
+abbrev pub LinearRuledRunsStayWithinLimits : Type 0
+LinearRuledRunsStayWithinLimits = (strategy : Strategy) (order : MonomialOrder) (n : ℕ) (fs : List Terms) (budget : ℕ) → IsAdmissible order n (replicate n 1) →
+    HaveRingVariables n fs → AreLinearDifferences n fs → pairs_below n ≤ budget → AreRuledRunsWithinLimits strategy order fs budget
 
 -- So it is with the flips of their ideal, in each region; with the search over its bases, in at most three variables and for rows of the region up to 500;
 -- and with all that `_bases` may do without a limit: for all positive weights, with certificates or without; and without certificates in the region of at

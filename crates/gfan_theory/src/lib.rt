@@ -10,7 +10,8 @@ ghost use Rattle.gfan_theory.specs.Served.{AnswersServe};
 ghost use Rattle.gfan_theory.specs.Certified.{AnswersAreCertified};
 ghost use Rattle.gfan_theory.specs.Joined.{RunsAreJoined};
 ghost use Rattle.gfan_theory.specs.Differences.{RegionsOfDifferencesFit, CertificatesOfDifferencesFit};
-ghost use Rattle.gfan_theory.specs.Linear.{LinearRunsStayWithinLimits, LinearIdealsStayWithinLimits, LinearWeightsStayWithinLimits};
+ghost use Rattle.gfan_theory.specs.Linear.{LinearRunsStayWithinLimits, LinearRuledRunsStayWithinLimits};
+ghost use Rattle.gfan_theory.specs.Linear.{LinearIdealsStayWithinLimits, LinearWeightsStayWithinLimits};
 ghost use Rattle.gfan_theory.specs.Everyday.{RegionsOfBinomialsStayWithinLimits, CertificatesOfVariablesStayWithinLimits};
 
 /// Each answer of `_bases` is the text of the list of all bases of an ideal in a region, or of the part of that list that follows a basis: the ideal
@@ -76,6 +77,7 @@ pub fn certificates_of_variables_stay_within_limits()
 /// others in at most three. The budget of pairs is at least that of a list with as many members as there are variables.
 pub fn linear_ideals_stay_within_limits()
     ensures runs { LinearRunsStayWithinLimits }
+    ensures ruled { LinearRuledRunsStayWithinLimits }
     ensures ideals { LinearIdealsStayWithinLimits }
 {}
 

@@ -20,7 +20,11 @@ pub left_of-requires : goal.left_of-requires
 left_of-requires c = left_comparable c.args.order.now c.args.run.now.members.items c.args.f.now c.in_ok-copy.field-0 c.in_ok-r.r c.in_ok-copy.ensures c.requires.variables c.in_ok-r.ensures.variables
 
 pub returns-clause-ok : goal.returns-clause-ok
-returns-clause-ok c = if_entry_left c.args.order.now (state_of c.args.run.now) c.deref.result.now c.args.f.now c.in_ok-copy.field-0 c.in_ok-r.r c.left_of.result c.deref.ensures.value c.in_ok-copy.ensures c.in_ok-r.ensures.value c.in_ok-r.ensures.variables c.left_of.ensures.ok
+returns-clause-ok c =
+    if_entry_left c.args.order.now
+    (state_of c.args.run.now) c.deref.result.now c.args.f.now c.in_ok-copy.field-0 c.in_ok-r.r c.left_of.result c.deref.ensures.value c.in_ok-copy.ensures c.in_ok-r.ensures.value c.in_ok-r.ensures.normal_form c.in_ok-r.ensures.variables c.left_of.ensures.ok
 
 pub returns-clause-cause : goal.returns-clause-cause
-returns-clause-cause c = if_entry_monic c.args.order.now (state_of c.args.run.now) c.deref.result.now c.args.f.now c.in_ok-copy.field-0 c.in_ok-r.r c.left_of.result c.deref.ensures.value c.in_ok-copy.ensures c.in_ok-r.ensures.value c.left_of.ensures.cause
+returns-clause-cause c =
+    if_entry_monic c.args.order.now
+    (state_of c.args.run.now) c.deref.result.now c.args.f.now c.in_ok-copy.field-0 c.in_ok-r.r c.left_of.result c.deref.ensures.value c.in_ok-copy.ensures c.in_ok-r.ensures.value c.in_ok-r.ensures.normal_form c.left_of.ensures.cause

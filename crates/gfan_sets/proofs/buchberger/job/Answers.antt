@@ -22,4 +22,4 @@ basis_by_several_ways-requires-clause-suited c =
 pub returns-in-Err-basis_by_several_ways-clause-err : goal.returns-in-Err-basis_by_several_ways-clause-err
 returns-in-Err-basis_by_several_ways-clause-err c =
     subst (λ (z : Refusal). IsUnanswered (buchberger_command c.args.options) (c.args.ring.now, (c.args.set.now, c.args.weight)) z) (sym c.of_basis.ensures)
-    (basis_refused c.args.options c.len.result c.len-2.result c.args.ring.now c.args.weight c.args.set.now c.deref.result.now c.in-Ok.question.order c.in-Err-basis_by_several_ways.error c.len.ensures.value c.len-2.ensures.value (c.deref.ensures.value ∙ c.in-Ok.ensures.ok.generators) c.in-Ok.ensures.ok.order c.in-Ok.ensures.ok.formed c.in-Err-basis_by_several_ways.ensures.err)
+    (basis_refused c.args.options c.len.result c.len-2.result c.args.ring.now c.args.weight c.args.set.now c.deref.result.now c.in-Ok.question.order c.in-Err-basis_by_several_ways.error c.len.ensures.value c.len-2.ensures.value (c.deref.ensures.value ∙ c.in-Ok.ensures.ok.generators) c.in-Ok.ensures.ok.order c.in-Ok.ensures.ok.formed c.in-Err-basis_by_several_ways.ensures.err c.in-Err-basis_by_several_ways.ensures.complete_by_rule)

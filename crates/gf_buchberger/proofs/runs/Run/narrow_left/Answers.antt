@@ -28,7 +28,15 @@ pub left_of-requires : goal.left_of-requires
 left_of-requires c = comparable c.args.order.now c.requires.reducers.n c.in_ok-s.s c.in_ok-r.r (s_polynomial_variables c.requires.reducers.n c.args.self.now.members.items c.args.i c.args.j c.index.result.now c.index-2.result.now c.in_ok-s.s c.requires.reducers.each (are_read _ _ _ _ _ c.requires.first c.requires.second c.index.ensures c.index-2.ensures) c.in_ok-s.ensures.variables) c.in_ok-r.ensures.variables c.requires.reducers.entries
 
 pub returns-clause-cause : goal.returns-clause-cause
-returns-clause-cause c = if_left_refused c.args.order.now (state_of c.args.self.now) c.deref.result.now c.args.i c.args.j c.index.result.now c.index-2.result.now c.in_ok-s.s c.in_ok-r.r c.left_of.result c.deref.ensures.value (are_read _ _ _ _ _ c.requires.first c.requires.second c.index.ensures c.index-2.ensures) (s_polynomial_is c.args.self.now.members.items c.args.i c.args.j c.index.result.now c.index-2.result.now c.in_ok-s.s c.requires.reducers.weight (are_read _ _ _ _ _ c.requires.first c.requires.second c.index.ensures c.index-2.ensures) c.in_ok-s.ensures.value) c.in_ok-r.ensures.value c.left_of.ensures.cause
+returns-clause-cause c =
+    if_left_refused c.args.order.now
+    (state_of c.args.self.now) c.deref.result.now c.args.i c.args.j c.index.result.now c.index-2.result.now c.in_ok-s.s c.in_ok-r.r c.left_of.result c.deref.ensures.value
+    (are_read _ _ _ _ _ c.requires.first c.requires.second c.index.ensures c.index-2.ensures)
+    (s_polynomial_is c.args.self.now.members.items c.args.i c.args.j c.index.result.now c.index-2.result.now c.in_ok-s.s c.requires.reducers.weight (are_read _ _ _ _ _ c.requires.first c.requires.second c.index.ensures c.index-2.ensures) c.in_ok-s.ensures.value) c.in_ok-r.ensures.value c.in_ok-r.ensures.normal_form c.left_of.ensures.cause
 
 pub returns-clause-ok : goal.returns-clause-ok
-returns-clause-ok c = if_left c.args.order.now (state_of c.args.self.now) c.deref.result.now c.args.i c.args.j c.index.result.now c.index-2.result.now c.in_ok-s.s c.in_ok-r.r c.left_of.result c.deref.ensures.value (are_read _ _ _ _ _ c.requires.first c.requires.second c.index.ensures c.index-2.ensures) (s_polynomial_is c.args.self.now.members.items c.args.i c.args.j c.index.result.now c.index-2.result.now c.in_ok-s.s c.requires.reducers.weight (are_read _ _ _ _ _ c.requires.first c.requires.second c.index.ensures c.index-2.ensures) c.in_ok-s.ensures.value) c.in_ok-s.ensures.variables c.in_ok-r.ensures.value c.in_ok-r.ensures.variables c.left_of.ensures.ok
+returns-clause-ok c =
+    if_left c.args.order.now
+    (state_of c.args.self.now) c.deref.result.now c.args.i c.args.j c.index.result.now c.index-2.result.now c.in_ok-s.s c.in_ok-r.r c.left_of.result c.deref.ensures.value
+    (are_read _ _ _ _ _ c.requires.first c.requires.second c.index.ensures c.index-2.ensures)
+    (s_polynomial_is c.args.self.now.members.items c.args.i c.args.j c.index.result.now c.index-2.result.now c.in_ok-s.s c.requires.reducers.weight (are_read _ _ _ _ _ c.requires.first c.requires.second c.index.ensures c.index-2.ensures) c.in_ok-s.ensures.value) c.in_ok-s.ensures.variables c.in_ok-r.ensures.value c.in_ok-r.ensures.normal_form c.in_ok-r.ensures.variables c.left_of.ensures.ok
