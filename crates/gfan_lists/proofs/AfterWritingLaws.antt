@@ -21,9 +21,9 @@ use Rattle.gf_frame.specs.Commands.{Command, IsRefusedOn}
 use Rattle.gf_frame.specs.Runs.{IsDoneOn, IsStoppedOn}
 use Rattle.gf_frame.proofs.WorkLaws.{nothing_but_limit, text_stopped}
 use Rattle.gfan_lists.specs.declared.bases.ListOptions.{ListOptions}
-use Rattle.gfan_lists.specs.BasesWriting.{IsListWrittenBehind, IsListBegunBehind, IsListStoppedBehind}
+use Rattle.gfan_lists.specs.BasesWriting.{IsListWrittenBehind, IsListStoppedBehind}
 use Rattle.gfan_lists.specs.Bases.{IsGoingCauseBehind}
-use Rattle.gfan_common.specs.Performed.{IsBegunAs, IsStoppedFor}
+use Rattle.gfan_common.specs.Performed.{IsStoppedFor}
 use Rattle.gfan_common.specs.Refused.{without_names, IsNamedBy, IsOfSource}
 use Rattle.gfan_common.specs.ToolForms.{for_each}
 use Rattle.gfan_lists.specs.After.{IsOtherRing, IsBasisTaken, names_given, generators_given, reading_given, IsBasisGiven, IsRegionCut, cut_texts, IsOfCutFile, IsCutFileRefused, IsUnbegun, IsStartRefused, IsCauseAfter, IsRefusedAfter, AfterValue, checks_after, after_command}
@@ -31,6 +31,7 @@ use Rattle.gfan_common.proofs.PerformedLaws.{performed_on, stopped_on}
 use Rattle.gfan_common.proofs.RefusedLaws.{of_source}
 use Rattle.gfan_lists.proofs.WithinLaws.{stopped_in_form, stopped_in_work, form_unlisted, region_unlisted, region_told, rows_hold}
 use Rattle.gfan_lists.proofs.AfterCommandLaws.{start_unlisted, cut_rows}
+use Rattle.gfan_lists.proofs.StoppedLaws.{stopped_for}
 
 -- ---- how it is read
 
@@ -132,16 +133,15 @@ module _ (from_basis is_cut : Bool) (sources : List Origin) (o : ListOptions) (t
         performed_on (after_command from_basis is_cut sources o) texts v read (formed_after from_basis is_cut v k i e) held holds n m (λ x. x)
         (p.0, (k, i, e, g, record { basis = b; taken = t; front = front; list = p.1 }), p.2) calm
 
-    begun_after : (r : Refusal) → IsListBegunBehind (front ++ b ∷ []) o (names_given from_basis v.1.1) k (generators_given from_basis v.1.1) held holds r → IsBegunAs (after_command from_basis is_cut sources o) v held holds r
-    begun_after r p = (p.0, (k, i, e, g, record { basis = b; taken = t; front = front; begun = p.1 }), p.2)
-
     cause_behind : (r : Refusal) → IsGoingCauseBehind (front ++ b ∷ []) o (length (names_given from_basis v.1.1)) k (generators_given from_basis v.1.1) r → IsRefusedAfter from_basis is_cut o v.0 v.1.0.0 v.1.1 v.1.0.1 r
     cause_behind r c = IsRefusedAfter.behind k i e (IsCauseAfter.going b front t g c)
 
     stopped_after : (r : Refusal) → IsListStoppedBehind (front ++ b ∷ []) o (names_given from_basis v.1.1) k (generators_given from_basis v.1.1) held holds n m r → IsStoppedFor (after_command from_basis is_cut sources o) v held holds n m r
-    stopped_after refusals.WriteFault h = (h.0, (h.1.0, (k, i, e, g, record { basis = b; taken = t; front = front; list = h.1.1 }), h.1.2))
-    stopped_after (refusals.ListLimit most) h = (cause_behind (refusals.ListLimit most) h.0, begun_after (refusals.ListLimit most) h.1)
-    stopped_after r h = (elim (h.0) [ inl c ↦ inl (cause_behind r c) | inr x ↦ inr x ], elim (h.1) [ inl x ↦ inl x | inr p ↦ inr (begun_after r p) ])
+    stopped_after r h =
+        stopped_for (after_command from_basis is_cut sources o) v (front ++ b ∷ []) o (names_given from_basis v.1.1) k (generators_given from_basis v.1.1)
+        held holds n m
+        (λ text x. (k, i, e, g, record { basis = b; taken = t; front = front; list = x }))
+        (λ text d x. (k, i, e, g, record { basis = b; taken = t; front = front; begun = x })) cause_behind r h
 
     -- or stopped
     pub after_cut : (r : Refusal) → IsListStoppedBehind (front ++ b ∷ []) o (names_given from_basis v.1.1) k (generators_given from_basis v.1.1) held holds n m r → ((r ≡ refusals.WriteFault → ⊥) → m ≡ n) →

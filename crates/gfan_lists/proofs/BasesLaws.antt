@@ -2,7 +2,7 @@
 -- To cite: starts, goes_on, ends, stopped_early, stopped_tree, stopped_limit, stopped_piece, stopped_end, stopped_unended; first_goes_on, after_goes_on;
 -- stopped_list, stopped_root; unnamed_write, unnamed_piece, unwritten_calm, piece_calm, generators_in. The rest are steps.
 use Rattle.std.specs.Prelude.{◌≡◌, ℕ, zero, suc, ◌+◌, ◌<◌, Bool, true, false, List, [], ◌∷◌, ◌++◌, length, Option, None, Some}
-use Rattle.std.specs.Io.KnownBytes.{Appends}
+use Rattle.std.specs.Io.KnownBytes.{Appends, Keeps}
 use Rattle.std.specs.Global.{Global}
 use Rattle.std.proofs.Common.{arith, refl, sym, ap, ◌∙◌, subst, inl, inr, append_assoc, append-nil, length-append}
 use Rattle.std.proofs.lemmas.Bool.{cases_lt}
@@ -44,14 +44,18 @@ use Rattle.gfan_common.specs.Forms.{generators_of}
 use Rattle.gfan_common.specs.Causes.{of_basis, of_weight_error, of_tree}
 use Rattle.gfan_lists.specs.BasesList.{AreAllBasesIn}
 use Rattle.gfan_lists.specs.Certificates.{IsItemTextIn, IsItemRefusalIn}
-use Rattle.gfan_lists.specs.Bases.{AreItemTextsIn, IsWithinLimit, IsBegunListBehind, IsBegunTextBehind, list_text, begun_text, IsSearchRefusedBehind, IsListCause, bases_command, IsGoingCauseBehind, IsFullTextBehind}
-use Rattle.gfan_lists.specs.BasesWriting.{basis_piece, IsBasisWritten, IsUnwritten, IsBasisUnwritten, HasRoomFor, IsOneLess, IsFull, IsRootRefusal, StartsIn, GoesOnBehind, IsListWrittenBehind, IsListStoppedBehind, IsListStoppedIn, end_piece, is_none_of, IsUnderWay}
+use Rattle.gfan_lists.specs.Bases.{AreItemTextsIn, IsWithinLimit, list_text, begun_text, IsListCause, bases_command, IsFullTextBehind, IsStoppedAt}
+use Rattle.gfan_lists.specs.Bases.{IsBegunWhereBehind}
+use Rattle.gfan_lists.specs.BasesWriting.{basis_piece, IsBasisWritten, IsUnwritten, IsBasisUnwritten, HasRoomFor, IsOneLess, IsFull, IsRootRefusal}
+use Rattle.gfan_lists.specs.BasesWriting.{StartsIn, GoesOnBehind, IsListWrittenBehind, IsListBegunBehind, IsListStoppedBehind, IsListStoppedIn}
+use Rattle.gfan_lists.specs.BasesWriting.{end_piece, is_none_of, IsUnderWay}
 use Rattle.gfan_common.specs.Refused.{IsUnnamed, without_names}
 use Rattle.gfan_common.specs.Performed.{IsStoppedFor}
 use Rattle.gfan_common.proofs.WrittenSetLaws.{in_ring}
 use Rattle.gfan_common.proofs.CauseLaws.{unnamed_weight}
 use Rattle.gfan_lists.proofs.BasesListLaws.{among_left, among_right, root_marks, all_bases_in}
 use Rattle.gfan_lists.proofs.CertificateLaws.{AllZip-append, items_exist}
+use Rattle.gfan_lists.proofs.StoppedLaws.{stopped_for}
 use Rattle.gfan_lists.proofs.BasesTextLaws.{begun_next, whole_begun, prefix_on, prefix_piece, prefix_begun}
 
 -- ---- room
@@ -82,6 +86,10 @@ room_within None Endless written h = tt
 room_within None (Limited most left) written h = absurd h
 room_within (Some limit) Endless written h = absurd h
 room_within (Some limit) (Limited most left) written h = omega (arith, h.1)
+
+none_within : (limit : Option ℕ) → IsWithinLimit limit []
+none_within None = tt
+none_within (Some most) = omega arith
 
 -- ---- the list under way
 
@@ -127,26 +135,32 @@ module _ (before : List MarkedPolynomials) (o : ListOptions) (ring : List (List 
     from_row x h = node_moved (ideal_in row) (ideal_within (length ring) fs j) x same_fan h
 
     -- a refusal of the waves comes of a call at a basis of that ideal, one that is written or the next one
-    tree_cause : (e : TreeError) → ((nodes : List MarkedPolynomials) → AreLeftIn row nodes → IsRefusedEarly (ideal_in row) row.pairs nodes e) → IsSearchRefusedBehind before o (length ring) j fs e
-    tree_cause e h = record {
+    early_here : (e : TreeError) → ((nodes : List MarkedPolynomials) → AreLeftIn row nodes → IsRefusedEarly (ideal_in row) row.pairs nodes e) →
+        IsRefusedEarly (ideal_within (length ring) fs j) o.pairs way.rest e
+    early_here e h =
+        subst (λ p. IsRefusedEarly (ideal_within (length ring) fs j) p way.rest e) way.pairs
+        (early_moved (ideal_in row) (ideal_within (length ring) fs j) row.pairs way.rest e same_fan (h way.rest way.left))
+
+    -- what is written until now stands where the list is refused behind it
+    begun_now : (r : Refusal) → IsStoppedAt o (length ring) j fs way.written way.rest r → IsBegunWhereBehind before o ring j fs (begun_text ring way.items) r
+    begun_now r h = record {
       written = way.written;
       rest = way.rest;
-      are_all = way.are_all;
+      begun = record { are_all = way.are_all; items = way.items; are_items = way.are_items; is_text = refl };
       few = room_within o.limit room way.written way.fits;
-      early = subst (λ p. IsRefusedEarly (ideal_within (length ring) fs j) p way.rest e) way.pairs (early_moved (ideal_in row) (ideal_within (length ring) fs j) row.pairs way.rest e same_fan (h way.rest way.left));
+      cause = h;
     }
 
-    -- what is written until now
-    begun_here : (rest : List MarkedPolynomials) → way.rest ≡ rest → IsBegunListBehind before o.certified ring j fs way.written rest (begun_text ring way.items)
-    begun_here rest e = record {
-      are_all = subst (λ l. AreAllBasesIn (length ring) j fs (before ++ (way.written ++ l))) e way.are_all;
-      items = way.items;
-      are_items = way.are_items;
-      is_text = refl;
-    }
+    stands : (r : Refusal) → IsStoppedAt o (length ring) j fs way.written way.rest r → IsListBegunBehind before o ring j fs held holds r
+    stands r h = (begun_text ring way.items, begun_now r h, way.gained)
 
-    begun_now : IsBegunTextBehind before o ring j fs (begun_text ring way.items)
-    begun_now = (way.written, way.rest, begun_here way.rest refl, room_within o.limit room way.written way.fits)
+    -- where memory runs out while a piece is written, nothing of it is
+    stands_kept : (then : Option (List ℕ)) → Keeps holds then → IsListBegunBehind before o ring j fs held then refusals.Memory
+    stands_kept then k = (
+      begun_text ring way.items,
+      begun_now refusals.Memory (IsStoppedAt.no_memory refl),
+      Appends-kept held holds then (begun_text ring way.items) way.gained k,
+    )
 
     module _ (new : Row) (b : MarkedPolynomials) (step : IsNextRow row new b) where
       next : (rest : List MarkedPolynomials) × (way.rest ≡ b ∷ rest) × AreLeftIn new rest
@@ -194,47 +208,23 @@ module _ (before : List MarkedPolynomials) (o : ListOptions) (ring : List (List 
       stopped_limit n m r f = at (room_full o.limit room way.written r way.fits f)
         where
           at : IsAtLimit o.limit way.written r → IsListStoppedBehind before o ring j fs held holds n m r
-          at l = subst (λ z. IsListStoppedBehind before o ring j fs held holds n m z) (sym l.told) (
-            IsGoingCauseBehind.at_limit l.most (record {
-              is_limit = l.is_limit;
-              list = way.written ++ b ∷ next.0;
-              are_all = all_next;
-              longer = omega (arith, l.just, length-append way.written (b ∷ next.0));
-            }) refl,
-            (
-              begun_text ring way.items,
-              record {
-                is_limit = l.is_limit;
-                written = way.written;
-                next = b;
-                rest = next.0;
-                begun = begun_here (b ∷ next.0) next.1;
-                just = l.just;
-              },
-              way.gained,
-            ),
-          )
+          at l = subst (λ z. IsListStoppedBehind before o ring j fs held holds n m z) (sym l.told)
+              (stands (refusals.ListLimit l.most) (IsStoppedAt.at_limit l.most b next.0 next.1 l.is_limit l.just refl))
 
       -- its piece isn't made: there is no memory, or its certificates are refused
       stopped_unmade : (after : Room) (n m : ℕ) (r : Refusal) → IsOneLess room after → IsItemRefusalIn o.certified j b r → IsListStoppedBehind before o ring j fs held holds n m r
       stopped_unmade after n m r less h = at o.certified r refl h
         where
-          told : (e : WeightError) → IsGoingCauseBehind before o (length ring) j fs (of_weight_error e) → IsListStoppedBehind before o ring j fs held holds n m (of_weight_error e)
-          told (weight_errors.Cone x) c = (inl c, inr (begun_text ring way.items, (tt, inl c, begun_now), way.gained))
-          told (weight_errors.Wide x) c = (inl c, inr (begun_text ring way.items, (tt, inl c, begun_now), way.gained))
-          told weight_errors.Memory c = (inl c, inr (begun_text ring way.items, (tt, inl c, begun_now), way.gained))
+          told : (e : WeightError) → IsStoppedAt o (length ring) j fs way.written way.rest (of_weight_error e) →
+              IsListStoppedBehind before o ring j fs held holds n m (of_weight_error e)
+          told (weight_errors.Cone x) c = stands (of_weight_error (weight_errors.Cone x)) c
+          told (weight_errors.Wide x) c = stands (of_weight_error (weight_errors.Wide x)) c
+          told weight_errors.Memory c = stands (of_weight_error weight_errors.Memory) c
 
           at : (k : Bool) (r : Refusal) → o.certified ≡ k → IsItemRefusalIn k j b r → IsListStoppedBehind before o ring j fs held holds n m r
-          at false r e q = subst (IsListStoppedBehind before o ring j fs held holds n m) (sym q) (inr refl, inr (begun_text ring way.items, (tt, inr refl, begun_now), way.gained))
-          at true r e (w, u, q) = subst (IsListStoppedBehind before o ring j fs held holds n m) (sym q) (told w (IsGoingCauseBehind.at_certificates (record {
-            certified = e;
-            written = way.written;
-            basis = b;
-            rest = next.0;
-            are_all = all_next;
-            few = room_within o.limit after (way.written ++ b ∷ []) (room_next o.limit room after way.written b way.fits less);
-            uncertified = (w, u, refl);
-          })))
+          at false r e q = subst (IsListStoppedBehind before o ring j fs held holds n m) (sym q) (stands refusals.Memory (IsStoppedAt.no_memory refl))
+          at true r e (w, u, q) = subst (IsListStoppedBehind before o ring j fs held holds n m) (sym q) (told w (IsStoppedAt.at_certificates b next.0 next.1 e
+              (room_within o.limit after (way.written ++ b ∷ []) (room_next o.limit room after way.written b way.fits less)) (w, u, refl)))
 
       -- what stands for the bases behind it
       later : (ts : List (List ℕ)) × AreItemTextsIn o.certified ring j next.0 ts
@@ -301,19 +291,20 @@ module _ (before : List MarkedPolynomials) (o : ListOptions) (ring : List (List 
         where
           at : (r : Refusal) → IsUnwritten holds then n m piece r → IsListStoppedBehind before o ring j fs held then n m r
           at refusals.WriteFault u = (u.0, cut_prefix after then p.item less p.is_item (subst (λ f. AppendsPrefix holds then (basis_piece ring f p.item)) way.first (subst (AppendsPrefix holds then) p.is_piece u.1)))
-          at refusals.Memory u = (inr refl, inr (begun_text ring way.items, (tt, inr refl, begun_now), Appends-kept held holds then (begun_text ring way.items) way.gained u.0))
+          at refusals.Memory u = stands_kept then u.0
           at _ u = absurd u
 
     -- the next basis is refused
     pub stopped_tree : (n m : ℕ) (e : TreeError) → ((nodes : List MarkedPolynomials) → AreLeftIn row nodes → IsRefusedEarly (ideal_in row) row.pairs nodes e) → IsListStoppedBehind before o ring j fs held holds n m (of_tree e)
-    stopped_tree n m e h = at e (IsGoingCauseBehind.in_tree e (tree_cause e h) refl)
+    stopped_tree n m e h = at e (IsStoppedAt.in_tree e (early_here e h) refl)
       where
-        at : (e : TreeError) → IsGoingCauseBehind before o (length ring) j fs (of_tree e) → IsListStoppedBehind before o ring j fs held holds n m (of_tree e)
-        at (tree_errors.Overflow x) c = (inl c, inr (begun_text ring way.items, (tt, inl c, begun_now), way.gained))
-        at (tree_errors.Exponent x) c = (inl c, inr (begun_text ring way.items, (tt, inl c, begun_now), way.gained))
-        at (tree_errors.PairBudget basis unsettled) c = (inl c, inr (begun_text ring way.items, (tt, inl c, begun_now), way.gained))
-        at (tree_errors.Cone x) c = (inl c, inr (begun_text ring way.items, (tt, inl c, begun_now), way.gained))
-        at tree_errors.Memory c = (inl c, inr (begun_text ring way.items, (tt, inl c, begun_now), way.gained))
+        at : (e : TreeError) → IsStoppedAt o (length ring) j fs way.written way.rest (of_tree e) →
+            IsListStoppedBehind before o ring j fs held holds n m (of_tree e)
+        at (tree_errors.Overflow x) c = stands (of_tree (tree_errors.Overflow x)) c
+        at (tree_errors.Exponent x) c = stands (of_tree (tree_errors.Exponent x)) c
+        at (tree_errors.PairBudget basis unsettled) c = stands (of_tree (tree_errors.PairBudget basis unsettled)) c
+        at (tree_errors.Cone x) c = stands (of_tree (tree_errors.Cone x)) c
+        at tree_errors.Memory c = stands (of_tree tree_errors.Memory) c
 
     -- nothing is left: all bases are written
     module _ (new : Row) (end : IsRowEnd row new) where
@@ -358,16 +349,28 @@ module _ (before : List MarkedPolynomials) (o : ListOptions) (ring : List (List 
           prefix_on held holds then (begun_text ring way.items) (end_piece ring is_first) [] (list_text ring way.items) way.gained u.1 (whole ∙ sym (append-nil (begun_text ring way.items ++ end_piece ring is_first))),
         ),
       )
-      stopped_end then n m refusals.Memory u = (inr refl, inr (begun_text ring way.items, (tt, inr refl, begun_now), Appends-kept held holds then (begun_text ring way.items) way.gained u.0))
+      stopped_end then n m refusals.Memory u = stands_kept then u.0
       stopped_end then n m _ u = absurd u
 
       -- the piece isn't made
       pub stopped_unended : (n m : ℕ) (r : Refusal) → r ≡ refusals.Memory → IsListStoppedBehind before o ring j fs held holds n m r
-      stopped_unended n m r e = subst (λ z. IsListStoppedBehind before o ring j fs held holds n m z) (sym e) (inr refl, inr (begun_text ring way.items, (tt, inr refl, begun_now), way.gained))
+      stopped_unended n m r e =
+          subst (λ z. IsListStoppedBehind before o ring j fs held holds n m z) (sym e) (stands refusals.Memory (IsStoppedAt.no_memory refl))
 
   -- there is no memory before anything is written
-  pub stopped_early : (held : Option (List ℕ)) (n m : ℕ) (r : Refusal) → r ≡ refusals.Memory → IsListStoppedBehind before o ring j fs held held n m r
-  stopped_early held n m r e = subst (λ z. IsListStoppedBehind before o ring j fs held held n m z) (sym e) (inr refl, inl (Keeps-refl held))
+  pub stopped_early : (row : Row) (held : Option (List ℕ)) (n m : ℕ) (r : Refusal) → GoesOnBehind before (length ring) j fs o.pairs row →
+      r ≡ refusals.Memory → IsListStoppedBehind before o ring j fs held held n m r
+  stopped_early row held n m r h e = subst (λ z. IsListStoppedBehind before o ring j fs held held n m z) (sym e) (
+    [],
+    record {
+      written = [];
+      rest = h.rest;
+      begun = record { are_all = h.are_all; items = []; are_items = tt; is_text = refl };
+      few = none_within o.limit;
+      cause = IsStoppedAt.no_memory refl;
+    },
+    Appends-nil held,
+  )
 
 -- ---- where a row goes on
 
@@ -425,9 +428,9 @@ after_goes_on n k fs budget b root walk number row first node resumed row_is = (
 -- the list of its ideal
 pub stopped_list : (o : ListOptions) (ring : List (List ℕ)) (set : List Written) (held holds : Option (List ℕ)) (n m : ℕ) (r : Refusal) → IsListStoppedIn o ring (all_positive (length ring)) (generators_of set) held holds n m r →
     IsStoppedFor (bases_command o) (ring, (set, None)) held holds n m r
-stopped_list o ring set held holds n m refusals.WriteFault s = s
-stopped_list o ring set held holds n m (refusals.ListLimit most) s = (IsListCause.going s.0, s.1)
-stopped_list o ring set held holds n m r s = (elim (s.0) [ inl c ↦ inl (IsListCause.going c) | inr e ↦ inr e ], s.1)
+stopped_list o ring set held holds n m r s =
+    stopped_for (bases_command o) (ring, (set, None)) [] o ring (all_positive (length ring)) (generators_of set) held holds n m
+    (λ text h. h) (λ text d h. h) (λ d h. IsListCause.going h) r s
 
 -- the first basis is refused
 pub stopped_root : (o : ListOptions) (ring : List (List ℕ)) (set : List Written) (held : Option (List ℕ)) (n m : ℕ) (r : Refusal) → IsRootRefusal (length ring) (generators_of set) o.pairs r →

@@ -3,7 +3,6 @@
 -- given_stopped_root, given_stopped_memory, given_stopped_list, named_root, root_no_limit, way_in_tree; given_work,
 -- root_work, reducing_only, root_within, root_past, root_tested, root_once, given_once, given_refuses. The rest are steps.
 use Rattle.std.specs.Prelude.{◌≡◌, ◌⊎◌, ℕ, List, [], ◌∷◌, length, map, Contains, Option, Some, Err}
-use Rattle.std.specs.Io.KnownBytes.{Keeps}
 use Rattle.std.proofs.KnownBytes.{Keeps-refl}
 use Rattle.std.proofs.Common.{refl, sym, ap, ◌∙◌, subst, inl, inr}
 use Rattle.std.proofs.lemmas.List.Sorted.{Contains-permutation, IsPermutation-sym}
@@ -56,14 +55,15 @@ use Rattle.gf_frame.proofs.WorkLaws.{nothing_but_limit}
 use Rattle.gfan_lists.specs.declared.bases.ListOptions.{ListOptions}
 use Rattle.gfan_common.specs.Causes.{of_tree}
 use Rattle.gfan_lists.specs.Bases.{IsGoingCause, IsGoingCauseBehind}
-use Rattle.gfan_lists.specs.BasesWriting.{StartsAt, IsListWrittenIn, IsListBegunIn, IsListStoppedIn}
+use Rattle.gfan_lists.specs.BasesWriting.{StartsAt, IsListWrittenIn, IsListStoppedIn}
 use Rattle.gfan_common.specs.CheckedSets.{of_check}
 use Rattle.gfan_lists.specs.GivenBasis.{IsReducedFrom, IsReducingRefusal, IsGivenRootRefusal, IsGivenListCause, IsGivenListWithin, IsGivenListPast, given_bases_command}
 use Rattle.gfan_common.specs.Refused.{IsNamedBy}
-use Rattle.gfan_common.specs.Performed.{IsPerformedFor, IsBegunAs, IsStoppedFor}
+use Rattle.gfan_common.specs.Performed.{IsPerformedFor, IsStoppedFor}
 use Rattle.gfan_common.proofs.ReadSetLaws.{read_variables}
 use Rattle.gfan_common.proofs.CheckedSetLaws.{check_not_listed, named_check, named_numbers, check_work, poly_numbers, poly_untested, paired_once, paired_refutes}
 use Rattle.gfan_lists.proofs.BasesListLaws.{given_node, node_given, start_of_root}
+use Rattle.gfan_lists.proofs.StoppedLaws.{stopped_for}
 use Rattle.gfan_common.proofs.CauseLaws.{weight_work, weight_untested, named_tree, tree_no_limit, tree_numbers, tree_untested, tree_work}
 
 -- ---- the basis reduced
@@ -158,26 +158,15 @@ module _ (o : ListOptions) (ring : List (List ℕ)) (s : MarkedPolynomials) wher
   pub given_performed : (held holds : Option (List ℕ)) → IsMarkedGroebnerBasis s.variables s.items → IsListWrittenIn o ring (all_positive (length ring)) (polys s.items) held holds → IsPerformedFor (given_bases_command o) (ring, s) held holds
   given_performed held holds g p = (p.0, record { basis = g; list = p.1 }, p.2)
 
-  begun_from : (held holds : Option (List ℕ)) (r : Refusal) → IsMarkedGroebnerBasis s.variables s.items → IsListBegunIn o ring (all_positive (length ring)) (polys s.items) held holds r → IsBegunAs (given_bases_command o) (ring, s) held holds r
-  begun_from held holds r g b = (b.0, record { basis = g; begun = b.1 }, b.2)
-
-  left_going : (held holds : Option (List ℕ)) (r : Refusal) → IsMarkedGroebnerBasis s.variables s.items → Keeps held holds ⊎ IsListBegunIn o ring (all_positive (length ring)) (polys s.items) held holds r → Keeps held holds ⊎ IsBegunAs (given_bases_command o) (ring, s) held holds r
-  left_going held holds r g (inl k) = inl k
-  left_going held holds r g (inr b) = inr (begun_from held holds r g b)
-
-  refused_going : (r : Refusal) → IsMarkedGroebnerBasis s.variables s.items → IsGoingCause o (length ring) (polys s.items) r ⊎ (r ≡ refusals.Memory) → IsGivenListCause o (length ring) s r ⊎ (r ≡ refusals.Memory)
-  refused_going r g (inl c) = inl (IsGivenListCause.going g c)
-  refused_going r g (inr m) = inr m
-
   -- there is no memory before anything is written
   pub given_stopped_memory : (held : Option (List ℕ)) (n m : ℕ) (r : Refusal) → r ≡ refusals.Memory → IsStoppedFor (given_bases_command o) (ring, s) held held n m r
   given_stopped_memory held n m r e = subst (λ z. IsStoppedFor (given_bases_command o) (ring, s) held held n m z) (sym e) (inr refl, inl (Keeps-refl held))
 
   -- the list is refused from the root on
   pub given_stopped_list : (held holds : Option (List ℕ)) (n m : ℕ) (r : Refusal) → IsMarkedGroebnerBasis s.variables s.items → IsListStoppedIn o ring (all_positive (length ring)) (polys s.items) held holds n m r → IsStoppedFor (given_bases_command o) (ring, s) held holds n m r
-  given_stopped_list held holds n m refusals.WriteFault g h = (h.0, (h.1.0, record { basis = g; list = h.1.1 }, h.1.2))
-  given_stopped_list held holds n m (refusals.ListLimit most) g h = (IsGivenListCause.going g h.0, begun_from held holds (refusals.ListLimit most) g h.1)
-  given_stopped_list held holds n m r g h = (refused_going r g h.0, left_going held holds r g h.1)
+  given_stopped_list held holds n m r g h =
+      stopped_for (given_bases_command o) (ring, s) [] o ring (all_positive (length ring)) (polys s.items) held holds n m
+      (λ text x. record { basis = g; list = x }) (λ text d x. record { basis = g; begun = x }) (λ d x. IsGivenListCause.going g x) r h
 
 -- ---- its laws
 

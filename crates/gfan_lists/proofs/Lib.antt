@@ -3,6 +3,7 @@ pub mod OneListLaws  -- an ideal has one list of all bases
 pub mod PartsLaws  -- parts of a list make it up
 pub mod CertificateLaws  -- what stands for a basis is one text, and what its certificates show
 pub mod BasesTextLaws  -- pieces that follow one another are the text of the list
+pub mod StoppedLaws  -- what stands where a list is refused, and why
 pub mod BasesLaws  -- how the list is written
 pub mod AheadLaws  -- bases that are taken out of a list before they are written
 pub mod GivenBasisLaws  -- the list from a basis that is given

@@ -44,12 +44,13 @@ use Rattle.gf_frame.proofs.SoundLaws.{IsExactCommand, IsTestedCommand}
 use Rattle.gfan_lists.specs.declared.bases.ListOptions.{ListOptions}
 use Rattle.gfan_common.specs.Forms.{generators_of, IsLengthRefusal}
 use Rattle.gfan_common.specs.Causes.{of_basis}
-use Rattle.gfan_lists.specs.BasesWriting.{StartsIn, IsListWrittenIn, IsListBegunIn, IsListStoppedIn}
+use Rattle.gfan_lists.specs.BasesWriting.{StartsIn, IsListWrittenIn, IsListStoppedIn}
 use Rattle.gfan_lists.specs.GivenBasis.{IsReducedFrom}
 use Rattle.gfan_common.specs.Refused.{without_names, IsNamedBy, IsOfSource}
-use Rattle.gfan_common.specs.Performed.{IsPerformedFor, IsBegunAs, IsStoppedFor}
+use Rattle.gfan_common.specs.Performed.{IsPerformedFor, IsStoppedFor}
 use Rattle.gfan_lists.specs.Within.{of_region, IsNoRegion, IsRegionRootRefusal, IsCauseWithin, IsWithinRegion, IsGivenRegionRootRefusal, IsGivenStartRefusal, IsGivenCauseWithin, IsGivenWithinRegion, bases_within_command, given_within_command}
 use Rattle.gfan_lists.proofs.BasesListLaws.{given_node, start_moved}
+use Rattle.gfan_lists.proofs.StoppedLaws.{stopped_for}
 use Rattle.gfan_lists.proofs.GivenBasisLaws.{not_reduced, root_work, reducing_only, root_once, root_tested, root_no_limit, named_root}
 use Rattle.gfan_common.specs.ToolForms.{for_each}
 use Rattle.std.proofs.lemmas.List.Elements.{All-nil}
@@ -226,25 +227,21 @@ module _ (name : List ℕ) (o : ListOptions) (rows : List (List ℤ)) (ring : Li
   pub within_performed : IsListWrittenIn o ring k (generators_of set) held holds → IsPerformedFor (bases_within_command name o) (rows, (ring, (set, None))) held holds
   within_performed p = (p.0, record { region = k; is_region = i; list = p.1 }, p.2)
 
-  begun_within : (r : Refusal) → IsListBegunIn o ring k (generators_of set) held holds r → IsBegunAs (bases_within_command name o) (rows, (ring, (set, None))) held holds r
-  begun_within r b = (b.0, record { region = k; is_region = i; begun = b.1 }, b.2)
-
   pub within_stopped : (n m : ℕ) (r : Refusal) → IsListStoppedIn o ring k (generators_of set) held holds n m r → IsStoppedFor (bases_within_command name o) (rows, (ring, (set, None))) held holds n m r
-  within_stopped n m refusals.WriteFault h = (h.0, (h.1.0, record { region = k; is_region = i; list = h.1.1 }, h.1.2))
-  within_stopped n m (refusals.ListLimit most) h = (IsCauseWithin.going k i h.0, begun_within (refusals.ListLimit most) h.1)
-  within_stopped n m r h = (elim (h.0) [ inl c ↦ inl (IsCauseWithin.going k i c) | inr e ↦ inr e ], elim (h.1) [ inl e ↦ inl e | inr b ↦ inr (begun_within r b) ])
+  within_stopped n m r h =
+      stopped_for (bases_within_command name o) (rows, (ring, (set, None))) [] o ring k (generators_of set) held holds n m
+      (λ text x. record { region = k; is_region = i; list = x }) (λ text d x. record { region = k; is_region = i; begun = x })
+      (λ d x. IsCauseWithin.going k i x) r h
 
 module _ (name : List ℕ) (o : ListOptions) (rows : List (List ℤ)) (ring : List (List ℕ)) (s : MarkedPolynomials) (k : Region) (i : IsRegionOf (length ring) rows k) (g : IsMarkedGroebnerBasis s.variables s.items) (held holds : Option (List ℕ)) where
   pub given_within_performed : IsListWrittenIn o ring k (polys s.items) held holds → IsPerformedFor (given_within_command name o) (rows, (ring, s)) held holds
   given_within_performed p = (p.0, record { basis = g; within = record { region = k; is_region = i; list = p.1 } }, p.2)
 
-  begun_given : (r : Refusal) → IsListBegunIn o ring k (polys s.items) held holds r → IsBegunAs (given_within_command name o) (rows, (ring, s)) held holds r
-  begun_given r b = (b.0, record { basis = g; within = record { region = k; is_region = i; begun = b.1 } }, b.2)
-
   pub given_within_stopped : (n m : ℕ) (r : Refusal) → IsListStoppedIn o ring k (polys s.items) held holds n m r → IsStoppedFor (given_within_command name o) (rows, (ring, s)) held holds n m r
-  given_within_stopped n m refusals.WriteFault h = (h.0, (h.1.0, record { basis = g; within = record { region = k; is_region = i; list = h.1.1 } }, h.1.2))
-  given_within_stopped n m (refusals.ListLimit most) h = (IsGivenCauseWithin.going k i g h.0, begun_given (refusals.ListLimit most) h.1)
-  given_within_stopped n m r h = (elim (h.0) [ inl c ↦ inl (IsGivenCauseWithin.going k i g c) | inr e ↦ inr e ], elim (h.1) [ inl e ↦ inl e | inr b ↦ inr (begun_given r b) ])
+  given_within_stopped n m r h =
+      stopped_for (given_within_command name o) (rows, (ring, s)) [] o ring k (polys s.items) held holds n m
+      (λ text x. record { basis = g; within = record { region = k; is_region = i; list = x } })
+      (λ text d x. record { basis = g; within = record { region = k; is_region = i; begun = x } }) (λ d x. IsGivenCauseWithin.going k i g x) r h
 
 -- ---- refused before anything is written
 

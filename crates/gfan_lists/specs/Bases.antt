@@ -1,5 +1,5 @@
 -- `_bases`: its output, and why it is refused.
-use Rattle.std.specs.Prelude.{◌≡◌, ◌⊎◌, ℕ, ◌<◌, ◌≤◌, Bool, true, false, List, [], ◌∷◌, ◌++◌, flat_map, length, Option, None, Some, ℤ}
+use Rattle.std.specs.Prelude.{◌≡◌, ℕ, ◌<◌, ◌≤◌, Bool, true, false, List, [], ◌∷◌, ◌++◌, flat_map, length, Option, None, Some, ℤ}
 use Rattle.std.specs.List.{AllZip}
 use Rattle.gf_exponents_theory.specs.SixOrders.{MonomialOrder}
 use Rattle.gf_poly.specs.Polynomial.{Terms}
@@ -18,7 +18,6 @@ use Rattle.gf_weights.specs.Refusals.{AreCertificatesFittingIn}
 use Rattle.gf_front.specs.declared.refusal.Refusal.{Refusal}
 use Rattle.gf_front.specs.declared.refusal.Refusal.TheVariants as refusals
 use Rattle.gf_items.specs.Sources.{ring_set_vector}
-use Rattle.gf_items.specs.Refusals.{IsOfNumbers}
 use Rattle.gf_frame.specs.Loading.{Origin}
 use Rattle.gf_frame.specs.Readings.{of_one}
 use Rattle.gf_frame.specs.Commands.{Writing, Command}
@@ -78,10 +77,6 @@ pub record IsBegunListBehind (before : List MarkedPolynomials) (certified : Bool
   pub are_items : AreItemTextsIn certified ring k written items
   pub is_text : text ≡ begun_text ring items
 
--- the text is the beginning of that text with some of its first bases, or with none, and no more than the limit
-abbrev pub IsBegunTextBehind : List MarkedPolynomials → ListOptions → List (List ℕ) → Region → List Terms → List ℕ → Type 0
-IsBegunTextBehind before o ring k fs text = (written : List MarkedPolynomials) × (rest : List MarkedPolynomials) × IsBegunListBehind before o.certified ring k fs written rest text × IsWithinLimit o.limit written
-
 -- the text is the beginning of that text with exactly as many bases as the limit, and there is a further one in the list
 pub record IsBegunToLimitBehind (before : List MarkedPolynomials) (o : ListOptions) (ring : List (List ℕ)) (k : Region) (fs : List Terms) (most : ℕ) (text : List ℕ) : Type 0 where
   pub is_limit : o.limit ≡ Some most
@@ -131,12 +126,28 @@ pub data IsGoingCauseBehind (before : List MarkedPolynomials) (o : ListOptions) 
   at_limit : (most : ℕ) → IsPastLimitBehind before o.limit n k fs most → r ≡ refusals.ListLimit most → IsGoingCauseBehind before o n k fs r
   at_certificates : AreCertificatesRefusedBehind before o n k fs r → IsGoingCauseBehind before o n k fs r
 
--- the text may have been written when the list is refused with r. At the limit it has exactly as many bases as the limit. If numbers don't
--- fit, where the list is refused from its first basis on, or if memory runs out, it has some of the first bases or none. There is no text
--- for other refusals
-abbrev pub IsBegunWhereBehind : List MarkedPolynomials → ListOptions → List (List ℕ) → Region → List Terms → List ℕ → Refusal → Type 0
-IsBegunWhereBehind before o ring k fs text (refusals.ListLimit most) = IsBegunToLimitBehind before o ring k fs most text
-IsBegunWhereBehind before o ring k fs text r = IsOfNumbers r × (IsGoingCauseBehind before o (length ring) k fs r ⊎ (r ≡ refusals.Memory)) × IsBegunTextBehind before o ring k fs text
+-- ---- what stands before a refusal
+
+-- why the list is refused where these bases are written and the rest isn't: a call of the search is refused at a basis that is written or at
+-- the first of the rest; or as many as the limit are written, and there is a further one; or, if there are certificates, those of the first
+-- of the rest are refused, and the limit lets this basis through; or memory runs out
+pub data IsStoppedAt (o : ListOptions) (n : ℕ) (k : Region) (fs : List Terms) (written rest : List MarkedPolynomials) (r : Refusal) : Type 0 where
+  in_tree : (e : TreeError) → IsRefusedEarly (ideal_within n fs k) o.pairs rest e → r ≡ of_tree e → IsStoppedAt o n k fs written rest r
+  at_limit : (most : ℕ) (next : MarkedPolynomials) (others : List MarkedPolynomials) → rest ≡ next ∷ others → o.limit ≡ Some most → length written ≡ most →
+      r ≡ refusals.ListLimit most → IsStoppedAt o n k fs written rest r
+  at_certificates : (next : MarkedPolynomials) (others : List MarkedPolynomials) → rest ≡ next ∷ others → o.certified ≡ true →
+      IsWithinLimit o.limit (written ++ next ∷ []) → IsUncertifiedIn k next r → IsStoppedAt o n k fs written rest r
+  no_memory : r ≡ refusals.Memory → IsStoppedAt o n k fs written rest r
+
+-- The text is what stands when the list is refused with r: its beginning up to the last of the bases that are written, no more than the
+-- limit. The list is refused exactly there: the same bases are written, and the same rest isn't, in the text and in the cause
+pub record IsBegunWhereBehind (before : List MarkedPolynomials) (o : ListOptions) (ring : List (List ℕ)) (k : Region) (fs : List Terms)
+    (text : List ℕ) (r : Refusal) : Type 0 where
+  pub written : List MarkedPolynomials
+  pub rest : List MarkedPolynomials
+  pub begun : IsBegunListBehind before o.certified ring k fs written rest text
+  pub few : IsWithinLimit o.limit written
+  pub cause : IsStoppedAt o (length ring) k fs written rest r
 
 -- ---- the list from its first basis on
 

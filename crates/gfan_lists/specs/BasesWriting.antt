@@ -1,5 +1,5 @@
 -- The writing of the list of `_bases`: pieces, and how many bases may still be written. Laws: proofs/BasesLaws.antt.
-use Rattle.std.specs.Prelude.{◌≡◌, ◌⊎◌, ℕ, ◌+◌, Bool, true, false, List, [], ◌∷◌, ◌++◌, length, Option, None, Some}
+use Rattle.std.specs.Prelude.{◌≡◌, ℕ, ◌+◌, Bool, true, false, List, [], ◌∷◌, ◌++◌, length, Option, None, Some}
 use Rattle.std.specs.Io.KnownBytes.{Appends, Keeps}
 use Rattle.gf_outside.specs.Faults.{Rose}
 use Rattle.gf_outside.specs.Moved.{AppendsPrefix}
@@ -24,7 +24,7 @@ use Rattle.gfan_lists.specs.declared.bases.Room.TheVariants.{Endless, Limited}
 use Rattle.gfan_common.specs.Causes.{of_basis}
 use Rattle.gfan_lists.specs.BasesList.{AreAllBasesIn}
 use Rattle.gfan_lists.specs.Certificates.{IsItemTextIn, IsItemRefusalIn}
-use Rattle.gfan_lists.specs.Bases.{later_item_text, AreItemTextsIn, IsTextBehind, IsFullTextBehind, IsBegunWhereBehind, IsGoingCauseBehind, begun_text}
+use Rattle.gfan_lists.specs.Bases.{later_item_text, AreItemTextsIn, IsTextBehind, IsFullTextBehind, IsBegunWhereBehind, begun_text}
 
 -- ---- pieces
 
@@ -108,27 +108,25 @@ pub record GoesOnBehind (before : List MarkedPolynomials) (n : ℕ) (k : Region)
 abbrev pub IsListWrittenBehind : List MarkedPolynomials → ListOptions → List (List ℕ) → Region → List Terms → Option (List ℕ) → Option (List ℕ) → Type 0
 IsListWrittenBehind before o ring k fs held holds = (text : List ℕ) × IsTextBehind before o.certified o.limit ring k fs text × Appends held holds text
 
--- the beginning of that text that may be written when the list is refused with r was appended to the output
+-- the beginning of that text that stands when the list is refused with r was appended to the output
 abbrev pub IsListBegunBehind : List MarkedPolynomials → ListOptions → List (List ℕ) → Region → List Terms → Option (List ℕ) → Option (List ℕ) → Refusal → Type 0
 IsListBegunBehind before o ring k fs held holds r = (text : List ℕ) × IsBegunWhereBehind before o ring k fs text r × Appends held holds text
 
--- why the list is refused after these bases, and what was appended to the output
+-- what was appended to the output when the list after these bases is refused: if a write failed, a prefix of all that is written where nothing
+-- stops it; otherwise the bases up to the one at which it is refused
 abbrev pub IsListStoppedBehind : List MarkedPolynomials → ListOptions → List (List ℕ) → Region → List Terms → Option (List ℕ) → Option (List ℕ) → ℕ → ℕ → Refusal → Type 0
 IsListStoppedBehind before o ring k fs held holds written writes refusals.WriteFault = Rose written writes × ((text : List ℕ) × IsFullTextBehind before o ring k fs text × AppendsPrefix held holds text)
-IsListStoppedBehind before o ring k fs held holds written writes (refusals.ListLimit most) =
-    IsGoingCauseBehind before o (length ring) k fs (refusals.ListLimit most) × IsListBegunBehind before o ring k fs held holds (refusals.ListLimit most)
-IsListStoppedBehind before o ring k fs held holds written writes r =
-    (IsGoingCauseBehind before o (length ring) k fs r ⊎ (r ≡ refusals.Memory)) × (Keeps held holds ⊎ IsListBegunBehind before o ring k fs held holds r)
+IsListStoppedBehind before o ring k fs held holds written writes r = IsListBegunBehind before o ring k fs held holds r
 
 -- the text of all bases was appended to the output, from the first basis on
 abbrev pub IsListWrittenIn : ListOptions → List (List ℕ) → Region → List Terms → Option (List ℕ) → Option (List ℕ) → Type 0
 IsListWrittenIn o ring k fs held holds = IsListWrittenBehind [] o ring k fs held holds
 
--- the beginning of the text of all bases that may be written when the list is refused with r was appended to the output
+-- the beginning of the text of all bases that stands when the list is refused with r was appended to the output
 abbrev pub IsListBegunIn : ListOptions → List (List ℕ) → Region → List Terms → Option (List ℕ) → Option (List ℕ) → Refusal → Type 0
 IsListBegunIn o ring k fs held holds r = IsListBegunBehind [] o ring k fs held holds r
 
--- why the list of all bases is refused, and what was appended to the output
+-- what was appended to the output when the list of all bases is refused
 abbrev pub IsListStoppedIn : ListOptions → List (List ℕ) → Region → List Terms → Option (List ℕ) → Option (List ℕ) → ℕ → ℕ → Refusal → Type 0
 IsListStoppedIn o ring k fs held holds written writes r = IsListStoppedBehind [] o ring k fs held holds written writes r
 

@@ -15,7 +15,6 @@ use Rattle.gf_facets_theory.specs.Regions.{Region, IsRegion, all_positive}
 use Rattle.gf_facets_theory.proofs.SystemLaws.{all_positive-region}
 use Rattle.gf_reduced.specs.Forms.{monic_of}
 use Rattle.gf_front.specs.declared.refusal.Refusal.{Refusal}
-use Rattle.gf_front.specs.declared.refusal.Refusal.TheVariants as refusals
 use Rattle.gf_items.specs.Items.{IsTextOf}
 use Rattle.gf_items.specs.Sources.{ring_marked_set}
 use Rattle.gfan_common.specs.Forms.{generators_of}
@@ -248,8 +247,7 @@ cut_list q input text refusal a = cut_request q.from_basis q.within q.after q.op
 begun_list : (before : List MarkedPolynomials) (o : ListOptions) (ring : List (List ℕ)) (k : Region) (fs : List Terms) (text : List ℕ) (refusal : Refusal) →
     IsBegunWhereBehind before o ring k fs text refusal →
     (written : List MarkedPolynomials) × (rest : List MarkedPolynomials) × IsBegunListBehind before o.certified ring k fs written rest text
-begun_list before o ring k fs text (refusals.ListLimit most) h = (h.written, h.next ∷ h.rest, h.begun)
-begun_list before o ring k fs text _ h = (h.2.0, h.2.1, h.2.2)
+begun_list before o ring k fs text refusal h = (h.written, h.rest, h.begun)
 
 last_of : (x : MarkedPolynomials) (xs : List MarkedPolynomials) → (front : List MarkedPolynomials) × (last : MarkedPolynomials) × (x ∷ xs ≡ front ++ last ∷ [])
 last_of x [] = ([], x, refl)
