@@ -1,9 +1,10 @@
 -- The theorems of specs/Laws.antt.
 use Rattle.gf_gordan.specs.Alternative.{GordansAlternative}
-use Rattle.gf_patterns_theory.specs.Laws.{MeetsAreRefinements, ConesHaveInteriors, FacesOfFacesAreFaces, MaximalConesSuffice, PatternsAreOfInitialForms}
-use Rattle.gf_patterns_theory.specs.Laws.{PatternsHaveCones, VerticesSuffice, PatternsAreRefined, VectorsAreInOneCone}
+use Rattle.gf_patterns_theory.specs.Laws.{MeetsAreRefinements, CutsAreRefinements, ConesHaveInteriors, FacesOfFacesAreFaces, MaximalConesSuffice}
+use Rattle.gf_patterns_theory.specs.Laws.{PatternsAreOfInitialForms, PatternsHaveCones, VerticesSuffice, PatternsAreRefined, VectorsAreInOneCone}
 use Rattle.gf_patterns_theory.specs.Patterns.{IsAnywhere, IsOnPrevariety}
 use Rattle.gf_patterns_theory.proofs.RefinementLaws.{meets_fan, meets_width, meets_refine}
+use Rattle.gf_patterns_theory.proofs.CutLaws.{cuts_fan, cuts_refine}
 use Rattle.gf_patterns_theory.proofs.InnerLaws.{inner}
 use Rattle.gf_patterns_theory.proofs.InteriorLaws.{interior_relative}
 use Rattle.gf_patterns_theory.proofs.PatternLaws.{anywhere, on_prevariety, refined_patterns, own_alone}
@@ -15,6 +16,12 @@ use Rattle.gf_patterns_theory.proofs.FormLaws.{pattern_form}
 
 pub meets_are_refinements : MeetsAreRefinements
 meets_are_refinements = record { fan = meets_fan; width = meets_width; refinement = meets_refine }
+
+pub cuts_are_refinements : GordansAlternative → CutsAreRefinements
+cuts_are_refinements g = record {
+  fan = λ n cs ds parts wc wd f h k. cuts_fan n cs ds parts g wc wd f h k;
+  refinement = λ n cs ds parts wc wd wp f h k. cuts_refine n cs ds parts g wc wd wp f h k;
+}
 
 pub cones_have_interiors : GordansAlternative → ConesHaveInteriors
 cones_have_interiors g = record {

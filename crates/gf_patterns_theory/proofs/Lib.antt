@@ -9,6 +9,7 @@ mod VertexLaws  -- each pattern has a vertex, and each of two members two of the
 pub mod ConeLaws  -- the cones of single points and of pairs
 pub mod PatternFanLaws  -- lists of cones for prevarieties and Minkowski fans
 pub mod CoverLaws  -- lists of cones with the same faces
+pub mod CutLaws  -- parts that cover what two fans share are their common refinement
 pub mod PointLaws  -- the points of a polynomial
 pub mod FormLaws  -- patterns and initial forms
 mod LawsHold  -- what functions of this crate name

@@ -12,6 +12,7 @@ use Rattle.gf_patterns_theory.specs.Interiors.{IsRelativeInterior, HaveInteriors
 use Rattle.gf_patterns_theory.specs.Patterns.{points, IsHighest, IsClosedCone, IsAnywhere, IsOnPrevariety, ArePatternCones, HavePoints}
 use Rattle.gf_patterns_theory.specs.PatternRows.{point_at, single_rows, AreSingleCones, ArePairCones}
 use Rattle.gf_patterns_theory.specs.Vertices.{IsVertex, AreVertexCones, AreVertexPairCones}
+use Rattle.gf_patterns_theory.specs.Cuts.{AreCuts}
 use Rattle.gf_patterns_theory.specs.PatternFans.{whole_space, IsPrevarietyList, IsMinkowskiList}
 
 -- the meets of the cones of two fans are a fan, and its cones are exactly the meets of a cone of the one and a cone of the other
@@ -19,6 +20,14 @@ pub record MeetsAreRefinements : Type 0 where
   pub fan : (n : ℕ) (cs ds : List Rows) → MeetPairwise n cs → MeetPairwise n ds → MeetPairwise n (all_meets cs ds)
   pub width : (n : ℕ) (cs ds : List Rows) → HaveEntries n cs → HaveEntries n ds → HaveEntries n (all_meets cs ds)
   pub refinement : (n : ℕ) (cs ds : List Rows) → IsCommonRefinement n cs ds (all_meets cs ds)
+
+-- parts that cover what the cones of two fans share are a fan, and its cones are exactly the meets of a cone of the one and a cone of the
+-- other
+pub record CutsAreRefinements : Type 0 where
+  pub fan : (n : ℕ) (cs ds parts : List Rows) → HaveEntries n cs → HaveEntries n ds → MeetPairwise n cs → MeetPairwise n ds →
+      AreCuts n cs ds parts → MeetPairwise n parts
+  pub refinement : (n : ℕ) (cs ds parts : List Rows) → HaveEntries n cs → HaveEntries n ds → HaveEntries n parts →
+      MeetPairwise n cs → MeetPairwise n ds → AreCuts n cs ds parts → IsCommonRefinement n cs ds parts
 
 -- each cone has an interior vector, and each interior vector is one of the relative interior
 pub record ConesHaveInteriors : Type 0 where

@@ -5,7 +5,7 @@
 //! each one's contract is a theorem, so that the check proves it.
 #![tactic(auto)]
 
-ghost use Rattle.gf_patterns_theory.specs.Laws.{MeetsAreRefinements, ConesHaveInteriors, FacesOfFacesAreFaces, MaximalConesSuffice};
+ghost use Rattle.gf_patterns_theory.specs.Laws.{MeetsAreRefinements, CutsAreRefinements, ConesHaveInteriors, FacesOfFacesAreFaces, MaximalConesSuffice};
 ghost use Rattle.gf_patterns_theory.specs.Laws.{PatternsAreOfInitialForms, PatternsHaveCones, VerticesSuffice, PatternsAreRefined, VectorsAreInOneCone};
 
 use gf_gordan::gordans_alternative;
@@ -15,6 +15,13 @@ use gf_gordan::gordans_alternative;
 pub fn meets_are_refinements()
     ensures { MeetsAreRefinements }
 {}
+
+/// Parts that cover what the cones of two fans share meet in faces, and their faces are the common refinement.
+pub fn cuts_are_refinements()
+    ensures { CutsAreRefinements }
+{
+    gordans_alternative();
+}
 
 /// Each cone has a vector of its relative interior, by Gordan's alternative.
 pub fn cones_have_interiors()
