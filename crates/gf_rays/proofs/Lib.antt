@@ -4,6 +4,7 @@ mod SplitLaws  -- the state after an inequality that is zero on the lineality ve
 mod FlagLaws  -- flags of words: what is read, one flag more, what two lists share
 mod SplitLoops  -- the loops over rays, one ray further
 mod PruneLaws  -- rays taken away by their flags
+mod ColumnLaws  -- which rays have a flag, and rays inside another one by that
 mod LevelLaws  -- a vector brought along another one
 mod LinedLaws  -- the state after an inequality that is not zero on a lineality vector
 mod StateLaws  -- what a state says of widths and flags

@@ -25,6 +25,7 @@ mod prune;
 mod ray;
 mod rays;
 mod shared;
+mod sieve;
 mod split;
 mod step;
 mod straight;
