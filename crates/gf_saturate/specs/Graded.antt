@@ -1,6 +1,7 @@
 -- Saturations by division: one basis for each variable that is chosen, and members without all that their terms share.
 -- Laws: proofs/GradedLaws.antt. Source: Sturmfels, Gröbner Bases and Convex Polytopes, 12.
-use Rattle.std.specs.Prelude.{◌≡◌, ◌↔◌, ℕ, ◌<◌, ◌≤◌, List, [], ◌∷◌, Contains, All, ℤ, pos, ◌≤ℤ◌, length}
+use Rattle.std.specs.Prelude.{◌≡◌, ◌↔◌, ℕ, ◌<◌, ◌≤◌, List, [], ◌∷◌, Contains, All, ℤ, pos, ◌≤ℤ◌, length, replicate}
+use Rattle.gf_frac.specs.Fraction.{one_ℚ}
 use Rattle.gf_exponents_theory.specs.Exponents.{Exponents, entry, join}
 use Rattle.gf_exponents_theory.specs.Orders.{gains}
 use Rattle.gf_exponents_theory.specs.SixOrders.{MonomialOrder}
@@ -76,6 +77,10 @@ pub record IsDividedStep (n k : ℕ) (gs hs : List Terms) : Type 0 where
   pub divided : AreDividedMembers n k basis.items hs
 
 -- ---- at the end
+
+-- the constant 1 alone, in n variables
+abbrev pub one_list : ℕ → List Terms
+one_list n = (record { coef = one_ℚ; mono = replicate n 0 } ∷ []) ∷ []
 
 -- hs are in n variables, and generate the saturation of the ideal of fs by the product of them
 pub record GenerateSaturation (n : ℕ) (fs hs : List Terms) : Type 0 where

@@ -8,16 +8,19 @@ ghost use Rattle.gf_poly.specs.Polynomial.{HasVariables};
 ghost use Rattle.gf_order.specs.Weights.{AreBounded};
 ghost use Rattle.gf_buchberger.specs.Jobs.{HaveRingVariables};
 ghost use Rattle.gf_saturate.specs.Graded.{IsByWeights, IsWeightedBasis, IsDividedMember, AreToDivide, AreDividedMembers};
-ghost use Rattle.gf_saturate.specs.Graded.{IsDividedStep, IsChoice, GenerateSaturation};
+ghost use Rattle.gf_saturate.specs.Graded.{IsDividedStep, IsChoice, one_list, GenerateSaturation};
 ghost use Rattle.gf_saturate.specs.Saturating.{IsSaturation};
 
 use crate::choice::{chosen, trials};
 use crate::grades::grade_of;
+use crate::monomials::has_one_term;
+use crate::proposals::with_proposals;
 use crate::stages::copies;
 use gf_buchberger::{BasisError, basis};
 use gf_dividing::{Factors, stripped};
+use gf_frac::constants;
 use gf_order::Order;
-use gf_poly::{Marked, MarkedSet, Mono, Poly, ROOM};
+use gf_poly::{Marked, MarkedSet, Mono, Poly, ROOM, Term};
 use gf_vec::IntVec;
 use std::alloc::{AllocError, Global};
 
@@ -190,7 +193,35 @@ fn divided_step(
     }
 }
 
-/// What the steps by the variables of `left`, one after another, leave.
+/// A list of the constant 1 alone.
+fn list_of_one(alloc: Global, n: u32) -> Result<Vec<Poly>, AllocError>
+    requires { n ≤ ROOM }
+    ensures { IfOk result (λ all. all.items ≡ one_list n) }
+{
+    let (_, one) = constants();
+    let term = Term {
+        coef: one,
+        mono: Mono::one(alloc, n as usize),
+    };
+    let mut terms = Vec::new(alloc);
+    terms.push(term)?;
+    let mut all = Vec::new(alloc);
+    all.push(Poly::from_descending(terms))?;
+    Ok(all)
+}
+
+/// The constant 1 alone.
+fn one_alone(alloc: Global, n: u32) -> Option<Vec<Poly>>
+    requires { n ≤ ROOM }
+    ensures { IfSome result (λ all. all.items ≡ one_list n) }
+{
+    match list_of_one(alloc, n) {
+        Ok(all) => Some(all),
+        Err(_) => None,
+    }
+}
+
+/// What the steps by the variables of `left`, one after another, leave; 1 alone as soon as a member has one term, which is a constant then.
 fn divided_by(
     alloc: Global,
     n: u32,
@@ -199,6 +230,7 @@ fn divided_by(
     set: &[Poly],
     pairs: u64,
 ) -> Option<Vec<Poly>>
+    requires room { n ≤ ROOM }
     requires choice { IsChoice n set.now left.now }
     requires variables { HaveRingVariables n set.now }
     ensures { IfSome result (λ all. GenerateSaturation n set.now all.items) }
@@ -215,13 +247,71 @@ fn divided_by(
         let Some(next) = divided_step(alloc, n, k, grade, &polys, pairs) else {
             return None;
         };
+        if has_one_term(n, &next) {
+            return one_alone(alloc, n);
+        }
         polys = next;
     }
     Some(polys)
 }
 
+/// The place of the first variable that occurs.
+fn first_variable(n: u32, x: &Mono) -> Option<u32>
+    requires { n ≤ length x.now }
+    ensures { IfSome result (λ k. k < n) }
+{
+    'places: for k in 0..n {
+        if exponent(x, k) != 0 {
+            return Some(k);
+        }
+    }
+    None
+}
+
+/// The same number for each variable, and a smaller one for that at place `k`, which is dropped last.
+fn kept_last(k: u32) -> [u64; ROOM]
+    requires { k < ROOM }
+{
+    let mut numbers = [2; ROOM];
+    numbers[k as usize] = 1;
+    numbers
+}
+
+/// What the steps by the variables of a choice leave of the polynomials and proposals, where they are differences of two monomials.
+fn divided_with_proposals(
+    alloc: Global,
+    n: u32,
+    grade: &[i128],
+    set: &[Poly],
+    pairs: u64,
+) -> Option<Vec<Poly>>
+    requires room { n ≤ ROOM }
+    requires variables { HaveRingVariables n set.now }
+    ensures { IfSome result (λ all. GenerateSaturation n set.now all.items) }
+{
+    let first = chosen(alloc, n, [1; ROOM], set);
+    let Some(k) = first_variable(n, &first) else {
+        return None;
+    };
+    let Some(order) = lowered_order(alloc, n, k, grade) else {
+        return None;
+    };
+    let Some(start) = with_proposals(alloc, n, set, &order, pairs) else {
+        return None;
+    };
+    let list = start.as_slice();
+    let second = chosen(alloc, n, kept_last(k), list);
+    divided_by(alloc, n, grade, &second, list, pairs)
+}
+
 /// What the steps by the variables of a choice leave: where each run ends soon, of the first one, and else of one by which runs are faster.
-fn divided(alloc: Global, n: u32, grade: &[i128], set: &[Poly], pairs: u64) -> Option<Vec<Poly>>
+fn divided_as_given(
+    alloc: Global,
+    n: u32,
+    grade: &[i128],
+    set: &[Poly],
+    pairs: u64,
+) -> Option<Vec<Poly>>
     requires room { n ≤ ROOM }
     requires variables { HaveRingVariables n set.now }
     ensures { IfSome result (λ all. GenerateSaturation n set.now all.items) }
@@ -234,6 +324,18 @@ fn divided(alloc: Global, n: u32, grade: &[i128], set: &[Poly], pairs: u64) -> O
             let second = chosen(alloc, n, numbers, set);
             divided_by(alloc, n, grade, &second, set, pairs)
         }
+    }
+}
+
+/// What the steps by the variables of a choice leave, with proposals where that may be.
+fn divided(alloc: Global, n: u32, grade: &[i128], set: &[Poly], pairs: u64) -> Option<Vec<Poly>>
+    requires room { n ≤ ROOM }
+    requires variables { HaveRingVariables n set.now }
+    ensures { IfSome result (λ all. GenerateSaturation n set.now all.items) }
+{
+    match divided_with_proposals(alloc, n, grade, set, pairs) {
+        Some(polys) => Some(polys),
+        None => divided_as_given(alloc, n, grade, set, pairs),
     }
 }
 

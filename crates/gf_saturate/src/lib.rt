@@ -13,9 +13,11 @@ mod grades;
 mod marks;
 mod monomials;
 mod narrowing;
+mod proposals;
 mod relation;
 mod saturation;
 mod stages;
+mod vectors;
 mod widening;
 
 pub use monomials::has_monomial;

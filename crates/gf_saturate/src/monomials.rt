@@ -21,7 +21,7 @@ fn is_of_one_term(f: &Poly) -> bool
 }
 
 /// Whether one of the polynomials has one term alone.
-fn has_one_term(n: u32, set: &[Poly]) -> bool
+pub(crate) fn has_one_term(n: u32, set: &[Poly]) -> bool
     requires { HaveRingVariables n set.now }
     ensures exact { IsTrue result ↔ HasOneTerm set.now }
     ensures member { IsTrue result → HasOneTermMember n set.now }
