@@ -1,8 +1,8 @@
 -- Initial forms of differences of two monomials, by whole weights of any sign: such differences again.
 -- To cite: initial_binomial, initial_monomial, forms_at_binomials, forms_at_variables. The rest are steps.
-use Rattle.std.proofs.Common.{◌≡◌, ◌⊎◌, ℕ, true, List, Contains, ℤ, ◌<ℤ◌, ◌≤ℤ◌, Option, Some, None, arith, refl, sym, ap, subst, inl, inr}
+use Rattle.std.proofs.Common.{◌≡◌, ◌⊎◌, ℕ, true, List, Contains, ℤ, ◌<ℤ◌, ◌≤ℤ◌, Option, Some, None, arith, refl, sym, ap, subst, inl, inr, if◌then◌else◌, ◌∙◌}
 use Rattle.std.proofs.lemmas.Int.{ints}
-use Rattle.gf_frac.specs.Fraction.{neg_ℚ, zero_ℚ, one_ℚ}
+use Rattle.gf_frac.specs.Fraction.{◌+ℚ◌, neg_ℚ, zero_ℚ, one_ℚ}
 use Rattle.gf_frac.proofs.FractionLaws.{zero_or_not}
 use Rattle.gf_exponents_theory.specs.Exponents.{Exponents, same, whole_weight}
 use Rattle.gf_exponents_theory.proofs.WholeWeightLaws.{whole_weight-same}
