@@ -1,0 +1,11 @@
+use Rattle.std.proofs.Common.{◌-◌, take, length, []}
+use Rattle.gf_frac.specs.Fraction.{whole}
+use Rattle.gf_poly.specs.Polynomial.{SamePolynomial, times}
+use Rattle.gf_whole_division.specs.Values.{whole_terms}
+use Rattle.gf_whole_division.proofs.members.whole_multiple.Given as goal
+
+abbrev pub invariant-terms : goal.invariant-terms
+invariant-terms l = SamePolynomial (whole_terms l.out.items) (times (whole l.by) [] (take l.i l.terms))
+
+abbrev pub decreases-terms : goal.decreases-terms
+decreases-terms l = length l.terms - l.i

@@ -1,0 +1,5 @@
+use Rattle.gf_whole_division.proofs.ValueLaws.{divided_value}
+use Rattle.gf_whole_division.proofs.terms.WholeTerm.divided.Goals as goal
+
+pub returns : goal.returns
+returns c = divided_value c.args.self.now c.in_ok-coef.coef c.args.by.now c.copy-mono.result c.in_ok-coef.ensures c.copy-mono.ensures
