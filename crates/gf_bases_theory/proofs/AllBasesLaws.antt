@@ -68,7 +68,8 @@ ended : (n : ℕ) (fs : List Terms) (ps gs : List MarkedPolynomial) → AreInVar
 ended n fs ps gs v c g all = record {
   bases = gs ∷ [];
   sound = λ bs h. sound bs (Contains-cases gs bs [] h);
-  complete = λ bs b w p m k. subst (Contains (gs ∷ [])) (contained_equal n fs gs bs g b (λ d h. over bs b w m k (contained_each (λ (b : MarkedPolynomial). IsDivisible (Contains ps) b.head) gs all d h))) (Contains-here gs []);
+  complete = λ bs b w p m k. subst (Contains (gs ∷ [])) (contained_equal n fs gs bs g b
+      (λ d h. over bs b w m k (contained_each (λ (b : MarkedPolynomial). IsDivisible (Contains ps) b.head) gs all d h))) (Contains-here gs []);
 }
   where
     sound : (bs : List MarkedPolynomial) → (gs ≡ bs) ⊎ Contains [] bs → IsMarkedReducedBasis n fs bs
@@ -78,8 +79,14 @@ ended n fs ps gs v c g all = record {
     over : (bs : List MarkedPolynomial) → IsMarkedReducedBasis n fs bs → (w : List ℕ) → AreMarked (lighter w) ps →
         AreMarked (lighter w) bs → {x : Exponents} → IsDivisible (Contains ps) x → IsDivisible (Contains bs) x
     over bs b w m k {x} d =
-        let e = basis_heaviest n fs bs w d.member.poly d.member.head v b.reduced.basis k (c.members d.member d.contained) ((top_heaviest w).mark d.member (m d.member d.contained)) in
-        record { member = e.member; contained = e.contained; rest = plus d.rest e.rest; divides = through x d.member.head e.member.head d.rest e.rest d.divides e.divides }
+        let e = basis_heaviest n fs bs w d.member.poly d.member.head v b.reduced.basis k (c.members d.member d.contained)
+        ((top_heaviest w).mark d.member (m d.member d.contained)) in
+        record {
+          member = e.member;
+          contained = e.contained;
+          rest = plus d.rest e.rest;
+          divides = through x d.member.head e.member.head d.rest e.rest d.divides e.divides;
+        }
 
 -- ---- it has a new mark
 
@@ -87,7 +94,8 @@ ended n fs ps gs v c g all = record {
 mark_stays : (n : ℕ) (fs : List Terms) (ps : List MarkedPolynomial) (w : List ℕ) (g : MarkedPolynomial) →
     AreMarked (IsWeightedBelow w) ps → IsMarked (IsWeightedBelow w) g → NoMark ps g.head →
     (r : HasRemainder n fs ps (IsUpTo (IsWeightedBelow w) g.head) g.poly) → HasMonomial r.rest g.head
-mark_stays n fs ps w g m k new r z = one_not_zero (sym k.monic ∙ r.equal g.head ∙ ap (λ y. y +ℚ coefficient (value r.pieces) g.head) z ∙ ap (λ y. zero_ℚ +ℚ y) nothing ∙ +ℚ-zero zero_ℚ)
+mark_stays n fs ps w g m k new r z =
+    one_not_zero (sym k.monic ∙ r.equal g.head ∙ ap (λ y. y +ℚ coefficient (value r.pieces) g.head) z ∙ ap (λ y. zero_ℚ +ℚ y) nothing ∙ +ℚ-zero zero_ℚ)
   where
     o : IsMonomialOrder (IsWeightedBelow w)
     o = weighted-order w
@@ -100,7 +108,8 @@ mark_stays n fs ps w g m k new r z = one_not_zero (sym k.monic ∙ r.equal g.hea
     nothing = elim (zero_or_not (coefficient (value r.pieces) g.head)) [
       | inl e ↦ e
       | inr j ↦ absurd (undivided ps g.head new (divisible_on_top (Contains ps) (IsWeightedBelow w) g.head r.pieces o.strict m
-          (Each-weaker (IsPieceIn (Contains ps) (IsUpTo (IsWeightedBelow w) g.head)) (IsPieceNotPast (Contains ps) (IsWeightedBelow w) g.head) (λ p q. record { member = q.member; not_past = λ l. not_past (level p) q.inside l }) r.pieces r.inside) j))
+          (Each-weaker (IsPieceIn (Contains ps) (IsUpTo (IsWeightedBelow w) g.head)) (IsPieceNotPast (Contains ps) (IsWeightedBelow w) g.head)
+          (λ p q. record { member = q.member; not_past = λ l. not_past (level p) q.inside l }) r.pieces r.inside) j))
     ]
 
 -- the bases for each of some terms of f as the next choice
@@ -137,7 +146,9 @@ joined n fs ps f next (t ∷ ts) h = at (next t.mono h.0) (joined n fs ps f next
         complete : (bs : List MarkedPolynomial) → IsMarkedReducedBasis n fs bs → (s : Term) → (t ≡ s) ⊎ Contains ts s →
             (w : List ℕ) → IsPositive n w → IsMarked (lighter w) (monic f s.mono) → AreMarked (lighter w) ps →
             AreMarked (lighter w) bs → Contains (c.2.bases ++ r.bases) bs
-        complete bs b s (inl e) w p m l j = Contains-append_left c.2.bases r.bases bs (c.2.complete bs b w p (more w c.0 ps (marked-twin (lighter w) (monic f t.mono) c.0 (lighter-strict w) c.1 (subst (λ (u : Term). IsMarked (lighter w) (monic f u.mono)) (sym e) m)) l) j)
+        complete bs b s (inl e) w p m l j = Contains-append_left c.2.bases r.bases bs
+            (c.2.complete bs b w p (more w c.0 ps (marked-twin (lighter w) (monic f t.mono) c.0 (lighter-strict w) c.1
+            (subst (λ (u : Term). IsMarked (lighter w) (monic f u.mono)) (sym e) m)) l) j)
         complete bs b s (inr k) w p m l j = Contains-append_right c.2.bases r.bases bs (r.complete bs b s k w p m l j)
 
 -- a weight that gives the marks of ps and of the basis gives, before lex, a mark to f, and some positive weight gives all
@@ -178,13 +189,19 @@ branched n fs ps f nonzero next = at (canonical f)
     at c = with_all (joined n fs ps f next c.terms c.there)
       where
         with_all : Joined n fs ps f c.terms → Listed n fs ps
-        with_all r = record { bases = r.bases; sound = r.sound; complete = λ bs b w p m k. complete bs b w m k ((top_greatest (IsWeightedBelow w) (weighted-order w)).some f) }
+        with_all r = record {
+          bases = r.bases;
+          sound = r.sound;
+          complete = λ bs b w p m k. complete bs b w m k ((top_greatest (IsWeightedBelow w) (weighted-order w)).some f);
+        }
           where
             complete : (bs : List MarkedPolynomial) → IsMarkedReducedBasis n fs bs → (w : List ℕ) →
                 AreMarked (lighter w) ps → AreMarked (lighter w) bs →
                 SamePolynomial f [] ⊎ ((x : Exponents) × IsGreatest (IsWeightedBelow w) f x) → Contains r.bases bs
             complete bs b w m k (inl z) = absurd (nonzero z)
-            complete bs b w m k (inr x) = with_term (listed (λ (t : Term). Contains c.terms t × HasMonomial f t.mono) c.terms x.0 (each_contained (λ (t : Term). Contains c.terms t × HasMonomial f t.mono) c.terms (λ t h. (h, contained_each (λ (t : Term). HasMonomial f t.mono) c.terms c.there t h))) (λ z. x.1.there (c.equal x.0 ∙ z)))
+            complete bs b w m k (inr x) = with_term (listed (λ (t : Term). Contains c.terms t × HasMonomial f t.mono) c.terms x.0
+                (each_contained (λ (t : Term). Contains c.terms t × HasMonomial f t.mono) c.terms
+                (λ t h. (h, contained_each (λ (t : Term). HasMonomial f t.mono) c.terms c.there t h))) (λ z. x.1.there (c.equal x.0 ∙ z)))
               where
                 with_term : ((t : Term) × (Contains c.terms t × HasMonomial f t.mono) × (same x.0 t.mono ≡ true)) →
                     Contains r.bases bs
@@ -208,7 +225,8 @@ bases_exist n fs v = dickson n P step [] [] (record { members = λ p h. absurd (
           where
             with_basis : ((gs : List MarkedPolynomial) × IsMarkedReducedBasis n fs gs × AreMarked (IsWeightedBelow w.0) gs) →
                 Listed n fs ps
-            with_basis g = decide (search (λ (b : MarkedPolynomial). IsDivisible (Contains ps) b.head) ((b : MarkedPolynomial) × Contains g.0 b × NoMark ps b.head) g.0 (λ b k. one b k (divisible_or_not ps b.head)))
+            with_basis g = decide (search (λ (b : MarkedPolynomial). IsDivisible (Contains ps) b.head)
+                ((b : MarkedPolynomial) × Contains g.0 b × NoMark ps b.head) g.0 (λ b k. one b k (divisible_or_not ps b.head)))
               where
                 one : (b : MarkedPolynomial) → Contains g.0 b → IsDivisible (Contains ps) b.head ⊎ NoMark ps b.head →
                     IsDivisible (Contains ps) b.head ⊎ ((b : MarkedPolynomial) × Contains g.0 b × NoMark ps b.head)
@@ -218,7 +236,9 @@ bases_exist n fs v = dickson n P step [] [] (record { members = λ p h. absurd (
                 decide : Each (λ (b : MarkedPolynomial). IsDivisible (Contains ps) b.head) g.0 ⊎ ((b : MarkedPolynomial) × Contains g.0 b × NoMark ps b.head) →
                     Listed n fs ps
                 decide (inl all) = ended n fs ps g.0 v c g.1 all
-                decide (inr b) = with_rest (remainder n fs ps w.0 B b.0.poly v c.members w.2 (closed-up_to (Contains ps) below b.0.head (weighted-order w.0).strict (heavier w.0 ps w.2)) (g.1.reduced.basis.members b.0 b.1) (g.2 b.0 b.1).tail)
+                decide (inr b) = with_rest (remainder n fs ps w.0 B b.0.poly v c.members w.2
+                    (closed-up_to (Contains ps) below b.0.head (weighted-order w.0).strict (heavier w.0 ps w.2)) (g.1.reduced.basis.members b.0 b.1)
+                    (g.2 b.0 b.1).tail)
                   where
                     below : Exponents → Exponents → Type 0
                     below = IsWeightedBelow w.0
@@ -227,7 +247,8 @@ bases_exist n fs v = dickson n P step [] [] (record { members = λ p h. absurd (
                     B = IsUpTo below b.0.head
 
                     with_rest : HasRemainder n fs ps B b.0.poly → Listed n fs ps
-                    with_rest r = branched n fs ps r.rest (λ z. mark_stays n fs ps w.0 b.0 (heavier w.0 ps w.2) (g.2 b.0 b.1) b.2 r (z b.0.head)) (λ x j. choose x j (kept_form n (monic r.rest x) (variables_of_member n fs (monic r.rest x).poly v (member x j)) (there x j)))
+                    with_rest r = branched n fs ps r.rest (λ z. mark_stays n fs ps w.0 b.0 (heavier w.0 ps w.2) (g.2 b.0 b.1) b.2 r (z b.0.head))
+                        (λ x j. choose x j (kept_form n (monic r.rest x) (variables_of_member n fs (monic r.rest x).poly v (member x j)) (there x j)))
                       where
                         member : (x : Exponents) → HasMonomial r.rest x → IsMember n fs (monic r.rest x).poly
                         member x j = member-monic n fs r.rest (monic r.rest x) v (monic_is r.rest x j) r.member
@@ -244,16 +265,24 @@ bases_exist n fs v = dickson n P step [] [] (record { members = λ p h. absurd (
                           next x (variables_of_member n fs r.rest v r.member x j) (new_mark (Contains ps) ts x h (r.irreducible x j)) (d.0 ∷ ps)
                               (record { members = λ p k. members p (Contains-cases d.0 p ps k); kept = λ p k. kept p (Contains-cases d.0 p ps k) }) (
                                 record { member = d.0; contained = Contains-here d.0 ps; rest = []; divides = d.2.head },
-                                Each-weaker (IsDivisible (Contains ps)) (IsDivisible (Contains (d.0 ∷ ps))) (λ t e. record { member = e.member; contained = Contains-there d.0 e.member ps e.contained; rest = e.rest; divides = e.divides }) ts h,
+                                Each-weaker (IsDivisible (Contains ps)) (IsDivisible (Contains (d.0 ∷ ps))) (λ t e. record {
+                                  member = e.member;
+                                  contained = Contains-there d.0 e.member ps e.contained;
+                                  rest = e.rest;
+                                  divides = e.divides;
+                                }) ts h,
                               ),
                         )
                           where
                             members : (p : MarkedPolynomial) → (d.0 ≡ p) ⊎ Contains ps p → IsMember n fs p.poly
-                            members p (inl e) = subst (λ (y : MarkedPolynomial). IsMember n fs y.poly) e (member-equal n fs (monic r.rest x).poly d.0.poly d.2.poly (member x j))
+                            members p (inl e) =
+                                subst (λ (y : MarkedPolynomial). IsMember n fs y.poly) e (member-equal n fs (monic r.rest x).poly d.0.poly d.2.poly
+                                (member x j))
                             members p (inr k) = c.members p k
 
                             one_there : coefficient d.0.poly d.0.head ≡ one_ℚ
-                            one_there = sym (d.2.poly d.0.head) ∙ coefficient-same (monic r.rest x).poly d.0.head x (same_flip x d.0.head d.2.head) ∙ monic-one r.rest (monic r.rest x) (monic_is r.rest x j)
+                            one_there = sym (d.2.poly d.0.head) ∙ coefficient-same (monic r.rest x).poly d.0.head x (same_flip x d.0.head d.2.head) ∙
+                                monic-one r.rest (monic r.rest x) (monic_is r.rest x j)
 
                             kept : (p : MarkedPolynomial) → (d.0 ≡ p) ⊎ Contains ps p → IsKeptMonic n p
                             kept p (inl e) = subst (IsKeptMonic n) e (record { canonical = d.1; one = one_there })

@@ -69,7 +69,12 @@ turned n fs bs cs b c over e h = at (divisible_monomial bs e.poly)
     at (inl i) = absurd (there (b.basis.decides e.poly (c.basis.members e h) i e.head))
     at (inr x) =
         let s : same x.0 e.head ≡ true = c.tails e h x.0 x.1 (divisible_through bs cs over x.0 x.2) in
-        record { member = x.2.member; contained = x.2.contained; rest = x.2.rest; divides = same_trans e.head x.0 (plus x.2.rest x.2.member.head) (same_flip x.0 e.head s) x.2.divides }
+        record {
+          member = x.2.member;
+          contained = x.2.contained;
+          rest = x.2.rest;
+          divides = same_trans e.head x.0 (plus x.2.rest x.2.member.head) (same_flip x.0 e.head s) x.2.divides;
+        }
 
 -- ---- members
 
@@ -83,7 +88,10 @@ twin_there n fs bs cs p q over back b hb =
   where
     twin : (c : MarkedPolynomial) → Contains cs c → (u : Exponents) → same b.head (plus u c.head) ≡ true →
         IsDivisible (Contains bs) c.head → IsTwin b c
-    twin c hc u s r = record { head = head; poly = λ x. equal_if (coefficient b.poly x) (coefficient c.poly x) (sym (difference b.poly c.poly x) ∙ p.basis.decides d member irreducible x) }
+    twin c hc u s r = record {
+      head = head;
+      poly = λ x. equal_if (coefficient b.poly x) (coefficient c.poly x) (sym (difference b.poly c.poly x) ∙ p.basis.decides d member irreducible x);
+    }
       where
         itself : r.member ≡ b
         itself = apart_same bs r.member b p.heads r.contained hb (plus u r.rest) (through b.head c.head r.member.head u r.rest s r.divides)
@@ -108,7 +116,8 @@ twin_there n fs bs cs p q over back b hb =
         irreducible x h k = elim (zero_or_not (coefficient b.poly x)) [
           | inr m ↦ h (at_mark x (p.tails b hb x m k))
           | inl z ↦ h (at_mark x (same_trans x c.head b.head
-              (q.tails c hc x (λ y. h (difference b.poly c.poly x ∙ ap (λ v. v +ℚ neg_ℚ (coefficient c.poly x)) z ∙ ap (λ v. zero_ℚ +ℚ neg_ℚ v) y ∙ +ℚ-neg_ℚ zero_ℚ)) (divisible_through bs cs over x k))
+              (q.tails c hc x (λ y. h (difference b.poly c.poly x ∙ ap (λ v. v +ℚ neg_ℚ (coefficient c.poly x)) z ∙ ap (λ v. zero_ℚ +ℚ neg_ℚ v) y ∙
+              +ℚ-neg_ℚ zero_ℚ)) (divisible_through bs cs over x k))
               (same_flip b.head c.head head)))
         ]
 
@@ -117,7 +126,8 @@ pub contained_same : (n : ℕ) (fs : List Terms) (bs cs : List MarkedPolynomial)
     AreMultiples bs cs → AreSameBasis bs cs
 contained_same n fs bs cs b c over = record {
   there = twin_there n fs bs cs b c over back;
-  back = λ d h. let e = twin_there n fs cs bs c b back over d h in (e.0, e.1, record { head = same_flip d.head e.0.head e.2.head; poly = λ x. sym (e.2.poly x) });
+  back = λ d h. let e = twin_there n fs cs bs c b back over d h in
+      (e.0, e.1, record { head = same_flip d.head e.0.head e.2.head; poly = λ x. sym (e.2.poly x) });
 }
   where
     back : AreMultiples cs bs

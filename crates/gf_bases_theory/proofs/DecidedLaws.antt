@@ -46,7 +46,11 @@ chosen {A} P (y ∷ xs) d = at (d y (Contains-here y xs)) (chosen P xs (λ x h. 
         all : (x : A) → P x → (y ≡ x) ⊎ Contains xs x → Contains (y ∷ r.items) x
         all x q (inl e) = subst (Contains (y ∷ r.items)) e (Contains-here y r.items)
         all x q (inr h) = Contains-there y x r.items (r.all x h q)
-    at (inr n) r = record { items = r.items; only = λ x h. let o = r.only x h in (Contains-there y x xs o.0, o.1); all = λ x h q. all x q (Contains-cases y x xs h) }
+    at (inr n) r = record {
+      items = r.items;
+      only = λ x h. let o = r.only x h in (Contains-there y x xs o.0, o.1);
+      all = λ x h q. all x q (Contains-cases y x xs h);
+    }
       where
         all : (x : A) → P x → (y ≡ x) ⊎ Contains xs x → Contains r.items x
         all x q (inl e) = absurd (n (subst P (sym e) q))

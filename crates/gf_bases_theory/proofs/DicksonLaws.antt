@@ -3,7 +3,8 @@
 -- To cite: lists_induction, IsNew, IsDownward, dickson. The rest are steps: the monomials that no listed one divides are covered by
 -- cells, in each of which some exponents are free and the others fixed; a monomial more cuts one cell into cells with
 -- fewer free exponents.
-use Rattle.std.proofs.Common.{◌≡◌, ◌⊎◌, ℕ, zero, suc, ◌+◌, ◌<◌, ◌≤◌, true, false, Bool, ◌==◌, List, [], ◌∷◌, ◌++◌, length, arith, refl, sym, ap, ◌∙◌, subst, inl, inr}
+use Rattle.std.proofs.Common.{◌≡◌, ◌⊎◌, ℕ, zero, suc, ◌+◌, ◌<◌, ◌≤◌, true, false, Bool, ◌==◌, List, [], ◌∷◌, ◌++◌, length, arith, refl, sym, ap, ◌∙◌, subst}
+use Rattle.std.proofs.Common.{inl, inr}
 use Rattle.std.proofs.lemmas.Bool.{cases_lt}
 use Rattle.std.proofs.lemmas.Bool.Decides.{nat_tests}
 use Rattle.gf_exponents_theory.specs.Exponents.{Exponents, entry, same, plus, IsInRing, NoMultiple}
@@ -29,7 +30,8 @@ below_bound : (m : ℕ) (Q : List ℕ → Type 0) →
     ((R : List ℕ → Type 0) → IsInductive m R → (x : List ℕ) → length x ≡ m → R x) → IsInductive (suc m) Q →
     (bound a : ℕ) → a < bound → (x : List ℕ) → length x ≡ m → Q (a ∷ x)
 below_bound m Q rest step zero a l x e = absurd (omega arith)
-below_bound m Q rest step (suc bound) a l x e = rest (λ z. Q (a ∷ z)) (λ z k r. step (a ∷ z) (omega (arith, k)) (λ y f s. at z r (λ b h y f. below_bound m Q rest step bound b h y f) y f s)) x e
+below_bound m Q rest step (suc bound) a l x e =
+    rest (λ z. Q (a ∷ z)) (λ z k r. step (a ∷ z) (omega (arith, k)) (λ y f s. at z r (λ b h y f. below_bound m Q rest step bound b h y f) y f s)) x e
   where
     at : (z : List ℕ) → ((y : List ℕ) → length y ≡ m → IsSmaller y z → Q (a ∷ y)) →
         ((b : ℕ) → b < bound → (y : List ℕ) → length y ≡ m → Q (b ∷ y)) → (y : List ℕ) → length y ≡ suc m →
@@ -169,7 +171,8 @@ covered-cut c t x (suc k) i l ht hx s = at (cases_lt i k) (covered-cut c t x k i
     at (inr g) r =
         let e : i ≡ k = omega arith in
         let m : entry x k < entry t k = subst (λ (j : ℕ). entry x j < entry t j) e s in
-        covered-left (cut_free (column c k) (cut_below c k (entry t k))) (cut c t k) x (here (column c k) (ht k) (hx k) m (covered-cut_below c k (entry t k) x hx m))
+        covered-left (cut_free (column c k) (cut_below c k (entry t k))) (cut c t k) x
+        (here (column c k) (ht k) (hx k) m (covered-cut_below c k (entry t k) x hx m))
 
 -- where t doesn't divide x, x is less in one of the first k variables, or in none of them
 less_or_not : (t x : Exponents) (k : ℕ) →
@@ -251,7 +254,8 @@ fewer-cut_below c i (suc v) f = (omega (arith, frees-put c i v f), fewer-cut_bel
 
 fewer-cut : (c : Cell) (t : Exponents) (k : ℕ) → AreFewer (frees c) (cut c t k)
 fewer-cut c t zero = tt
-fewer-cut c t (suc k) = Each-++ (λ (d : Cell). frees d < frees c) (cut_free (column c k) (cut_below c k (entry t k))) (cut c t k) (here (column c k) (fewer-cut_below c k (entry t k))) (fewer-cut c t k)
+fewer-cut c t (suc k) = Each-++ (λ (d : Cell). frees d < frees c) (cut_free (column c k) (cut_below c k (entry t k))) (cut c t k)
+    (here (column c k) (fewer-cut_below c k (entry t k))) (fewer-cut c t k)
   where
     here : (o : Column) → (IsFree o → AreFewer (frees c) (cut_below c k (entry t k))) →
         AreFewer (frees c) (cut_free o (cut_below c k (entry t k)))
@@ -283,9 +287,18 @@ replaced m (c ∷ cs) t f (inl h) = record {
   cells = cut c t (length c) ++ cs;
   level = frees c;
   small = f.0;
-  above = λ k l. tally-++ k (cut c t (length c)) cs ∙ ap (λ z. z + tally k cs) (none-fewer (frees c) k (cut c t (length c)) (omega arith) (fewer-cut c t (length c)) ∙ sym (ap one_if (other (frees c) k l)));
-  fewer = omega (arith, tally-++ (frees c) (cut c t (length c)) cs, none-fewer (frees c) (frees c) (cut c t (length c)) (omega arith) (fewer-cut c t (length c)), ap one_if (itself (frees c)));
-  fit = Each-++ (λ (d : Cell). frees d < m) (cut c t (length c)) cs (Each-weaker (λ (d : Cell). frees d < frees c) (λ (d : Cell). frees d < m) (λ d l. omega (arith, l, f.0)) (cut c t (length c)) (fewer-cut c t (length c))) f.1;
+  above = λ k l. tally-++ k (cut c t (length c)) cs ∙ ap (λ z. z + tally k cs) (none-fewer (frees c) k (cut c t (length c)) (omega arith)
+      (fewer-cut c t (length c)) ∙ sym (ap one_if (other (frees c) k l)));
+  fewer = omega (
+    arith,
+    tally-++ (frees c) (cut c t (length c)) cs,
+    none-fewer (frees c) (frees c) (cut c t (length c)) (omega arith)
+        (fewer-cut c t (length c)),
+    ap one_if (itself (frees c)),
+  );
+  fit = Each-++ (λ (d : Cell). frees d < m) (cut c t (length c)) cs
+      (Each-weaker (λ (d : Cell). frees d < frees c) (λ (d : Cell). frees d < m) (λ d l. omega (arith, l, f.0)) (cut c t (length c)) (fewer-cut c t (length c)))
+      f.1;
   covers = λ x q n. at x q n;
 }
   where
@@ -343,7 +356,8 @@ IsDownward n P = (ts : List Exponents) → ((t : Exponents) → IsInRing n t →
 
 -- then it holds of each list
 pub dickson : (n : ℕ) (P : List Exponents → Type 0) → IsDownward n P → (ts : List Exponents) → P ts
-dickson n P step ts = lists_induction (suc n) Q next (tallies n (all_free n ∷ [])) (length-tallies n (all_free n ∷ [])) (all_free n ∷ []) refl (omega (arith, frees-all n), tt) ts (λ t r h. inl (within-all n (entry t) r))
+dickson n P step ts = lists_induction (suc n) Q next (tallies n (all_free n ∷ [])) (length-tallies n (all_free n ∷ [])) (all_free n ∷ []) refl
+    (omega (arith, frees-all n), tt) ts (λ t r h. inl (within-all n (entry t) r))
   where
     Q : List ℕ → Type 0
     Q x = (cs : List Cell) → tallies n cs ≡ x → AreFewer (suc n) cs → (ts : List Exponents) →

@@ -11,7 +11,8 @@ use Rattle.gf_ideal_theory.proofs.Identities.{neg_one}
 -- f less g, monomial by monomial
 pub difference : (f g : Terms) (x : Exponents) →
     coefficient (f ++ times (neg_ℚ one_ℚ) [] g) x ≡ coefficient f x +ℚ neg_ℚ (coefficient g x)
-difference f g x = coefficient-++ f (times (neg_ℚ one_ℚ) [] g) x ∙ ap (λ z. coefficient f x +ℚ z) (coefficient-factor (neg_ℚ one_ℚ) [] g x ∙ ap (λ h. neg_ℚ one_ℚ *ℚ coefficient h x) (times-plain g) ∙ neg_one _)
+difference f g x = coefficient-++ f (times (neg_ℚ one_ℚ) [] g) x ∙ ap (λ z. coefficient f x +ℚ z) (coefficient-factor (neg_ℚ one_ℚ) [] g x ∙
+    ap (λ h. neg_ℚ one_ℚ *ℚ coefficient h x) (times-plain g) ∙ neg_one _)
 
 -- a summand taken away
 pub less_summand : (r v h : Fraction) → h ≡ r +ℚ v → h +ℚ neg_ℚ v ≡ r

@@ -48,12 +48,16 @@ pub record AreOfVariables (n : ℕ) (k : Region) (fs : List Terms) : Type 0 wher
   pub widths : AreRows n k.rows
 
 pub suits_or_not : (n : ℕ) (k : Region) (fs : List Terms) → AreOfVariables n k fs ⊎ (AreOfVariables n k fs → ⊥)
-suits_or_not n k fs = at (each_or_not (IsInVariables n) (variables_or_not n) fs) (each_or_not (λ (c : List ℤ). length c ≡ n) (λ c. cases_eq (length c) n) k.rows)
+suits_or_not n k fs = at (each_or_not (IsInVariables n) (variables_or_not n) fs) (each_or_not (λ (c : List ℤ). length c ≡ n) (λ c. cases_eq (length c) n)
+    k.rows)
   where
     at : Each (IsInVariables n) fs ⊎ (Each (IsInVariables n) fs → ⊥) →
         Each (λ (c : List ℤ). length c ≡ n) k.rows ⊎ (Each (λ (c : List ℤ). length c ≡ n) k.rows → ⊥) →
         AreOfVariables n k fs ⊎ (AreOfVariables n k fs → ⊥)
-    at (inl v) (inl w) = inl (record { generators = λ f c. contained_each (IsInVariables n) fs v f c; widths = all_by (λ c. length c ≡ n) k.rows (λ c i. contained_each (λ (c : List ℤ). length c ≡ n) k.rows w c i) })
+    at (inl v) (inl w) = inl (record {
+      generators = λ f c. contained_each (IsInVariables n) fs v f c;
+      widths = all_by (λ c. length c ≡ n) k.rows (λ c i. contained_each (λ (c : List ℤ). length c ≡ n) k.rows w c i);
+    })
     at (inl v) (inr m) = inr (λ h. m (each_contained (λ (c : List ℤ). length c ≡ n) k.rows (λ c i. All-contains (λ c. length c ≡ n) k.rows c h.widths i)))
     at (inr m) q = inr (λ h. m (each_contained (IsInVariables n) fs h.generators))
 
@@ -97,5 +101,6 @@ listed_in_region n fs k v w = at (bases_exist n fs v)
         with_choice r = record {
           bases = r.items;
           sound = λ bs c. let o = r.only bs c in basis_of_vector n fs k bs (l.sound bs o.0) o.1;
-          complete = λ bs b. let q = vector_of_basis n fs k bs b in r.all bs (l.complete bs q.0 b.reduced.basis.marked.0 b.reduced.basis.marked.1 (λ p c. absurd (omega (arith, c.1))) b.reduced.basis.marked.2) q.1;
+          complete = λ bs b. let q = vector_of_basis n fs k bs b in
+              r.all bs (l.complete bs q.0 b.reduced.basis.marked.0 b.reduced.basis.marked.1 (λ p c. absurd (omega (arith, c.1))) b.reduced.basis.marked.2) q.1;
         }

@@ -47,7 +47,8 @@ class_part fs Alike x g one f (Spans.more c u p k h j s e) = at (class_part fs A
     alike_top : (t y : Exponents) → HasMonomial p t → HasMonomial (times c u p) y → Alike y (plus u t)
     alike_top t y m n = elim (g.decide y (plus u t)) [
       | inl a ↦ a
-      | inr o ↦ absurd (n (nothing_there c u p y (λ z k q. o (g.transitive y (plus u z) (plus u t) (g.along y (plus u z) q) (g.invariant u z t (one p j z t k m))))))
+      | inr o ↦ absurd (n (nothing_there c u p y (λ z k q. o (g.transitive y (plus u z) (plus u t) (g.along y (plus u z) q)
+          (g.invariant u z t (one p j z t k m))))))
     ]
 
     dropped : IsClassPart fs Alike x h → ((y : Exponents) → Alike y x → coefficient (times c u p) y ≡ zero_ℚ) →
@@ -91,7 +92,8 @@ basis-graded n fs Alike bs b g v one inside decides tails c y m = elim (g.decide
     r = class_part fs Alike b.head g one b.poly (spans_of_member n fs b.poly (inside b c))
 
     in_variables : IsInVariables n r.poly
-    in_variables x k = variables_of_member n fs b.poly v (inside b c) x (λ z. elim (g.decide x b.head) [ inl a ↦ k (r.alike x a ∙ z) | inr o ↦ k (r.other x o) ])
+    in_variables x k =
+        variables_of_member n fs b.poly v (inside b c) x (λ z. elim (g.decide x b.head) [ inl a ↦ k (r.alike x a ∙ z) | inr o ↦ k (r.other x o) ])
 
     d : Terms
     d = b.poly ++ times (neg_ℚ one_ℚ) [] r.poly
@@ -120,5 +122,6 @@ reduced-homogeneous n grade fs bs v hom core f k x y hx hy = at (Contains-marked
     at : ((b : MarkedPolynomial) × Contains bs b × (b.poly ≡ f)) → IsOfGrade n grade x y
     at b =
         let g = basis-graded n fs (IsOfGrade n grade) bs b.0 gr v hom core.reduced.basis.members core.reduced.basis.decides core.reduced.tails b.1 in
-        let one : (z : Exponents) → HasMonomial f z → IsOfGrade n grade z b.0.head = subst (λ (h : Terms). (z : Exponents) → HasMonomial h z → IsOfGrade n grade z b.0.head) b.2 g in
+        let one : (z : Exponents) → HasMonomial f z → IsOfGrade n grade z b.0.head =
+        subst (λ (h : Terms). (z : Exponents) → HasMonomial h z → IsOfGrade n grade z b.0.head) b.2 g in
         gr.transitive x b.0.head y (one x hx) (gr.symmetric y b.0.head (one y hy))

@@ -60,7 +60,8 @@ zero_term t f e z = sym (ap (λ y. y +ℚ coefficient f e) (zero_chosen (same e 
 -- like terms are one term
 one_term : (t s : Term) (f : Terms) (e : Exponents) → t.mono ≡ s.mono →
     (if same e s.mono then t.coef +ℚ s.coef else zero_ℚ) +ℚ coefficient f e ≡ coefficient (t ∷ s ∷ f) e
-one_term t s f e q = joins (same e s.mono) ∙ ap (λ x. (if same e x then t.coef else zero_ℚ) +ℚ ((if same e s.mono then s.coef else zero_ℚ) +ℚ coefficient f e)) (sym q)
+one_term t s f e q = joins (same e s.mono) ∙ ap (λ x. (if same e x then t.coef else zero_ℚ) +ℚ ((if same e s.mono then s.coef else zero_ℚ) +ℚ coefficient f e))
+    (sym q)
   where
     joins : (b : Bool) →
         (if b then t.coef +ℚ s.coef else zero_ℚ) +ℚ coefficient f e ≡ (if b then t.coef else zero_ℚ) +ℚ ((if b then s.coef else zero_ℚ) +ℚ coefficient f e)
@@ -78,9 +79,27 @@ inserted n t (s ∷ f) l v d = at (deglex t.mono s.mono) refl (zero_or_not t.coe
     at : (o : Ordering) → deglex t.mono s.mono ≡ o → (t.coef ≡ zero_ℚ) ⊎ (t.coef ≢ zero_ℚ) →
         (t.coef +ℚ s.coef ≡ zero_ℚ) ⊎ (t.coef +ℚ s.coef ≢ zero_ℚ) → Inserted n t f → Inserted n t (s ∷ f)
     at Greater q (inl z) p r = record { terms = s ∷ f; variables = v; descending = d; equal = λ e. zero_term t (s ∷ f) e z; above = λ x h a. a }
-    at Greater q (inr k) p r = record { terms = t ∷ s ∷ f; variables = (l, v); descending = (k, (q, IsAbove-from t.mono s.mono f q d.1), d); equal = λ e. refl; above = λ x h a. (h, a) }
-    at Equal q z (inl p) r = record { terms = f; variables = v.1; descending = d.2; equal = λ e. zero_term (record { coef = t.coef +ℚ s.coef; mono = s.mono }) f e p ∙ one_term t s f e (equal_same t.mono s.mono q); above = λ x h a. a.1 }
-    at Equal q z (inr p) r = record { terms = record { coef = t.coef +ℚ s.coef; mono = s.mono } ∷ f; variables = v; descending = (p, d.1, d.2); equal = λ e. one_term t s f e (equal_same t.mono s.mono q); above = λ x h a. a }
+    at Greater q (inr k) p r = record {
+      terms = t ∷ s ∷ f;
+      variables = (l, v);
+      descending = (k, (q, IsAbove-from t.mono s.mono f q d.1), d);
+      equal = λ e. refl;
+      above = λ x h a. (h, a);
+    }
+    at Equal q z (inl p) r = record {
+      terms = f;
+      variables = v.1;
+      descending = d.2;
+      equal = λ e. zero_term (record { coef = t.coef +ℚ s.coef; mono = s.mono }) f e p ∙ one_term t s f e (equal_same t.mono s.mono q);
+      above = λ x h a. a.1;
+    }
+    at Equal q z (inr p) r = record {
+      terms = record { coef = t.coef +ℚ s.coef; mono = s.mono } ∷ f;
+      variables = v;
+      descending = (p, d.1, d.2);
+      equal = λ e. one_term t s f e (equal_same t.mono s.mono q);
+      above = λ x h a. a;
+    }
     at Less q z p r = record {
       terms = s ∷ r.terms;
       variables = (v.0, r.variables);
@@ -116,14 +135,16 @@ of_terms n (t ∷ f) h = at (of_terms n f h.1)
           terms = i.terms;
           variables = i.variables;
           descending = i.descending;
-          equal = λ e. ap (λ z. (if same e t.mono then t.coef else zero_ℚ) +ℚ z) (r.equal e) ∙ ap (λ b. (if b then t.coef else zero_ℚ) +ℚ coefficient r.terms e) (alike e) ∙ sym (i.equal e);
+          equal = λ e. ap (λ z. (if same e t.mono then t.coef else zero_ℚ) +ℚ z) (r.equal e) ∙ ap (λ b. (if b then t.coef else zero_ℚ) +ℚ coefficient r.terms e)
+              (alike e) ∙ sym (i.equal e);
         }
 
 pub descending_form : (n : ℕ) (f : Terms) → IsInVariables n f → DescendingForm n f
 descending_form n f v = at (canonical f)
   where
     at : Canonical f → DescendingForm n f
-    at c = with_terms (of_terms n c.terms (Each-weaker (λ (t : Term). coefficient f t.mono ≢ zero_ℚ) (λ (t : Term). IsInRing n t.mono) (λ t m. v t.mono m) c.terms c.there))
+    at c = with_terms (of_terms n c.terms (Each-weaker (λ (t : Term). coefficient f t.mono ≢ zero_ℚ) (λ (t : Term). IsInRing n t.mono) (λ t m. v t.mono m)
+        c.terms c.there))
       where
         with_terms : DescendingForm n c.terms → DescendingForm n f
         with_terms r = record { terms = r.terms; variables = r.variables; descending = r.descending; equal = λ e. c.equal e ∙ r.equal e }

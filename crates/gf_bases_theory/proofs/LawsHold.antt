@@ -45,7 +45,14 @@ divided_or_new t k (s ∷ ts) h = at (multiple_or_not s (t k)) (divided_or_new t
     at : ((y : Exponents) × (same (t k) (plus s y) ≡ true)) ⊎ NoMultiple s (t k) →
         ((i : ℕ) × (i < k) × Divides (t i) (t k)) ⊎ IsNew ts (t k) →
         ((i : ℕ) × (i < k) × Divides (t i) (t k)) ⊎ IsNew (s ∷ ts) (t k)
-    at (inl m) r = inl (h.0.0, h.0.1, record { rest = m.0; product = subst (λ (x : Exponents). same (t k) (plus m.0 x) ≡ true) (sym h.0.2) (ap (same (t k)) (plus_comm m.0 s) ∙ m.1) })
+    at (inl m) r = inl (
+      h.0.0,
+      h.0.1,
+      record {
+        rest = m.0;
+        product = subst (λ (x : Exponents). same (t k) (plus m.0 x) ≡ true) (sym h.0.2) (ap (same (t k)) (plus_comm m.0 s) ∙ m.1);
+      },
+    )
     at (inr n) (inl d) = inl d
     at (inr n) (inr m) = inr (n, m)
 
@@ -71,7 +78,14 @@ dicksons_lemma n t ring = dickson n P step [] 0 tt
 
 pub of_reduced : (n : ℕ) (fs : List Terms) (w : List ℕ) (bs : List MarkedPolynomial) → IsReducedBasis n fs w bs →
     AreArranged n bs → IsMarkedReducedBasis n fs bs
-of_reduced n fs w bs r a = record { reduced = record { basis = basis_of_groebner n fs bs w (record { positive = r.positive; basis = r.reduced.basis }); tails = r.reduced.tails; heads = r.reduced.heads }; arranged = a }
+of_reduced n fs w bs r a = record {
+  reduced = record {
+    basis = basis_of_groebner n fs bs w (record { positive = r.positive; basis = r.reduced.basis });
+    tails = r.reduced.tails;
+    heads = r.reduced.heads;
+  };
+  arranged = a;
+}
 
 pub to_reduced : (n : ℕ) (fs : List Terms) (w : List ℕ) (bs : List MarkedPolynomial) → AreInVariables n fs →
     IsMarkedReducedBasis n fs bs → IsPositive n w → AreMarked (lighter w) bs → IsReducedBasis n fs w bs
@@ -79,9 +93,16 @@ to_reduced n fs w bs v b p m = reduced_by_weight n fs bs w v b.reduced.basis p m
 
 pub marked_bases_are_reduced : MarkedBasesAreReduced
 marked_bases_are_reduced = record {
-  weights = λ n fs bs v. (λ b. (b.arranged, (b.reduced.basis.marked.0, to_reduced n fs b.reduced.basis.marked.0 bs v b b.reduced.basis.marked.1 b.reduced.basis.marked.2)), λ q. of_reduced n fs q.1.0 bs q.1.1 q.0);
+  weights = λ n fs bs v. (
+    λ b. (b.arranged, (b.reduced.basis.marked.0, to_reduced n fs b.reduced.basis.marked.0 bs v b b.reduced.basis.marked.1 b.reduced.basis.marked.2)),
+    λ q. of_reduced n fs q.1.0 bs q.1.1 q.0,
+  );
   at_weight = λ n fs w bs v b. (λ r. (r.positive, r.reduced.basis.marked), λ q. to_reduced n fs w bs v b q.0 q.1);
-  at_order = λ o n fs bs v b. (λ r. r.basis.marked, λ m. reduced_by_order n fs bs (below_of o) v b.reduced.basis (order-is o).strict m b.reduced.tails b.reduced.heads);
+  at_order = λ o n fs bs v b. (
+    λ r. r.basis.marked,
+    λ m. reduced_by_order n fs bs (below_of o) v b.reduced.basis (order-is o).strict m b.reduced.tails
+        b.reduced.heads,
+  );
   everywhere = λ n fs bs v. (λ b. record { reduced = b.reduced; arranged = b.arranged }, basis_everywhere n fs bs);
 }
 
@@ -99,14 +120,19 @@ generated n fs bs v b = (variables, same_ideal n fs (polys bs) v variables there
 
     there : (f : Terms) → Contains fs f → IsMember n (polys bs) f
     there f c =
-        let p = member_pieces n fs bs (IsInRing n) f v b.reduced.basis (closed-ring n (Contains bs) (λ d k. variables_of_member n fs d.poly v (b.reduced.basis.members d k))) (member-generator n fs f c) (v f c) in
+        let p = member_pieces n fs bs (IsInRing n) f v b.reduced.basis
+        (closed-ring n (Contains bs) (λ d k. variables_of_member n fs d.poly v (b.reduced.basis.members d k))) (member-generator n fs f c) (v f c) in
         member_of_spans n (polys bs) f variables (v f c)
         (Spans-equal (polys bs) (value p.0) f (λ e. sym (p.2 e))
-        (spans_value (polys bs) (Contains bs) (λ d k. Spans-generator (polys bs) d.poly (Contains-polys bs d k)) p.0 (Each-weaker (IsPieceIn (Contains bs) (IsInRing n)) (λ (q : Piece). Contains bs q.of) (λ q k. k.member) p.0 p.1)))
+        (spans_value (polys bs) (Contains bs) (λ d k. Spans-generator (polys bs) d.poly (Contains-polys bs d k)) p.0
+        (Each-weaker (IsPieceIn (Contains bs) (IsInRing n)) (λ (q : Piece). Contains bs q.of) (λ q k. k.member) p.0 p.1)))
 
 same_reduced : (n : ℕ) (fs gs : List Terms) (bs : List MarkedPolynomial) → AreSameIdeal n fs gs → IsMarkedReducedBasis n fs bs →
     IsMarkedReducedBasis n gs bs
-same_reduced n fs gs bs s b = record { reduced = record { basis = basis_along n fs gs bs s b.reduced.basis; tails = b.reduced.tails; heads = b.reduced.heads }; arranged = b.arranged }
+same_reduced n fs gs bs s b = record {
+  reduced = record { basis = basis_along n fs gs bs s b.reduced.basis; tails = b.reduced.tails; heads = b.reduced.heads };
+  arranged = b.arranged;
+}
 
 same_in_region : (n : ℕ) (fs gs : List Terms) (k : Region) (bs : List MarkedPolynomial) → AreSameIdeal n fs gs → IsBasisInRegion n fs k bs →
     IsBasisInRegion n gs k bs
@@ -128,8 +154,14 @@ homogeneous_bases = reduced-homogeneous
 
 pub reduced_bases_exist : ReducedBasesExist
 reduced_bases_exist = record {
-  for_order = λ o n grade fs a v h. let b = reduced_exists o n grade fs a v h in (b.0, b.1, reduced_by_order n fs b.0 (below_of o) v b.1.reduced.basis (order-is o).strict b.2 b.1.reduced.tails b.1.reduced.heads);
-  for_weight = λ n fs w v. let b = weighted_exists n fs w v in (b.0, b.1, reduced_by_order n fs b.0 (IsWeightedBelow w) v b.1.reduced.basis (order-is (MonomialOrder.weighted w)).strict b.2 b.1.reduced.tails b.1.reduced.heads);
+  for_order = λ o n grade fs a v h. let b = reduced_exists o n grade fs a v h in
+      (b.0, b.1, reduced_by_order n fs b.0 (below_of o) v b.1.reduced.basis (order-is o).strict b.2 b.1.reduced.tails b.1.reduced.heads);
+  for_weight = λ n fs w v. let b = weighted_exists n fs w v in (
+    b.0,
+    b.1,
+    reduced_by_order n fs b.0 (IsWeightedBelow w) v b.1.reduced.basis (order-is (MonomialOrder.weighted w)).strict b.2 b.1.reduced.tails
+        b.1.reduced.heads,
+  );
   one = marked_unique;
 }
 

@@ -34,7 +34,15 @@ use Rattle.gf_bases_theory.proofs.KeptLaws.{kept_form, marked-twin}
 -- a multiple of a multiple
 pub through : (x y z u v : Exponents) → same x (plus u y) ≡ true → same y (plus v z) ≡ true →
     same x (plus (plus u v) z) ≡ true
-through x y z u v s t = same_by_entries x (plus (plus u v) z) (λ i. omega (arith, entries_same x (plus u y) s i, entry-plus u y i, entries_same y (plus v z) t i, entry-plus v z i, entry-plus (plus u v) z i, entry-plus u v i))
+through x y z u v s t = same_by_entries x (plus (plus u v) z) (λ i. omega (
+  arith,
+  entries_same x (plus u y) s i,
+  entry-plus u y i,
+  entries_same y (plus v z) t i,
+  entry-plus v z i,
+  entry-plus (plus u v) z i,
+  entry-plus u v i,
+))
 
 -- the members whose marks aren't multiples of x
 record Sifted (x : Exponents) (ks : List MarkedPolynomial) : Type 0 where
@@ -79,7 +87,8 @@ sifted x (b ∷ ks) = at (sifted x ks) (multiple_or_not x b.head)
             same k.head (plus y x) ≡ true → ⊥
         none k (inl e) y s =
             let no : same b.head (plus x y) ≡ false = n y in
-            let yes : same b.head (plus x y) ≡ true = ap (same b.head) (plus_comm x y) ∙ subst (λ (c : MarkedPolynomial). same c.head (plus y x) ≡ true) (sym e) s in
+            let yes : same b.head (plus x y) ≡ true = ap (same b.head) (plus_comm x y) ∙ subst (λ (c : MarkedPolynomial). same c.head (plus y x) ≡ true) (sym e)
+            s in
             absurd (cc)
         none k (inr h) y s = r.none k h y s
 
@@ -99,7 +108,12 @@ thinned (b ∷ bs) = at (thinned bs)
     at r = by (divisible_or_not r.kept b.head)
       where
         by : IsDivisible (Contains r.kept) b.head ⊎ NoMark r.kept b.head → Thinned (b ∷ bs)
-        by (inl d) = record { kept = r.kept; inside = λ k h. Contains-there b k bs (r.inside k h); over = λ c h. over c (Contains-cases b c bs h); apart = r.apart }
+        by (inl d) = record {
+          kept = r.kept;
+          inside = λ k h. Contains-there b k bs (r.inside k h);
+          over = λ c h. over c (Contains-cases b c bs h);
+          apart = r.apart;
+        }
           where
             over : (c : MarkedPolynomial) → (b ≡ c) ⊎ Contains bs c → IsDivisible (Contains r.kept) c.head
             over c (inl e) = subst (λ (x : MarkedPolynomial). IsDivisible (Contains r.kept) x.head) e d
@@ -119,13 +133,23 @@ thinned (b ∷ bs) = at (thinned bs)
                 inside k (inr h) = Contains-there b k bs (r.inside k (s.inside k h))
 
                 itself : (c : MarkedPolynomial) → b ≡ c → IsDivisible (Contains (b ∷ s.kept)) c.head
-                itself c e = record { member = b; contained = Contains-here b s.kept; rest = []; divides = subst (λ (x : MarkedPolynomial). same x.head b.head ≡ true) e (same-refl b.head) }
+                itself c e = record {
+                  member = b;
+                  contained = Contains-here b s.kept;
+                  rest = [];
+                  divides = subst (λ (x : MarkedPolynomial). same x.head b.head ≡ true) e (same-refl b.head);
+                }
 
                 other : (c : MarkedPolynomial) (d : IsDivisible (Contains r.kept) c.head) →
                     Contains s.kept d.member ⊎ ((y : Exponents) × (same d.member.head (plus y b.head) ≡ true)) →
                     IsDivisible (Contains (b ∷ s.kept)) c.head
                 other c d (inl h) = record { member = d.member; contained = Contains-there b d.member s.kept h; rest = d.rest; divides = d.divides }
-                other c d (inr y) = record { member = b; contained = Contains-here b s.kept; rest = plus d.rest y.0; divides = through c.head d.member.head b.head d.rest y.0 d.divides y.1 }
+                other c d (inr y) = record {
+                  member = b;
+                  contained = Contains-here b s.kept;
+                  rest = plus d.rest y.0;
+                  divides = through c.head d.member.head b.head d.rest y.0 d.divides y.1;
+                }
 
                 over : (c : MarkedPolynomial) → (b ≡ c) ⊎ Contains bs c → IsDivisible (Contains (b ∷ s.kept)) c.head
                 over c (inl e) = itself c e
@@ -135,7 +159,12 @@ thinned (b ∷ bs) = at (thinned bs)
                     (y : Exponents) → same l.head (plus y k.head) ≡ true → k ≡ l
                 apart k l (inl e) (inl f) y q = sym e ∙ f
                 apart k l (inl e) (inr h) y q = absurd (s.none l h y (subst (λ (x : MarkedPolynomial). same l.head (plus y x.head) ≡ true) (sym e) q))
-                apart k l (inr h) (inl f) y q = absurd (undivided r.kept b.head n (record { member = k; contained = s.inside k h; rest = y; divides = subst (λ (x : MarkedPolynomial). same x.head (plus y k.head) ≡ true) (sym f) q }))
+                apart k l (inr h) (inl f) y q = absurd (undivided r.kept b.head n (record {
+                  member = k;
+                  contained = s.inside k h;
+                  rest = y;
+                  divides = subst (λ (x : MarkedPolynomial). same x.head (plus y k.head) ≡ true) (sym f) q;
+                }))
                 apart k l (inr h) (inr j) y q = r.apart k l (s.inside k h) (s.inside l j) y q
 
 -- ---- tails
@@ -167,7 +196,8 @@ form_of n fs ks below w k v o inside m mw h = at (divided ks w B f mw closed wit
 
     closed : IsClosed (Contains ks) B
     closed = closed-both (Contains ks) (λ x. below x k.head × lighter w x k.head) (IsInRing n)
-        (closed-both (Contains ks) (λ x. below x k.head) (λ x. lighter w x k.head) (closed-below (Contains ks) below k.head o m) (closed-below (Contains ks) (lighter w) k.head (lighter-strict w) mw))
+        (closed-both (Contains ks) (λ x. below x k.head) (λ x. lighter w x k.head) (closed-below (Contains ks) below k.head o m)
+        (closed-below (Contains ks) (lighter w) k.head (lighter-strict w) mw))
         (closed-ring n (Contains ks) (λ b j. variables_of_member n fs b.poly v (inside b j)))
 
     in_ring : IsInVariables n k.poly
@@ -188,9 +218,11 @@ form_of n fs ks below w k v o inside m mw h = at (divided ks w B f mw closed wit
         tail_w q (inr l) = l
 
         by : (b : Bool) → same x k.head ≡ b → B x
-        by true e = absurd (j (value_there ∙ ap (λ b. coefficient k.poly x +ℚ ((if b then neg_ℚ one_ℚ else zero_ℚ) +ℚ zero_ℚ)) e ∙ ap (λ z. coefficient k.poly x +ℚ z) (+ℚ-zero _) ∙ ap (λ z. z +ℚ neg_ℚ one_ℚ) (coefficient-same k.poly x k.head e ∙ (m k h).monic) ∙ +ℚ-neg_ℚ one_ℚ))
+        by true e = absurd (j (value_there ∙ ap (λ b. coefficient k.poly x +ℚ ((if b then neg_ℚ one_ℚ else zero_ℚ) +ℚ zero_ℚ)) e ∙
+            ap (λ z. coefficient k.poly x +ℚ z) (+ℚ-zero _) ∙ ap (λ z. z +ℚ neg_ℚ one_ℚ) (coefficient-same k.poly x k.head e ∙ (m k h).monic) ∙ +ℚ-neg_ℚ one_ℚ))
         by false e =
-            let there : HasMonomial k.poly x = λ z. j (value_there ∙ ap (λ b. coefficient k.poly x +ℚ ((if b then neg_ℚ one_ℚ else zero_ℚ) +ℚ zero_ℚ)) e ∙ ap (λ z. coefficient k.poly x +ℚ z) (+ℚ-zero _) ∙ +ℚ-zero _ ∙ z) in
+            let there : HasMonomial k.poly x = λ z. j (value_there ∙ ap (λ b. coefficient k.poly x +ℚ ((if b then neg_ℚ one_ℚ else zero_ℚ) +ℚ zero_ℚ)) e ∙
+            ap (λ z. coefficient k.poly x +ℚ z) (+ℚ-zero _) ∙ +ℚ-zero _ ∙ z) in
             ((tail false e refl ((m k h).tail x there), tail_w e ((mw k h).tail x there)), in_ring x there)
 
     at : Divided ks B f → (c : MarkedPolynomial) × IsForm n fs ks below w c × (same k.head c.head ≡ true)
@@ -211,7 +243,10 @@ form_of n fs ks below w k v o inside m mw h = at (divided ks w B f mw closed wit
             by false e = inr (λ z. j (ap (λ b. (if b then one_ℚ else zero_ℚ) +ℚ coefficient q.remainder x) e ∙ zero-+ℚ _ ∙ z))
 
         none_at_mark : coefficient q.remainder k.head ≡ zero_ℚ
-        none_at_mark = elim (zero_or_not (coefficient q.remainder k.head)) [ inl z ↦ z | inr j ↦ absurd (o.irreflexive k.head k.head (same-refl k.head) (in_B k.head j).0.0) ]
+        none_at_mark = elim (zero_or_not (coefficient q.remainder k.head)) [
+          | inl z ↦ z
+          | inr j ↦ absurd (o.irreflexive k.head k.head (same-refl k.head) (in_B k.head j).0.0)
+        ]
 
         monic : coefficient c0.poly c0.head ≡ one_ℚ
         monic = ap (λ b. (if b then one_ℚ else zero_ℚ) +ℚ coefficient q.remainder k.head) (same-refl k.head) ∙ ap (λ z. one_ℚ +ℚ z) none_at_mark ∙ +ℚ-zero one_ℚ
@@ -229,7 +264,9 @@ form_of n fs ks below w k v o inside m mw h = at (divided ks w B f mw closed wit
             closed_ring x s i l = omega (arith, entries_same x k.head s i, in_ring k.head (mark-there below k (m k h)) i l)
 
         equal : (e : Exponents) → coefficient k.poly e ≡ coefficient c0.poly e +ℚ coefficient (value q.pieces) e
-        equal e = without_mark (coefficient k.poly e) (coefficient q.remainder e) (coefficient (value q.pieces) e) (if same e k.head then one_ℚ else zero_ℚ) (if same e k.head then neg_ℚ one_ℚ else zero_ℚ) (cancel (same e k.head)) (sym (coefficient-++ k.poly (record { coef = neg_ℚ one_ℚ; mono = k.head } ∷ []) e) ∙ q.equal e)
+        equal e = without_mark (coefficient k.poly e) (coefficient q.remainder e) (coefficient (value q.pieces) e) (if same e k.head then one_ℚ else zero_ℚ)
+            (if same e k.head then neg_ℚ one_ℚ else zero_ℚ) (cancel (same e k.head))
+            (sym (coefficient-++ k.poly (record { coef = neg_ℚ one_ℚ; mono = k.head } ∷ []) e) ∙ q.equal e)
           where
             cancel : (b : Bool) → (if b then neg_ℚ one_ℚ else zero_ℚ) +ℚ (if b then one_ℚ else zero_ℚ) ≡ zero_ℚ
             cancel true = +ℚ_comm (neg_ℚ one_ℚ) one_ℚ ∙ +ℚ-neg_ℚ one_ℚ
@@ -238,7 +275,8 @@ form_of n fs ks below w k v o inside m mw h = at (divided ks w B f mw closed wit
         spanned : Spans fs c0.poly
         spanned = Spans-equal fs (k.poly ++ times (neg_ℚ one_ℚ) [] (value q.pieces)) c0.poly (λ e. sym (taken k.poly (value q.pieces) c0.poly equal e))
             (Spans-difference fs k.poly (value q.pieces) (spans_of_member n fs k.poly (inside k h))
-            (spans_value fs (Contains ks) (λ c j. spans_of_member n fs c.poly (inside c j)) q.pieces (Each-weaker (IsPieceIn (Contains ks) B) (λ (p : Piece). Contains ks p.of) (λ p j. j.member) q.pieces q.inside)))
+            (spans_value fs (Contains ks) (λ c j. spans_of_member n fs c.poly (inside c j)) q.pieces
+            (Each-weaker (IsPieceIn (Contains ks) B) (λ (p : Piece). Contains ks p.of) (λ p j. j.member) q.pieces q.inside)))
 
         irreducible : (x : Exponents) → HasMonomial c0.poly x → IsDivisible (Contains ks) x → same x k.head ≡ true
         irreducible x j d = elim (parts x j) [ inl s ↦ s | inr r ↦ absurd (irreducible_terms ks q.remainder q.irreducible x r d) ]
@@ -268,14 +306,27 @@ record Placed (c : MarkedPolynomial) (cs : List MarkedPolynomial) : Type 0 where
   only : (d : MarkedPolynomial) → Contains items d → (c ≡ d) ⊎ Contains cs d
 
 placed : (c : MarkedPolynomial) (cs : List MarkedPolynomial) → HaveAscendingMarks cs → Placed c cs
-placed c [] a = record { items = c ∷ []; ascending = (tt, tt); some = (c, Contains-here c [], same-refl c.head); keeps = λ d h. Contains-there c d [] h; only = λ d h. Contains-cases c d [] h }
+placed c [] a = record {
+  items = c ∷ [];
+  ascending = (tt, tt);
+  some = (c, Contains-here c [], same-refl c.head);
+  keeps = λ d h. Contains-there c d [] h;
+  only = λ d h. Contains-cases c d [] h;
+}
 placed c (b ∷ cs) a = at (lex-total c.head b.head) (placed c cs a.1)
   where
     at : IsLexBelow c.head b.head ⊎ (same c.head b.head ≡ true) ⊎ IsLexBelow b.head c.head → Placed c cs →
         Placed c (b ∷ cs)
     at (inl l) r = record {
       items = c ∷ b ∷ cs;
-      ascending = ((l, Each-weaker (λ (d : MarkedPolynomial). IsLexBelow b.head d.head) (λ (d : MarkedPolynomial). IsLexBelow c.head d.head) (λ d m. lex-strict.transitive c.head b.head d.head l m) cs a.0), a);
+      ascending = (
+        (
+          l,
+          Each-weaker (λ (d : MarkedPolynomial). IsLexBelow b.head d.head) (λ (d : MarkedPolynomial). IsLexBelow c.head d.head)
+              (λ d m. lex-strict.transitive c.head b.head d.head l m) cs a.0,
+        ),
+        a,
+      );
       some = (c, Contains-here c (b ∷ cs), same-refl c.head);
       keeps = λ d h. Contains-there c d (b ∷ cs) h;
       only = λ d h. Contains-cases c d (b ∷ cs) h;
@@ -308,7 +359,8 @@ placed c (b ∷ cs) a = at (lex-total c.head b.head) (placed c cs a.1)
         only d (inr h) = elim (r.only d h) [ inl e ↦ inl e | inr j ↦ inr (Contains-there b d cs j) ]
 
 -- the forms of the members js of ks, ascending
-record Forms (n : ℕ) (fs : List Terms) (ks : List MarkedPolynomial) (below : Exponents → Exponents → Type 0) (w : List ℕ) (js : List MarkedPolynomial) : Type 0 where
+record Forms (n : ℕ) (fs : List Terms) (ks : List MarkedPolynomial) (below : Exponents → Exponents → Type 0) (w : List ℕ) (js : List MarkedPolynomial) :
+    Type 0 where
   items : List MarkedPolynomial
   ascending : HaveAscendingMarks items
   each : (c : MarkedPolynomial) → Contains items c → IsForm n fs ks below w c
@@ -318,8 +370,15 @@ record Forms (n : ℕ) (fs : List Terms) (ks : List MarkedPolynomial) (below : E
 forms_of : (n : ℕ) (fs : List Terms) (ks : List MarkedPolynomial) (below : Exponents → Exponents → Type 0) (w : List ℕ) →
     ((k : MarkedPolynomial) → Contains ks k → (c : MarkedPolynomial) × IsForm n fs ks below w c × (same k.head c.head ≡ true)) →
     (js : List MarkedPolynomial) → ((j : MarkedPolynomial) → Contains js j → Contains ks j) → Forms n fs ks below w js
-forms_of n fs ks below w form [] inside = record { items = []; ascending = tt; each = λ c h. absurd (omega (arith, h.1)); there = λ j h. absurd (omega (arith, h.1)); back = λ c h. absurd (omega (arith, h.1)) }
-forms_of n fs ks below w form (j ∷ js) inside = at (form j (inside j (Contains-here j js))) (forms_of n fs ks below w form js (λ i h. inside i (Contains-there j i js h)))
+forms_of n fs ks below w form [] inside = record {
+  items = [];
+  ascending = tt;
+  each = λ c h. absurd (omega (arith, h.1));
+  there = λ j h. absurd (omega (arith, h.1));
+  back = λ c h. absurd (omega (arith, h.1));
+}
+forms_of n fs ks below w form (j ∷ js) inside =
+    at (form j (inside j (Contains-here j js))) (forms_of n fs ks below w form js (λ i h. inside i (Contains-there j i js h)))
   where
     at : ((c : MarkedPolynomial) × IsForm n fs ks below w c × (same j.head c.head ≡ true)) → Forms n fs ks below w js →
         Forms n fs ks below w (j ∷ js)
@@ -340,7 +399,12 @@ forms_of n fs ks below w form (j ∷ js) inside = at (form j (inside j (Contains
 
             there : (i : MarkedPolynomial) → (j ≡ i) ⊎ Contains js i →
                 (d : MarkedPolynomial) × Contains p.items d × (same i.head d.head ≡ true)
-            there i (inl e) = (p.some.0, p.some.1, subst (λ (x : MarkedPolynomial). same x.head p.some.0.head ≡ true) e (same_trans j.head c.0.head p.some.0.head c.2 p.some.2))
+            there i (inl e) = (
+              p.some.0,
+              p.some.1,
+              subst (λ (x : MarkedPolynomial). same x.head p.some.0.head ≡ true) e
+                  (same_trans j.head c.0.head p.some.0.head c.2 p.some.2),
+            )
             there i (inr h) = let d = r.there i h in (d.0, p.keeps d.0 d.1, d.2)
 
             back : (d : MarkedPolynomial) → (c.0 ≡ d) ⊎ Contains r.items d →
@@ -354,7 +418,8 @@ apart_of : (cs : List MarkedPolynomial) → HaveAscendingMarks cs →
     AreApart cs
 apart_of [] a h = tt
 apart_of (c ∷ cs) a h = (
-  each_contained (λ (d : MarkedPolynomial). NoMultiple c.head d.head × NoMultiple d.head c.head) cs (λ d k. both d k (contained_each (λ (d : MarkedPolynomial). IsLexBelow c.head d.head) cs a.0 d k)),
+  each_contained (λ (d : MarkedPolynomial). NoMultiple c.head d.head × NoMultiple d.head c.head) cs
+      (λ d k. both d k (contained_each (λ (d : MarkedPolynomial). IsLexBelow c.head d.head) cs a.0 d k)),
   apart_of cs a.1 (λ d e j k y q. h d e (Contains-there c d cs j) (Contains-there c e cs k) y q),
 )
   where
@@ -378,7 +443,8 @@ reduced_form n fs bs below v o b m = thin (thinned bs)
     thin t = finish (basis-kept n fs bs t.kept b t.inside t.over)
       where
         finish : IsBasis n fs t.kept → (cs : List MarkedPolynomial) × IsMarkedReducedBasis n fs cs × AreMarked below cs
-        finish k = with_forms (forms_of n fs t.kept below k.marked.0 (λ c h. form_of n fs t.kept below k.marked.0 c v o k.members (λ c h. m c (t.inside c h)) k.marked.2 h) t.kept (λ c h. h))
+        finish k = with_forms (forms_of n fs t.kept below k.marked.0 (λ c h. form_of n fs t.kept below k.marked.0 c v o k.members (λ c h. m c (t.inside c h))
+            k.marked.2 h) t.kept (λ c h. h))
           where
             with_forms : Forms n fs t.kept below k.marked.0 t.kept →
                 (cs : List MarkedPolynomial) × IsMarkedReducedBasis n fs cs × AreMarked below cs
@@ -403,5 +469,13 @@ reduced_form n fs bs below v o b m = thin (thinned bs)
                     ((j : MarkedPolynomial) × Contains t.kept j × (same j.head d.head ≡ true)) → (y : Exponents) →
                     same d.head (plus y c.head) ≡ true → same c.head d.head ≡ true
                 apart c d i j y q =
-                    let e = t.apart i.0 j.0 i.1 j.1 y (same_by_entries j.0.head (plus y i.0.head) (λ l. omega (arith, entries_same j.0.head d.head j.2 l, entries_same d.head (plus y c.head) q l, entry-plus y c.head l, entry-plus y i.0.head l, entries_same i.0.head c.head i.2 l))) in
+                    let e = t.apart i.0 j.0 i.1 j.1 y (same_by_entries j.0.head (plus y i.0.head)
+                    (λ l. omega (
+                      arith,
+                      entries_same j.0.head d.head j.2 l,
+                      entries_same d.head (plus y c.head) q l,
+                      entry-plus y c.head l,
+                      entry-plus y i.0.head l,
+                      entries_same i.0.head c.head i.2 l,
+                    ))) in
                     same_trans c.head i.0.head d.head (same_flip i.0.head c.head i.2) (subst (λ (x : MarkedPolynomial). same x.head d.head ≡ true) (sym e) j.2)

@@ -31,7 +31,8 @@ use Rattle.gf_bases_theory.proofs.FiniteLaws.{basis_of_vector, basis_everywhere}
 
 -- what they give
 beside_value : (m : ℤ) (v u c : List ℤ) → length v ≡ length u → dot c (vector_sum (scaled m v) u) ≡ m *ℤ dot c v +ℤ dot c u
-beside_value m v u c e = dot_comm c (vector_sum (scaled m v) u) ∙ dot-plus (scaled m v) u c (length-times m v ∙ e) ∙ ap₂ ◌+ℤ◌ (dot-times m v c ∙ ap (λ z. m *ℤ z) (dot_comm v c)) (dot_comm u c)
+beside_value m v u c e = dot_comm c (vector_sum (scaled m v) u) ∙ dot-plus (scaled m v) u c (length-times m v ∙ e) ∙ ap₂ ◌+ℤ◌
+    (dot-times m v c ∙ ap (λ z. m *ℤ z) (dot_comm v c)) (dot_comm u c)
 
 -- far enough along a vector of the region it is in the region
 beside_inside : (n : ℕ) (k : Region) (v u : List ℤ) → IsInRegion n k v → length u ≡ n → All (λ x. pos 0 <ℤ x) u →
@@ -43,8 +44,16 @@ beside_inside n k v u r e p = at (bounds (λ c. neg_ℤ (dot c u)) k.rows)
       m.0,
       record {
         width = length-plus (scaled (pos m.0) v) u (length-times (pos m.0) v ∙ r.width ∙ sym e) ∙ length-times (pos m.0) v ∙ r.width;
-        positive = All-from_recursion (λ x. pos 0 <ℤ x) (vector_sum (scaled (pos m.0) v) u) (entries v u (r.width ∙ sym e) (recursion_from_All (λ x. pos 0 <ℤ x) v r.positive) (recursion_from_All (λ x. pos 0 <ℤ x) u p));
-        rows = all_by (λ c. pos 0 <ℤ dot c (vector_sum (scaled (pos m.0) v) u)) k.rows (λ c i. omega (arith, ints, beside_value (pos m.0) v u c (r.width ∙ sym e), beats m.0 (dot c v) (neg_ℤ (dot c u)) (All-contains (λ c. pos 0 <ℤ dot c v) k.rows c r.rows i) (contained_each (λ c. neg_ℤ (dot c u) <ℤ pos m.0) k.rows m.1 c i)));
+        positive = All-from_recursion (λ x. pos 0 <ℤ x) (vector_sum (scaled (pos m.0) v) u)
+            (entries v u (r.width ∙ sym e) (recursion_from_All (λ x. pos 0 <ℤ x) v r.positive) (recursion_from_All (λ x. pos 0 <ℤ x) u p));
+        rows = all_by (λ c. pos 0 <ℤ dot c (vector_sum (scaled (pos m.0) v) u)) k.rows
+            (λ c i. omega (
+              arith,
+              ints,
+              beside_value (pos m.0) v u c (r.width ∙ sym e),
+              beats m.0 (dot c v) (neg_ℤ (dot c u)) (All-contains (λ c. pos 0 <ℤ dot c v) k.rows c r.rows i)
+                  (contained_each (λ c. neg_ℤ (dot c u) <ℤ pos m.0) k.rows m.1 c i),
+            ));
       },
     )
       where
@@ -70,7 +79,8 @@ beside_open m v u bs e h o b c x i = at (o b c x i)
     at : (same x b.head ≡ true) ⊎ (whole_weight u x <ℤ whole_weight u b.head) →
         (same x b.head ≡ true) ⊎ (whole_weight (vector_sum (scaled (pos m) v) u) x <ℤ whole_weight (vector_sum (scaled (pos m) v) u) b.head)
     at (inl s) = inl s
-    at (inr l) = let g : (pos m *ℤ whole_weight v x) ≤ℤ (pos m *ℤ whole_weight v b.head) = ≤ℤ-*ℤ (pos m) (whole_weight v x) (whole_weight v b.head) (omega (arith, ints)) (h b c x i) in
+    at (inr l) = let g : (pos m *ℤ whole_weight v x) ≤ℤ (pos m *ℤ whole_weight v b.head) =
+        ≤ℤ-*ℤ (pos m) (whole_weight v x) (whole_weight v b.head) (omega (arith, ints)) (h b c x i) in
         inr (omega (arith, ints, g, l, value x, value b.head))
 
 -- ---- each vector of a region
@@ -107,7 +117,12 @@ basis_at n k fs v vars r = at (weighted_exists n fs (gains v) vars)
                 (bs : List MarkedPolynomial) × IsBasisInRegion n fs k bs × AreMarked (IsWeightedBelow (gains v)) bs × IsInClosedCone v bs
             moved m = (
               b.0,
-              basis_of_vector n fs k b.0 b.1 (vector_sum (scaled (pos m.0) v) e.weight, m.1, beside_open m.0 v e.weight b.0 (r.width ∙ sym e.inside.width) closed (open_of_marks n (all_positive n) b.0 e.weight e.inside e.marked)),
+              basis_of_vector n fs k b.0 b.1 (
+                vector_sum (scaled (pos m.0) v) e.weight,
+                m.1,
+                beside_open m.0 v e.weight b.0 (r.width ∙ sym e.inside.width)
+                    closed (open_of_marks n (all_positive n) b.0 e.weight e.inside e.marked),
+              ),
               b.2,
               closed,
             )

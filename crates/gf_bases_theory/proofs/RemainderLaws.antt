@@ -50,7 +50,8 @@ pub remainder : (n : ℕ) (fs : List Terms) (bs : List MarkedPolynomial) (w : Li
     AreInVariables n fs → AreMembers n fs bs → AreMarked (lighter w) bs → IsClosed (Contains bs) B → IsMember n fs f →
     IsWithin B f → HasRemainder n fs bs B f
 remainder n fs bs w B f v inside m d mem h =
-    at (divided bs w C f m (closed-both (Contains bs) B (IsInRing n) d (closed-ring n (Contains bs) (λ c k. variables_of_member n fs c.poly v (inside c k)))) (λ x k. (h x k, variables_of_member n fs f v mem x k)))
+    at (divided bs w C f m (closed-both (Contains bs) B (IsInRing n) d (closed-ring n (Contains bs) (λ c k. variables_of_member n fs c.poly v (inside c k))))
+    (λ x k. (h x k, variables_of_member n fs f v mem x k)))
   where
     C : Exponents → Type 0
     C x = B x × IsInRing n x
@@ -69,10 +70,12 @@ remainder n fs bs w B f v inside m d mem h =
         spanned : Spans fs q.remainder
         spanned = Spans-equal fs (f ++ times (neg_ℚ one_ℚ) [] (value q.pieces)) q.remainder (λ e. sym (taken f (value q.pieces) q.remainder q.equal e))
             (Spans-difference fs f (value q.pieces) (spans_of_member n fs f mem)
-            (spans_value fs (Contains bs) (λ c k. spans_of_member n fs c.poly (inside c k)) q.pieces (Each-weaker (IsPieceIn (Contains bs) C) (λ (p : Piece). Contains bs p.of) (λ p k. k.member) q.pieces q.inside)))
+            (spans_value fs (Contains bs) (λ c k. spans_of_member n fs c.poly (inside c k)) q.pieces
+            (Each-weaker (IsPieceIn (Contains bs) C) (λ (p : Piece). Contains bs p.of) (λ p k. k.member) q.pieces q.inside)))
 
         in_ring : IsInVariables n q.remainder
-        in_ring = by_terms (IsInRing n) q.remainder (ring-along n) (Each-weaker (λ (t : Term). C t.mono) (λ (t : Term). IsInRing n t.mono) (λ t k. k.1) q.remainder q.kept)
+        in_ring = by_terms (IsInRing n) q.remainder (ring-along n) (Each-weaker (λ (t : Term). C t.mono) (λ (t : Term). IsInRing n t.mono) (λ t k. k.1)
+            q.remainder q.kept)
 
 -- ---- monic forms
 
@@ -81,9 +84,18 @@ abbrev pub monic : Terms → Exponents → MarkedPolynomial
 monic f x = record { poly = times (reciprocal_ℚ (coefficient f x)) [] f; head = x }
 
 pub monic_is : (f : Terms) (x : Exponents) → HasMonomial f x → IsMonicForm f (monic f x)
-monic_is f x h = record { there = h; equation = λ y. ap (λ z. coefficient f x *ℚ z) (coefficient-times (reciprocal_ℚ (coefficient f x)) [] f y) ∙ sym (*ℚ_assoc (coefficient f x) (reciprocal_ℚ (coefficient f x)) (coefficient f y)) ∙ ap (λ z. z *ℚ coefficient f y) (*ℚ-reciprocal_ℚ (coefficient f x) h) ∙ one-*ℚ _ }
+monic_is f x h = record {
+  there = h;
+  equation = λ y. ap (λ z. coefficient f x *ℚ z) (coefficient-times (reciprocal_ℚ (coefficient f x)) [] f y) ∙
+      sym (*ℚ_assoc (coefficient f x) (reciprocal_ℚ (coefficient f x)) (coefficient f y)) ∙ ap (λ z. z *ℚ coefficient f y)
+      (*ℚ-reciprocal_ℚ (coefficient f x) h) ∙
+      one-*ℚ _;
+}
 
 -- at its greatest monomial
 pub monic-marked : (below : Exponents → Exponents → Type 0) (f : Terms) (x : Exponents) → IsGreatest below f x →
     IsMarked below (monic f x)
-monic-marked below f x t = record { monic = monic-one f (monic f x) (monic_is f x t.there); tail = λ y m. t.greatest y (monic-monomials f (monic f x) (monic_is f x t.there) y m) }
+monic-marked below f x t = record {
+  monic = monic-one f (monic f x) (monic_is f x t.there);
+  tail = λ y m. t.greatest y (monic-monomials f (monic f x) (monic_is f x t.there) y m);
+}

@@ -49,8 +49,8 @@ record NewMember (n : ℕ) (fs : List Terms) (below Alike : Exponents → Expone
   undivided : IsDivisible (Contains bs) new.head → ⊥
 
 -- a remainder is zero, or its monic form is a new member
-grown : (n : ℕ) (fs : List Terms) (below Alike : Exponents → Exponents → Type 0) (bs : List MarkedPolynomial) (B : Exponents → Type 0) (x : Exponents) (g : Terms) →
-    AreInVariables n fs → IsMonomialOrder below → IsGrading Alike → ((y : Exponents) → B y → Alike y x) →
+grown : (n : ℕ) (fs : List Terms) (below Alike : Exponents → Exponents → Type 0) (bs : List MarkedPolynomial) (B : Exponents →
+    Type 0) (x : Exponents) (g : Terms) → AreInVariables n fs → IsMonomialOrder below → IsGrading Alike → ((y : Exponents) → B y → Alike y x) →
     (r : HasRemainder n fs bs B g) → SamePolynomial r.rest [] ⊎ NewMember n fs below Alike bs
 grown n fs below Alike bs B x g v o gr like r = at ((top_greatest below o).some r.rest)
   where
@@ -63,7 +63,8 @@ grown n fs below Alike bs B x g v o gr like r = at ((top_greatest below o).some 
           new = monic r.rest y.0;
           member = member-monic n fs r.rest (monic r.rest y.0) v q r.member;
           marked = monic-marked below r.rest y.0 y.1;
-          graded = λ e k. gr.transitive e x y.0 (like e (r.within e (monic-monomials r.rest (monic r.rest y.0) q e k))) (gr.symmetric y.0 x (like y.0 (r.within y.0 y.1.there)));
+          graded = λ e k. gr.transitive e x y.0 (like e (r.within e (monic-monomials r.rest (monic r.rest y.0) q e k)))
+              (gr.symmetric y.0 x (like y.0 (r.within y.0 y.1.there)));
           undivided = λ d. r.irreducible y.0 y.1.there d;
         })
 
@@ -78,7 +79,8 @@ generator n fs below Alike bs w f v o gr run m hom c = at ((top_heaviest []).som
   where
     at : SamePolynomial f [] ⊎ ((x : Exponents) × IsHeaviest [] f x) → IsCombined (Contains bs) f ⊎ NewMember n fs below Alike bs
     at (inl z) = inl (record { pieces = []; members = tt; equal = z })
-    at (inr x) = with_rest (remainder n fs bs w B f v run.members m (closed-alike Alike x.0 (Contains bs) gr run.graded) (member-generator n fs f c) (λ y k. hom y x.0 k x.1.there))
+    at (inr x) = with_rest (remainder n fs bs w B f v run.members m (closed-alike Alike x.0 (Contains bs) gr run.graded) (member-generator n fs f c)
+        (λ y k. hom y x.0 k x.1.there))
       where
         B : Exponents → Type 0
         B y = Alike y x.0
@@ -134,7 +136,8 @@ pair n fs below Alike bs w b c v o gr run m hb hc =
 
     parts : (e : Exponents) →
         coefficient s e ≡ coefficient (times one_ℚ u b.poly) e +ℚ neg_ℚ (coefficient (times one_ℚ x c.poly) e)
-    parts e = coefficient-++ (times one_ℚ u b.poly) (times (neg_ℚ one_ℚ) x c.poly) e ∙ ap (λ z. coefficient (times one_ℚ u b.poly) e +ℚ z) (coefficient-factor (neg_ℚ one_ℚ) x c.poly e ∙ neg_one _)
+    parts e = coefficient-++ (times one_ℚ u b.poly) (times (neg_ℚ one_ℚ) x c.poly) e ∙
+        ap (λ z. coefficient (times one_ℚ u b.poly) e +ℚ z) (coefficient-factor (neg_ℚ one_ℚ) x c.poly e ∙ neg_one _)
 
     with_rest : HasRemainder n fs bs B s → IsSettledAtJoin (Contains bs) below b c ⊎ NewMember n fs below Alike bs
     with_rest r = by (grown n fs below Alike bs B l s v o gr (λ y k. k.1) r)
@@ -149,7 +152,11 @@ pair n fs below Alike bs w b c v o gr run m hb hc =
           of_right = minus_right b.head c.head;
           bridge = record {
             pieces = r.pieces;
-            lower = Each-weaker (IsPieceIn (Contains bs) B) (IsPieceBelow (Contains bs) below (plus u b.head)) (λ p q. record { member = q.member; lower = o.strict.along_right (level p) l (plus u b.head) (same_flip (plus u b.head) l (minus_left b.head c.head)) q.inside.0 }) r.pieces r.inside;
+            lower = Each-weaker (IsPieceIn (Contains bs) B) (IsPieceBelow (Contains bs) below (plus u b.head))
+                (λ p q. record {
+                  member = q.member;
+                  lower = o.strict.along_right (level p) l (plus u b.head) (same_flip (plus u b.head) l (minus_left b.head c.head)) q.inside.0;
+                }) r.pieces r.inside;
             equation = λ e. taken_over _ _ _ _ (parts e) (r.equal e ∙ ap (λ y. y +ℚ coefficient (value r.pieces) e) (z e) ∙ zero-+ℚ _);
           };
         })
@@ -167,7 +174,8 @@ ended_or_not n fs below Alike bs v o gr hw hom run = weighed (marked_positive Al
     weighed w = at
         (search (IsCombined (Contains bs)) (NewMember n fs below Alike bs) fs (λ f c. generator n fs below Alike bs w.0 f v o gr run w.2 (hom f c) c))
         (search (λ (b : MarkedPolynomial). Each (λ (c : MarkedPolynomial). IsSettledAtJoin (Contains bs) below b c) bs) (NewMember n fs below Alike bs) bs
-        (λ b hb. search (λ (c : MarkedPolynomial). IsSettledAtJoin (Contains bs) below b c) (NewMember n fs below Alike bs) bs (λ c hc. pair n fs below Alike bs w.0 b c v o gr run w.2 hb hc)))
+        (λ b hb. search (λ (c : MarkedPolynomial). IsSettledAtJoin (Contains bs) below b c) (NewMember n fs below Alike bs) bs
+        (λ c hc. pair n fs below Alike bs w.0 b c v o gr run w.2 hb hc)))
       where
         at : Each (IsCombined (Contains bs)) fs ⊎ NewMember n fs below Alike bs →
             Each (λ (b : MarkedPolynomial). Each (λ (c : MarkedPolynomial). IsSettledAtJoin (Contains bs) below b c) bs) bs ⊎ NewMember n fs below Alike bs →
@@ -175,7 +183,8 @@ ended_or_not n fs below Alike bs v o gr hw hom run = weighed (marked_positive Al
         at (inr g) q = inr g
         at (inl k) (inr g) = inr g
         at (inl k) (inl s) = inl (basis_by_order n fs bs below Alike o.strict gr hw run.marked run.graded
-            (λ b c hb hc. contained_each (λ (c : MarkedPolynomial). IsSettledAtJoin (Contains bs) below b c) bs (contained_each (λ (b : MarkedPolynomial). Each (λ (c : MarkedPolynomial). IsSettledAtJoin (Contains bs) below b c) bs) bs s b hb) c hc)
+            (λ b c hb hc. contained_each (λ (c : MarkedPolynomial). IsSettledAtJoin (Contains bs) below b c) bs
+            (contained_each (λ (b : MarkedPolynomial). Each (λ (c : MarkedPolynomial). IsSettledAtJoin (Contains bs) below b c) bs) bs s b hb) c hc)
             run.members
             (λ f m. combined_of_spans (Contains bs) fs f (λ p j. contained_each (IsCombined (Contains bs)) fs k p j) (spans_of_member n fs f m)))
 
@@ -212,7 +221,15 @@ new_mark by (t ∷ ts) x h n = (at (multiple_or_not t x), new_mark by ts x h.1 n
       member = h.0.member;
       contained = h.0.contained;
       rest = plus m.0 h.0.rest;
-      divides = same_by_entries x (plus (plus m.0 h.0.rest) h.0.member.head) (λ i. omega (arith, entries_same x (plus t m.0) m.1 i, entry-plus t m.0 i, entries_same t (plus h.0.rest h.0.member.head) h.0.divides i, entry-plus h.0.rest h.0.member.head i, entry-plus (plus m.0 h.0.rest) h.0.member.head i, entry-plus m.0 h.0.rest i));
+      divides = same_by_entries x (plus (plus m.0 h.0.rest) h.0.member.head) (λ i. omega (
+        arith,
+        entries_same x (plus t m.0) m.1 i,
+        entry-plus t m.0 i,
+        entries_same t (plus h.0.rest h.0.member.head) h.0.divides i,
+        entry-plus h.0.rest h.0.member.head i,
+        entry-plus (plus m.0 h.0.rest) h.0.member.head i,
+        entry-plus m.0 h.0.rest i,
+      ));
     }))
 
 -- for each order that suits the generators there is a Gröbner basis
@@ -220,7 +237,11 @@ pub basis_exists : (n : ℕ) (fs : List Terms) (below Alike : Exponents → Expo
     IsMonomialOrder below → IsGrading Alike → HasWeightsFor Alike below →
     ((f : Terms) → Contains fs f → (x y : Exponents) → HasMonomial f x → HasMonomial f y → Alike x y) →
     (bs : List MarkedPolynomial) × AreMarked below bs × IsBasis n fs bs
-basis_exists n fs below Alike v o gr hw hom = dickson n P step [] [] (record { members = λ b h. absurd (omega (arith, h.1)); marked = λ b h. absurd (omega (arith, h.1)); graded = λ b h. absurd (omega (arith, h.1)) }) tt
+basis_exists n fs below Alike v o gr hw hom = dickson n P step [] [] (record {
+  members = λ b h. absurd (omega (arith, h.1));
+  marked = λ b h. absurd (omega (arith, h.1));
+  graded = λ b h. absurd (omega (arith, h.1));
+}) tt
   where
     P : List Exponents → Type 0
     P ts = (bs : List MarkedPolynomial) → IsRun n fs below Alike bs → Each (IsDivisible (Contains bs)) ts →
@@ -232,7 +253,18 @@ basis_exists n fs below Alike v o gr hw hom = dickson n P step [] [] (record { m
         at : IsBasis n fs bs ⊎ NewMember n fs below Alike bs →
             (cs : List MarkedPolynomial) × AreMarked below cs × IsBasis n fs cs
         at (inl b) = (bs, run.marked, b)
-        at (inr g) = next g.new.head (variables_of_member n fs g.new.poly v g.member g.new.head (mark-there below g.new g.marked)) (new_mark (Contains bs) ts g.new.head h g.undivided) (bs ++ g.new ∷ []) (longer n fs below Alike bs run g) (
-          record { member = g.new; contained = Contains-append_right bs (g.new ∷ []) g.new (Contains-here g.new []); rest = []; divides = same-refl g.new.head },
-          Each-weaker (IsDivisible (Contains bs)) (IsDivisible (Contains (bs ++ g.new ∷ []))) (λ t d. record { member = d.member; contained = Contains-append_left bs (g.new ∷ []) d.member d.contained; rest = d.rest; divides = d.divides }) ts h,
-        )
+        at (inr g) = next g.new.head (variables_of_member n fs g.new.poly v g.member g.new.head (mark-there below g.new g.marked))
+            (new_mark (Contains bs) ts g.new.head h g.undivided) (bs ++ g.new ∷ []) (longer n fs below Alike bs run g) (
+              record {
+                member = g.new;
+                contained = Contains-append_right bs (g.new ∷ []) g.new (Contains-here g.new []);
+                rest = [];
+                divides = same-refl g.new.head;
+              },
+              Each-weaker (IsDivisible (Contains bs)) (IsDivisible (Contains (bs ++ g.new ∷ []))) (λ t d. record {
+                member = d.member;
+                contained = Contains-append_left bs (g.new ∷ []) d.member d.contained;
+                rest = d.rest;
+                divides = d.divides;
+              }) ts h,
+            )

@@ -1,7 +1,8 @@
 -- Any whole vector lies in the closed cone of a marked reduced basis, where the generators are homogeneous by a positive
 -- grade: some multiple of the grade makes it a weight.
 -- To cite: vectors_have_bases. The rest are steps.
-use Rattle.std.proofs.Common.{◌≡◌, ◌⊎◌, ℕ, zero, suc, ◌+◌, ◌*◌, ◌≤◌, true, List, [], ◌∷◌, length, Contains, ℤ, pos, negsuc, ◌+ℤ◌, ◌*ℤ◌, ◌≤ℤ◌, arith, refl, sym, ap, ◌∙◌, subst, inl, inr}
+use Rattle.std.proofs.Common.{◌≡◌, ◌⊎◌, ℕ, zero, suc, ◌+◌, ◌*◌, ◌≤◌, true, List, [], ◌∷◌, length, Contains, ℤ, pos, negsuc, ◌+ℤ◌, ◌*ℤ◌, ◌≤ℤ◌, arith, refl, sym}
+use Rattle.std.proofs.Common.{ap, ◌∙◌, subst, inl, inr}
 use Rattle.std.proofs.lemmas.Int.{ints}
 use Rattle.std.proofs.Math.Nat.{mul-le-mul_left}
 use Rattle.gf_int_theory.proofs.RingLaws.{dv, ◌⊕◌, ◌⊗◌, same as equal_numbers}
@@ -59,7 +60,8 @@ weight-shifted m (z ∷ v) (a ∷ g) [] o h = omega (arith, ints)
 weight-shifted m (z ∷ v) (a ∷ g) (k ∷ x) o h =
     let r : pos (weight (shifted m v g) x) ≡ whole_weight v x +ℤ pos m *ℤ pos (weight g x) = weight-shifted m v g x o.1 (λ i l. h (suc i) (omega (arith, l))) in
     let q : pos (natural (z +ℤ pos (m * a))) ≡ z +ℤ pos (m * a) = natural-is (z +ℤ pos (m * a)) o.0 in
-    ap (λ y. y *ℤ pos k +ℤ pos (weight (shifted m v g) x)) q ∙ ap (λ y. (z +ℤ pos (m * a)) *ℤ pos k +ℤ y) r ∙ spread z (pos m) (pos a) (pos k) (whole_weight v x) (pos (weight g x))
+    ap (λ y. y *ℤ pos k +ℤ pos (weight (shifted m v g) x)) q ∙ ap (λ y. (z +ℤ pos (m * a)) *ℤ pos k +ℤ y) r ∙ spread z (pos m) (pos a) (pos k)
+    (whole_weight v x) (pos (weight g x))
 
 -- some multiple outweighs the vector
 outweighing : (n : ℕ) (v : List ℤ) (g : List ℕ) → length v ≡ n → IsPositive n g →
@@ -110,13 +112,15 @@ vectors_have_bases n grade fs v vars p hom e = at (outweighing n v grade e p)
 
             value : (c : MarkedPolynomial) → Contains b.0 c → (x : Exponents) → HasMonomial c.poly x →
                 pos (weight (shifted m.0 v grade) x) ≡ whole_weight v x +ℤ pos m.0 *ℤ pos (weight grade x)
-            value c h x k = weight-shifted m.0 v grade x (m.1 m.0 (omega arith)) (subst (λ (j : ℕ). IsInRing j x) (sym e) (variables_of_member n fs c.poly vars (b.1.reduced.basis.members c h) x k))
+            value c h x k = weight-shifted m.0 v grade x (m.1 m.0 (omega arith))
+                (subst (λ (j : ℕ). IsInRing j x) (sym e) (variables_of_member n fs c.poly vars (b.1.reduced.basis.members c h) x k))
 
             cone : (c : MarkedPolynomial) → Contains b.0 c → (x : Exponents) → HasMonomial c.poly x →
                 (same x c.head ≡ true) ⊎ IsWeightedBelow (shifted m.0 v grade) x c.head →
                 whole_weight v x ≤ℤ whole_weight v c.head
             cone c h x k t =
-                let g : weight grade x ≡ weight grade c.head = (reduced-homogeneous n grade fs b.0 vars hom b.1 c.poly (Contains-polys b.0 c h) x c.head k (there c h)).0 in
+                let g : weight grade x ≡ weight grade c.head =
+                (reduced-homogeneous n grade fs b.0 vars hom b.1 c.poly (Contains-polys b.0 c h) x c.head k (there c h)).0 in
                 let q : pos m.0 *ℤ pos (weight grade x) ≡ pos m.0 *ℤ pos (weight grade c.head) = ap (λ y. pos m.0 *ℤ pos y) g in
                 let l = at_most c x t in
                 let a = value c h x k in

@@ -37,7 +37,8 @@ module _ (n : ℕ) (k : Region) (bs : List MarkedPolynomial) (c : ConeRows) wher
   added : (i : ℕ) (ns : List (List ℤ)) → IsConeOf n k bs c → i < length c.normals → IsFlippable n k bs (normal_at c i) → AreCrossableBefore n k bs c i ns →
       AreCrossableBefore n k bs c (i + 1) (ns ++ normal_at c i ∷ [])
   added i ns is l flip h = record {
-    rises = ascends_more ns (normal_at c i) h.rises (λ a q. (let b = h.before a q in subst (λ (z : List ℤ). IsBefore z (normal_at c i)) (sym b.2) (ascends_at c.normals b.0 i is.normals.rises b.1 l)));
+    rises = ascends_more ns (normal_at c i) h.rises (λ a q. (let b = h.before a q in subst (λ (z : List ℤ). IsBefore z (normal_at c i)) (sym b.2)
+        (ascends_at c.normals b.0 i is.normals.rises b.1 l)));
     before = λ a q. elim (Contains-append_cases ns (normal_at c i ∷ []) a q) [
       | inl b ↦ (let r = h.before a b in (r.0, omega (arith, r.1), r.2))
       | inr b ↦ elim (Contains-cases (normal_at c i) a [] b) [ inl e ↦ (i, omega arith, sym e) | inr d ↦ absurd (omega (arith, d.1)) ]
@@ -49,11 +50,13 @@ module _ (n : ℕ) (k : Region) (bs : List MarkedPolynomial) (c : ConeRows) wher
     all = λ j m g. elim (cases_lt j i) [
       | inl d ↦ Contains-append_left ns (normal_at c i ∷ []) (normal_at c j) (h.all j d g)
       | inr d ↦ (let e : j ≡ i = omega (arith, m, d) in
-          subst (λ (z : ℕ). Contains (ns ++ normal_at c i ∷ []) (normal_at c z)) (sym e) (Contains-append_right ns (normal_at c i ∷ []) (normal_at c i) (Contains-here (normal_at c i) [])))
+          subst (λ (z : ℕ). Contains (ns ++ normal_at c i ∷ []) (normal_at c z)) (sym e) (Contains-append_right ns (normal_at c i ∷ []) (normal_at c i)
+          (Contains-here (normal_at c i) [])))
     ];
   }
 
-  pub one_more : (i : ℕ) (ns more : List (List ℤ)) → IsConeOf n k bs c → i < length c.normals → IsWithPlace c i ns more → AreCrossableBefore n k bs c i ns → AreCrossableBefore n k bs c (i + 1) more
+  pub one_more : (i : ℕ) (ns more : List (List ℤ)) → IsConeOf n k bs c → i < length c.normals → IsWithPlace c i ns more → AreCrossableBefore n k bs c i ns →
+      AreCrossableBefore n k bs c (i + 1) more
   one_more i ns more is l (inl w) h = subst (AreCrossableBefore n k bs c (i + 1)) (sym w.0) (added i ns is l (w.1 n k bs is) h)
   one_more i ns more is l (inr w) h = subst (AreCrossableBefore n k bs c (i + 1)) (sym w.0) (passed i ns (w.1 n k bs is) h)
 

@@ -70,22 +70,23 @@ step_back p q a s = record {
 }
 
 -- what a flip back answers is the basis that one came from
-pub came_back : (p q t : MarkedPolynomials) (a : List ℤ) → IsCrossingStep p a q → ((bs : List MarkedPolynomial) → IsCrossed q.variables bs a q.items → t.items ≡ bs) →
-    t.variables ≡ q.variables → t ≡ p
+pub came_back : (p q t : MarkedPolynomials) (a : List ℤ) → IsCrossingStep p a q → ((bs : List MarkedPolynomial) → IsCrossed q.variables bs a q.items →
+    t.items ≡ bs) → t.variables ≡ q.variables → t ≡ p
 came_back p q t a s v e = ap₂ (λ (n : ℕ) (bs : List MarkedPolynomial). record { variables = n; items = bs }) (e ∙ s.across.0) (v p.items (was_crossed p q a s))
 
 -- ---- refusals
 
 -- of the flip there
-pub flip_here : (pairs : ℕ) (p : MarkedPolynomials) (a : List ℤ) (r : BasisError) (e : TreeError) → IsFlippable p.variables (all_positive p.variables) p.items a →
-    IsFlipRefusal p.variables p.items a pairs r → e ≡ of_flip_error r → IsPlaceRefusal pairs p e
+pub flip_here : (pairs : ℕ) (p : MarkedPolynomials) (a : List ℤ) (r : BasisError) (e : TreeError) →
+    IsFlippable p.variables (all_positive p.variables) p.items a → IsFlipRefusal p.variables p.items a pairs r → e ≡ of_flip_error r → IsPlaceRefusal pairs p e
 flip_here pairs p a r e f c q = IsCallRefusal.here (flip_at (all_positive p.variables) pairs p a r e f c q)
 
 -- of the flip back
-pub back_here : (pairs : ℕ) (p q : MarkedPolynomials) (a : List ℤ) (r : BasisError) (e : TreeError) → IsCrossingStep p a q → IsFlipRefusal q.variables q.items (negated a) pairs r →
-    e ≡ of_flip_error r → IsPlaceRefusal pairs q e
+pub back_here : (pairs : ℕ) (p q : MarkedPolynomials) (a : List ℤ) (r : BasisError) (e : TreeError) → IsCrossingStep p a q →
+    IsFlipRefusal q.variables q.items (negated a) pairs r → e ≡ of_flip_error r → IsPlaceRefusal pairs q e
 back_here pairs p q a r e s c = flip_here pairs q (negated a) r e (back_flippable p q a s) c
 
 -- of the system of a normal on the other side
-pub beside : (pairs : ℕ) (p q : MarkedPolynomials) (a : List ℤ) (e : TreeError) → IsCrossingStep p a q → IsRefusedAtBasis (all_positive q.variables) pairs q e → IsPlaceRefusal pairs p e
+pub beside : (pairs : ℕ) (p q : MarkedPolynomials) (a : List ℤ) (e : TreeError) → IsCrossingStep p a q → IsRefusedAtBasis (all_positive q.variables) pairs q e →
+    IsPlaceRefusal pairs p e
 beside pairs p q a e s r = IsCallRefusal.beside q a s.across (subst (λ n. IsRefusedAtBasis (all_positive n) pairs q e) s.across.0 r)

@@ -14,7 +14,8 @@ use Rattle.gf_basis_places.proofs.CrossableLaws.{one_list}
 -- a step leads to one basis
 one_step : (p q u : MarkedPolynomials) (a : List ℤ) → IsCrossingStep p a q → IsCrossingStep p a u → q ≡ u
 one_step p q u a s t = ap₂ (λ (n : ℕ) (bs : List MarkedPolynomial). record { variables = n; items = bs }) (s.across.0 ∙ sym t.across.0)
-    (neighbours_are_unique.unique p.variables (polys p.items) (all_positive p.variables) (all_positive p.variables) p.items a q.items u.items s.node.fan.ideal s.across.1 t.across.1)
+    (neighbours_are_unique.unique p.variables (polys p.items) (all_positive p.variables) (all_positive p.variables) p.items a q.items u.items s.node.fan.ideal
+    s.across.1 t.across.1)
 
 one_place : (p q u : MarkedPolynomials) (n : ℕ) → IsNumbered p n q → IsNumbered p n u → q ≡ u
 one_place p q u n h g =

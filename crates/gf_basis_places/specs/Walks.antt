@@ -11,6 +11,7 @@ use Rattle.gf_basis_places.specs.BasisRules.{basis_rules}
 -- to at most one trail, with one transcript. A choice followed by u gives the trail before the choice
 pub record WalksAreDetermined (names : List (List ℕ)) : Type 0 where
   pub functions : AreFunctions (basis_rules names)
-  pub one : (s t u : Trail MarkedPolynomials) (cs : List Choice) (x y : List ℕ) → AreTurns (basis_rules names) s cs t x → AreTurns (basis_rules names) s cs u y →
-      (t ≡ u) × (x ≡ y)
-  pub undone : (s t u : Trail MarkedPolynomials) (n : ℕ) (x y : List ℕ) → IsWalkedOn (basis_rules names) s n t x → IsLineTurn (basis_rules names) t choices.Undo u y → u ≡ s
+  pub one : (s t u : Trail MarkedPolynomials) (cs : List Choice) (x y : List ℕ) → AreTurns (basis_rules names) s cs t x →
+      AreTurns (basis_rules names) s cs u y → (t ≡ u) × (x ≡ y)
+  pub undone : (s t u : Trail MarkedPolynomials) (n : ℕ) (x y : List ℕ) → IsWalkedOn (basis_rules names) s n t x →
+      IsLineTurn (basis_rules names) t choices.Undo u y → u ≡ s

@@ -79,4 +79,5 @@ pub parts_binomials : (v : List ℤ) (bs ps : List MarkedPolynomial) → AreMark
 parts_binomials v bs ps two h f c = at (Contains-marked ps f c)
   where
     at : ((p : MarkedPolynomial) × Contains ps p × (p.poly ≡ f)) → IsBinomial f
-    at p = let b = matched-from (IsLevelPart v) bs ps h p.0 p.1 in subst IsBinomial p.2 (binomial_of_part b.0.head (two b.0 b.1).tail p.0.poly (part_of v b.0 p.0 (two b.0 b.1) b.2))
+    at p = let b = matched-from (IsLevelPart v) bs ps h p.0 p.1 in
+        subst IsBinomial p.2 (binomial_of_part b.0.head (two b.0 b.1).tail p.0.poly (part_of v b.0 p.0 (two b.0 b.1) b.2))

@@ -29,13 +29,15 @@ spans_binomial fs p q f h s = Spans-equal fs f (binomial p q) (λ e. h.equation 
 
 pub spans_chain : (fs : List Terms) (p q r : Option Exponents) → Spans fs (binomial p q) → Spans fs (binomial q r) → Spans fs (binomial p r)
 spans_chain fs p q r h k = Spans-equal fs (binomial p q ++ binomial q r) (binomial p r)
-    (λ e. coefficient-++ (binomial p q) (binomial q r) e ∙ ap (λ w. w +ℚ coefficient (binomial q r) e) ((binomial-is p q).equation e) ∙ ap (λ w. (indicator p e +ℚ neg_ℚ (indicator q e)) +ℚ w) ((binomial-is q r).equation e)
+    (λ e. coefficient-++ (binomial p q) (binomial q r) e ∙ ap (λ w. w +ℚ coefficient (binomial q r) e) ((binomial-is p q).equation e) ∙
+    ap (λ w. (indicator p e +ℚ neg_ℚ (indicator q e)) +ℚ w) ((binomial-is q r).equation e)
     ∙ second_replaced (indicator p e) (indicator q e) (indicator r e) ∙ sym ((binomial-is p r).equation e))
     (Spans-++ fs (binomial p q) (binomial q r) h k)
 
 pub spans_turned : (fs : List Terms) (p q : Option Exponents) → Spans fs (binomial p q) → Spans fs (binomial q p)
 spans_turned fs p q h = Spans-equal fs (times (neg_ℚ one_ℚ) [] (binomial p q)) (binomial q p)
-    (λ e. coefficient-times (neg_ℚ one_ℚ) [] (binomial p q) e ∙ neg_one _ ∙ ap neg_ℚ ((binomial-is p q).equation e) ∙ turned_round (indicator p e) (indicator q e) ∙ sym ((binomial-is q p).equation e))
+    (λ e. coefficient-times (neg_ℚ one_ℚ) [] (binomial p q) e ∙ neg_one _ ∙ ap neg_ℚ ((binomial-is p q).equation e) ∙ turned_round (indicator p e)
+    (indicator q e) ∙ sym ((binomial-is q p).equation e))
     (Spans-times fs (binomial p q) (neg_ℚ one_ℚ) [] h)
 
 -- ---- one step
@@ -56,9 +58,13 @@ moved v bs ps f g x h s m k = at (matched-to (IsLevelPart v) bs ps h s.member s.
     like : (e : Exponents) → indicator (Some u) e ≡ indicator (Some x) e
     like e = sym (k.like e ∙ at_like s.at u e s.divides)
 
-    raised : (p : Terms) (t : Option Exponents) → Contains (polys ps) p → IsBinomialOf (Some s.member.head) t p → Spans (polys ps) (binomial (Some x) (shifted s.rest t))
+    raised : (p : Terms) (t : Option Exponents) → Contains (polys ps) p → IsBinomialOf (Some s.member.head) t p →
+        Spans (polys ps) (binomial (Some x) (shifted s.rest t))
     raised p t c l = spans_binomial (polys ps) (Some x) (shifted s.rest t) (times one_ℚ s.rest p)
-        (record { equation = λ e. multiple_of_binomial one_ℚ s.rest (Some s.member.head) t p l e ∙ one-*ℚ _ ∙ ap (λ z. z +ℚ neg_ℚ (indicator (shifted s.rest t) e)) (like e) })
+        (record {
+          equation = λ e. multiple_of_binomial one_ℚ s.rest (Some s.member.head) t p l e ∙ one-*ℚ _ ∙ ap (λ z. z +ℚ neg_ℚ (indicator (shifted s.rest t) e))
+              (like e);
+        })
         (Spans-times (polys ps) p one_ℚ s.rest (Spans-generator (polys ps) p c))
 
     at : ((p : MarkedPolynomial) × Contains ps p × IsLevelPart v s.member p) → Moved (polys ps) x (shifted s.rest m.tail)
@@ -78,8 +84,9 @@ pub record IsCarried (fs : List Terms) (p q : Option Exponents) (f : Terms) : Ty
   pub of_first : Spans fs (binomial p (Some first))
   pub of_second : Spans fs (binomial q (Some second))
 
-carried_step : (v : List ℤ) (bs ps : List MarkedPolynomial) (p q : Option Exponents) (f g : Terms) → AreMarkedBinomials (Contains bs) → Matching (IsLevelPart v) bs ps →
-    (Spans (polys ps) (binomial p None) → ⊥) → (Spans (polys ps) (binomial q None) → ⊥) → IsCarried (polys ps) p q f → IsStep (Contains bs) f g → IsCarried (polys ps) p q g
+carried_step : (v : List ℤ) (bs ps : List MarkedPolynomial) (p q : Option Exponents) (f g : Terms) → AreMarkedBinomials (Contains bs) →
+    Matching (IsLevelPart v) bs ps → (Spans (polys ps) (binomial p None) → ⊥) → (Spans (polys ps) (binomial q None) → ⊥) → IsCarried (polys ps) p q f →
+    IsStep (Contains bs) f g → IsCarried (polys ps) p q g
 carried_step v bs ps p q f g two h np nq c s = at (stepped (Contains bs) (Some c.first) (Some c.second) f g s m c.is_binomial)
   where
     m : IsMarkedBinomial s.member
@@ -89,18 +96,38 @@ carried_step v bs ps p q f g two h np nq c s = at (stepped (Contains bs) (Some c
     at (Stepped.first k l) = by (moved v bs ps f g c.first h s m k)
       where
         by : Moved (polys ps) c.first (shifted s.rest m.tail) → IsCarried (polys ps) p q g
-        by (Moved.on y e r) = record { first = y; second = c.second; is_binomial = subst (λ t. IsBinomialOf t (Some c.second) g) e l; of_first = spans_chain (polys ps) p (Some c.first) (Some y) c.of_first r; of_second = c.of_second }
+        by (Moved.on y e r) = record {
+          first = y;
+          second = c.second;
+          is_binomial = subst (λ t. IsBinomialOf t (Some c.second) g) e l;
+          of_first = spans_chain (polys ps) p (Some c.first) (Some y) c.of_first r;
+          of_second = c.of_second;
+        }
         by (Moved.spanned r) = absurd (np (spans_chain (polys ps) p (Some c.first) None c.of_first r))
     at (Stepped.second k l) = by (moved v bs ps f g c.second h s m k)
       where
         by : Moved (polys ps) c.second (shifted s.rest m.tail) → IsCarried (polys ps) p q g
-        by (Moved.on y e r) = record { first = c.first; second = y; is_binomial = subst (λ t. IsBinomialOf (Some c.first) t g) e l; of_first = c.of_first; of_second = spans_chain (polys ps) q (Some c.second) (Some y) c.of_second r }
+        by (Moved.on y e r) = record {
+          first = c.first;
+          second = y;
+          is_binomial = subst (λ t. IsBinomialOf (Some c.first) t g) e l;
+          of_first = c.of_first;
+          of_second = spans_chain (polys ps) q (Some c.second) (Some y) c.of_second r;
+        }
         by (Moved.spanned r) = absurd (nq (spans_chain (polys ps) q (Some c.second) None c.of_second r))
 
-pub carried_reached : (v : List ℤ) (bs ps : List MarkedPolynomial) (p q : Option Exponents) (f g : Terms) → AreMarkedBinomials (Contains bs) → Matching (IsLevelPart v) bs ps →
-    (Spans (polys ps) (binomial p None) → ⊥) → (Spans (polys ps) (binomial q None) → ⊥) → IsCarried (polys ps) p q f → Reached (Contains bs) f g → IsCarried (polys ps) p q g
-carried_reached v bs ps p q f g two h np nq c (Reached.here k e) = record { first = c.first; second = c.second; is_binomial = binomial_of-equal (Some c.first) (Some c.second) f g e c.is_binomial; of_first = c.of_first; of_second = c.of_second }
-carried_reached v bs ps p q f g two h np nq c (Reached.next k l r s) = carried_step v bs ps p q k g two h np nq (carried_reached v bs ps p q f k two h np nq c r) s
+pub carried_reached : (v : List ℤ) (bs ps : List MarkedPolynomial) (p q : Option Exponents) (f g : Terms) → AreMarkedBinomials (Contains bs) →
+    Matching (IsLevelPart v) bs ps → (Spans (polys ps) (binomial p None) → ⊥) → (Spans (polys ps) (binomial q None) → ⊥) → IsCarried (polys ps) p q f →
+    Reached (Contains bs) f g → IsCarried (polys ps) p q g
+carried_reached v bs ps p q f g two h np nq c (Reached.here k e) = record {
+  first = c.first;
+  second = c.second;
+  is_binomial = binomial_of-equal (Some c.first) (Some c.second) f g e c.is_binomial;
+  of_first = c.of_first;
+  of_second = c.of_second;
+}
+carried_reached v bs ps p q f g two h np nq c (Reached.next k l r s) =
+    carried_step v bs ps p q k g two h np nq (carried_reached v bs ps p q f k two h np nq c r) s
 
 -- ---- one monomial alone
 

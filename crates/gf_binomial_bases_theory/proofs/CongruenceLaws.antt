@@ -1,6 +1,7 @@
 -- Monomials whose difference is in the ideal: where the ideal is decided, they are classes that products keep.
 -- To cite: monomial_terms, binomial, binomial-is, binomials_same, AreCongruent, congruence-grading, IsDecided, generators_congruent.
-use Rattle.std.proofs.Common.{◌≡◌, ◌⊎◌, ℕ, ◌≤◌, true, false, if◌then◌else◌, List, [], ◌∷◌, ◌++◌, Contains, Option, Some, None, arith, refl, ap, sym, ◌∙◌, inl, inr}
+use Rattle.std.proofs.Common.{◌≡◌, ◌⊎◌, ℕ, ◌≤◌, true, false, if◌then◌else◌, List, [], ◌∷◌, ◌++◌, Contains, Option, Some, None, arith, refl, ap, sym, ◌∙◌, inl}
+use Rattle.std.proofs.Common.{inr}
 use Rattle.gf_frac.specs.Fraction.{◌+ℚ◌, ◌*ℚ◌, neg_ℚ, zero_ℚ, one_ℚ}
 use Rattle.gf_frac.proofs.FractionLaws.{+ℚ-zero, +ℚ-neg_ℚ, one-*ℚ}
 use Rattle.gf_exponents_theory.specs.Exponents.{Exponents, entry, same, plus, IsInRing}
@@ -35,7 +36,8 @@ pub binomial-is : (p q : Option Exponents) → IsBinomialOf p q (binomial p q)
 binomial-is p q = record {
   equation = λ e. coefficient-++ (monomial_terms p) (times (neg_ℚ one_ℚ) [] (monomial_terms q)) e
       ∙ ap (λ z. z +ℚ coefficient (times (neg_ℚ one_ℚ) [] (monomial_terms q)) e) (monomial_terms-is p e)
-      ∙ ap (λ z. indicator p e +ℚ z) (coefficient-factor (neg_ℚ one_ℚ) [] (monomial_terms q) e ∙ ap (λ h. neg_ℚ one_ℚ *ℚ coefficient h e) (times-plain (monomial_terms q)) ∙ neg_one _ ∙ ap neg_ℚ (monomial_terms-is q e));
+      ∙ ap (λ z. indicator p e +ℚ z) (coefficient-factor (neg_ℚ one_ℚ) [] (monomial_terms q) e ∙ ap (λ h. neg_ℚ one_ℚ *ℚ coefficient h e)
+      (times-plain (monomial_terms q)) ∙ neg_one _ ∙ ap neg_ℚ (monomial_terms-is q e));
 }
 
 -- it is told by the two coefficients
@@ -82,7 +84,8 @@ pub congruent_symmetric : (n : ℕ) (fs : List Terms) (x y : Exponents) → AreC
 congruent_symmetric n fs x y h = record {
   agree = λ i l. sym (h.agree i l);
   member = member-equal n fs (times (neg_ℚ one_ℚ) [] f) (binomial b a)
-      (λ e. coefficient-times (neg_ℚ one_ℚ) [] f e ∙ neg_one _ ∙ ap neg_ℚ ((binomial-is a b).equation e) ∙ turned_round (indicator a e) (indicator b e) ∙ sym ((binomial-is b a).equation e))
+      (λ e. coefficient-times (neg_ℚ one_ℚ) [] f e ∙ neg_one _ ∙ ap neg_ℚ ((binomial-is a b).equation e) ∙ turned_round (indicator a e) (indicator b e) ∙
+      sym ((binomial-is b a).equation e))
       (member-times n fs f (neg_ℚ one_ℚ) [] (λ i l. refl) h.member);
 }
   where
@@ -99,7 +102,8 @@ pub congruent_transitive : (n : ℕ) (fs : List Terms) (x y z : Exponents) → A
 congruent_transitive n fs x y z h k = record {
   agree = λ i l. h.agree i l ∙ k.agree i l;
   member = member-equal n fs (binomial a b ++ binomial b c) (binomial a c)
-      (λ e. coefficient-++ (binomial a b) (binomial b c) e ∙ ap (λ w. w +ℚ coefficient (binomial b c) e) ((binomial-is a b).equation e) ∙ ap (λ w. (indicator a e +ℚ neg_ℚ (indicator b e)) +ℚ w) ((binomial-is b c).equation e)
+      (λ e. coefficient-++ (binomial a b) (binomial b c) e ∙ ap (λ w. w +ℚ coefficient (binomial b c) e) ((binomial-is a b).equation e) ∙
+      ap (λ w. (indicator a e +ℚ neg_ℚ (indicator b e)) +ℚ w) ((binomial-is b c).equation e)
       ∙ second_replaced (indicator a e) (indicator b e) (indicator c e) ∙ sym ((binomial-is a c).equation e))
       (member-++ n fs (binomial a b) (binomial b c) h.member k.member);
 }
@@ -117,7 +121,8 @@ pub congruent_invariant : (n : ℕ) (fs : List Terms) (z x y : Exponents) → Ar
 congruent_invariant n fs z x y h = record {
   agree = λ i l. omega (arith, h.agree i l, entry-plus z x i, entry-plus z y i);
   member = member-equal n fs (times one_ℚ (cut n z) (binomial (Some (cut n x)) (Some (cut n y)))) (binomial (Some (cut n (plus z x))) (Some (cut n (plus z y))))
-      (λ e. multiple_of_binomial one_ℚ (cut n z) (Some (cut n x)) (Some (cut n y)) (binomial (Some (cut n x)) (Some (cut n y))) (binomial-is (Some (cut n x)) (Some (cut n y))) e ∙ one-*ℚ _
+      (λ e. multiple_of_binomial one_ℚ (cut n z) (Some (cut n x)) (Some (cut n y)) (binomial (Some (cut n x)) (Some (cut n y)))
+      (binomial-is (Some (cut n x)) (Some (cut n y))) e ∙ one-*ℚ _
       ∙ ap (λ w. w +ℚ neg_ℚ (indicator (Some (plus (cut n z) (cut n y))) e)) (at_like (plus (cut n z) (cut n x)) (cut n (plus z x)) e (cut-plus n z x))
       ∙ ap (λ w. indicator (Some (cut n (plus z x))) e +ℚ neg_ℚ w) (at_like (plus (cut n z) (cut n y)) (cut n (plus z y)) e (cut-plus n z y))
       ∙ sym ((binomial-is (Some (cut n (plus z x))) (Some (cut n (plus z y)))).equation e))
@@ -134,27 +139,37 @@ congruent_decided n fs d x y = elim (beyond n x y) [
 ]
 
 pub congruence-grading : (n : ℕ) (fs : List Terms) → IsDecided n fs → IsGrading (AreCongruent n fs)
-congruence-grading n fs d = record { decide = congruent_decided n fs d; along = congruent_along n fs; symmetric = congruent_symmetric n fs; transitive = congruent_transitive n fs; invariant = congruent_invariant n fs }
+congruence-grading n fs d = record {
+  decide = congruent_decided n fs d;
+  along = congruent_along n fs;
+  symmetric = congruent_symmetric n fs;
+  transitive = congruent_transitive n fs;
+  invariant = congruent_invariant n fs;
+}
 
 -- ---- in the ring
 
 -- monomials of the ring are congruent where their difference is in the ideal
-pub congruent_of_member : (n : ℕ) (fs : List Terms) (p q : Option Exponents) (f : Terms) (x y : Exponents) → IsInRing n x → IsInRing n y → IsBinomialOf p q f → IsTheMonomial p x → IsTheMonomial q y →
-    IsMember n fs f → AreCongruent n fs x y
+pub congruent_of_member : (n : ℕ) (fs : List Terms) (p q : Option Exponents) (f : Terms) (x y : Exponents) → IsInRing n x → IsInRing n y → IsBinomialOf p q f →
+    IsTheMonomial p x → IsTheMonomial q y → IsMember n fs f → AreCongruent n fs x y
 congruent_of_member n fs p q f x y rx ry h px qy m = record {
   agree = λ i l. rx i l ∙ sym (ry i l);
-  member = member-equal n fs f (binomial (Some (cut n x)) (Some (cut n y))) (binomials_same p q (Some (cut n x)) (Some (cut n y)) f (binomial (Some (cut n x)) (Some (cut n y))) h (binomial-is (Some (cut n x)) (Some (cut n y)))
+  member = member-equal n fs f (binomial (Some (cut n x)) (Some (cut n y))) (binomials_same p q (Some (cut n x)) (Some (cut n y)) f
+      (binomial (Some (cut n x)) (Some (cut n y))) h (binomial-is (Some (cut n x)) (Some (cut n y)))
       (λ e. px.like e ∙ sym (at_like (cut n x) x e (cut-same n x rx))) (λ e. qy.like e ∙ sym (at_like (cut n y) y e (cut-same n y ry)))) m;
 }
 
 -- and back
-pub member_of_congruent : (n : ℕ) (fs : List Terms) (x y : Exponents) → IsInRing n x → IsInRing n y → AreCongruent n fs x y → IsMember n fs (binomial (Some x) (Some y))
+pub member_of_congruent : (n : ℕ) (fs : List Terms) (x y : Exponents) → IsInRing n x → IsInRing n y → AreCongruent n fs x y →
+    IsMember n fs (binomial (Some x) (Some y))
 member_of_congruent n fs x y rx ry h = member-equal n fs (binomial (Some (cut n x)) (Some (cut n y))) (binomial (Some x) (Some y))
-    (binomials_same (Some (cut n x)) (Some (cut n y)) (Some x) (Some y) (binomial (Some (cut n x)) (Some (cut n y))) (binomial (Some x) (Some y)) (binomial-is (Some (cut n x)) (Some (cut n y))) (binomial-is (Some x) (Some y))
+    (binomials_same (Some (cut n x)) (Some (cut n y)) (Some x) (Some y) (binomial (Some (cut n x)) (Some (cut n y))) (binomial (Some x) (Some y))
+    (binomial-is (Some (cut n x)) (Some (cut n y))) (binomial-is (Some x) (Some y))
     (λ e. at_like (cut n x) x e (cut-same n x rx)) (λ e. at_like (cut n y) y e (cut-same n y ry))) h.member
 
 -- all monomials of a generator are congruent
-pub generators_congruent : (n : ℕ) (fs : List Terms) → AreInVariables n fs → AreBinomials fs → (f : Terms) → Contains fs f → (x y : Exponents) → HasMonomial f x → HasMonomial f y → AreCongruent n fs x y
+pub generators_congruent : (n : ℕ) (fs : List Terms) → AreInVariables n fs → AreBinomials fs → (f : Terms) → Contains fs f → (x y : Exponents) →
+    HasMonomial f x → HasMonomial f y → AreCongruent n fs x y
 generators_congruent n fs v b f c x y hx hy = at (one_of_two h.first h.second f x h.binomial hx) (one_of_two h.first h.second f y h.binomial hy)
   where
     h : IsBinomial f

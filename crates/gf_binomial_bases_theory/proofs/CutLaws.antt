@@ -30,5 +30,10 @@ pub cut-along : (n : ℕ) (x y : Exponents) → same x y ≡ true → same (cut 
 cut-along n x y s = same_in_ring n (cut n x) (cut n y) (cut-ring n x) (cut-ring n y) (λ i l. entry-cut n x i l ∙ entries_same x y s i ∙ sym (entry-cut n y i l))
 
 pub cut-plus : (n : ℕ) (z x : Exponents) → same (plus (cut n z) (cut n x)) (cut n (plus z x)) ≡ true
-cut-plus n z x = same_in_ring n (plus (cut n z) (cut n x)) (cut n (plus z x)) (λ i l. omega (arith, entry-plus (cut n z) (cut n x) i, cut-ring n z i l, cut-ring n x i l)) (cut-ring n (plus z x))
+cut-plus n z x = same_in_ring n (plus (cut n z) (cut n x)) (cut n (plus z x)) (λ i l. omega (
+  arith,
+  entry-plus (cut n z) (cut n x) i,
+  cut-ring n z i l,
+  cut-ring n x i l,
+)) (cut-ring n (plus z x))
     (λ i l. omega (arith, entry-plus (cut n z) (cut n x) i, entry-cut n z i l, entry-cut n x i l, entry-cut n (plus z x) i l, entry-plus z x i))

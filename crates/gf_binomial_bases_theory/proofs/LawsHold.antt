@@ -18,11 +18,18 @@ use Rattle.gf_binomial_bases_theory.proofs.ReducedLaws.{reduced_binomials}
 use Rattle.gf_binomial_bases_theory.proofs.BinomialParts.{IsPartOf, part_of}
 
 pub bases_of_binomials : BasesAreOfBinomials
-bases_of_binomials n fs bs v two b = reduced_binomials n fs bs v two (decided_by_basis n fs bs v b.basis) b.basis.members b.basis.decides b.tails (λ c k. (b.basis.marked.2 c k).monic)
+bases_of_binomials n fs bs v two b = reduced_binomials n fs bs v two (decided_by_basis n fs bs v b.basis) b.basis.members b.basis.decides b.tails
+    (λ c k. (b.basis.marked.2 c k).monic)
 
 marked_part : (b p : MarkedPolynomial) (m : IsMarkedBinomial b) → p.head ≡ b.head → IsPartOf b.head m.tail p.poly → IsMarkedBinomial p
-marked_part b p m h (IsPartOf.whole y e l) = record { tail = Some y; binomial = record { equation = λ x. l.equation x ∙ ap (λ z. indicator (Some z) x +ℚ neg_ℚ (indicator (Some y) x)) (sym h) } }
-marked_part b p m h (IsPartOf.mark l) = record { tail = None; binomial = record { equation = λ x. l.equation x ∙ ap (λ z. indicator (Some z) x +ℚ neg_ℚ (indicator None x)) (sym h) } }
+marked_part b p m h (IsPartOf.whole y e l) = record {
+  tail = Some y;
+  binomial = record { equation = λ x. l.equation x ∙ ap (λ z. indicator (Some z) x +ℚ neg_ℚ (indicator (Some y) x)) (sym h) };
+}
+marked_part b p m h (IsPartOf.mark l) = record {
+  tail = None;
+  binomial = record { equation = λ x. l.equation x ∙ ap (λ z. indicator (Some z) x +ℚ neg_ℚ (indicator None x)) (sym h) };
+}
 
 pub initial_forms_of_binomials : InitialFormsAreOfBinomials
 initial_forms_of_binomials n fs w bs ps v two r k i p c = at (matched-from (IsInitialPart w) bs ps i p c)
@@ -36,7 +43,13 @@ initial_forms_of_binomials n fs w bs ps v two r k i p c = at (matched-from (IsIn
 
 -- monomials as their own classes
 each_alone : IsGrading (λ x y. same x y ≡ true)
-each_alone = record { decide = λ x y. at x y (same x y) refl; along = λ x y s. s; symmetric = λ x y s. same_flip x y s; transitive = λ x y z s t. same_trans x y z s t; invariant = λ z x y s. same_shift z x y s }
+each_alone = record {
+  decide = λ x y. at x y (same x y) refl;
+  along = λ x y s. s;
+  symmetric = λ x y s. same_flip x y s;
+  transitive = λ x y z s t. same_trans x y z s t;
+  invariant = λ z x y s. same_shift z x y s;
+}
   where
     at : (x y : Exponents) (b : Bool) → same x y ≡ b → (same x y ≡ true) ⊎ (same x y ≡ true → ⊥)
     at x y true h = inl h

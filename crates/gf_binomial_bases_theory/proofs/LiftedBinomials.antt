@@ -54,18 +54,25 @@ tail_outside n fs hs y v r decides free s = one_not_zero (sym (itself y) ∙ sym
 
     zero : SamePolynomial f []
     zero = decides f (member_of_spans n fs f v (λ e m. ring-along n y e (same_flip e y (only y e m)) r) s)
-        (λ e m d. free (record { member = d.member; contained = d.contained; rest = d.rest; divides = same_trans y e (plus d.rest d.member.head) (same_flip e y (only y e m)) d.divides }))
+        (λ e m d. free (record {
+          member = d.member;
+          contained = d.contained;
+          rest = d.rest;
+          divides = same_trans y e (plus d.rest d.member.head) (same_flip e y (only y e m)) d.divides;
+        }))
 
 -- ---- a basis of the parts
 
-part_variables : (n : ℕ) (gs : List Terms) (bs ps hs : List MarkedPolynomial) (a v : List ℤ) → AreInVariables n gs → ArePartFacts n gs bs ps hs a v → AreInVariables n (polys ps)
+part_variables : (n : ℕ) (gs : List Terms) (bs ps hs : List MarkedPolynomial) (a v : List ℤ) → AreInVariables n gs → ArePartFacts n gs bs ps hs a v →
+    AreInVariables n (polys ps)
 part_variables n gs bs ps hs a v vars q = parts-variables n bs ps v (λ d c. variables_of_member n gs d.poly vars (q.side.reduced.basis.members d c)) q.levels
 
-pub basis_of_parts-binomials : (n : ℕ) (gs : List Terms) (bs ps hs : List MarkedPolynomial) (a v : List ℤ) → AreInVariables n gs → AreMarkedBinomials (Contains bs) →
-    ArePartFacts n gs bs ps hs a v → HasReducedTails hs → AreMarkedBinomials (Contains hs)
+pub basis_of_parts-binomials : (n : ℕ) (gs : List Terms) (bs ps hs : List MarkedPolynomial) (a v : List ℤ) → AreInVariables n gs →
+    AreMarkedBinomials (Contains bs) → ArePartFacts n gs bs ps hs a v → HasReducedTails hs → AreMarkedBinomials (Contains hs)
 basis_of_parts-binomials n gs bs ps hs a v vars two q tails =
     let w = part_variables n gs bs ps hs a v vars q in
-    reduced_binomials n (polys ps) hs w (parts_binomials v bs ps two q.levels) (decided_by_basis n (polys ps) hs w q.basis) q.basis.members q.basis.decides tails (λ h c. (q.further h c).monic)
+    reduced_binomials n (polys ps) hs w (parts_binomials v bs ps two q.levels) (decided_by_basis n (polys ps) hs w q.basis) q.basis.members q.basis.decides
+    tails (λ h c. (q.further h c).monic)
 
 -- ---- a lift
 
@@ -73,12 +80,14 @@ twice_none : (a b : Fraction) → (a +ℚ neg_ℚ zero_ℚ) +ℚ neg_ℚ (b +ℚ
 twice_none a b = ap (λ z. z +ℚ neg_ℚ (b +ℚ neg_ℚ zero_ℚ)) (less_zero a) ∙ ap (λ z. a +ℚ neg_ℚ z) (less_zero b)
 
 -- the mark less a monomial or nothing
-marked_by_tail : (h l : MarkedPolynomial) (t : Option Exponents) → l.head ≡ h.head → ((e : Exponents) → coefficient l.poly e ≡ indicator (Some h.head) e +ℚ neg_ℚ (indicator t e)) → IsMarkedBinomial l
+marked_by_tail : (h l : MarkedPolynomial) (t : Option Exponents) → l.head ≡ h.head →
+    ((e : Exponents) → coefficient l.poly e ≡ indicator (Some h.head) e +ℚ neg_ℚ (indicator t e)) → IsMarkedBinomial l
 marked_by_tail h l t k q = record { tail = t; binomial = record { equation = λ e. q e ∙ ap (λ z. indicator (Some z) e +ℚ neg_ℚ (indicator t e)) (sym k) } }
 
 pub lift-binomial : (n : ℕ) (gs : List Terms) (bs ps hs : List MarkedPolynomial) (a v : List ℤ) → AreInVariables n gs → AreMarkedBinomials (Contains bs) →
-    ArePartFacts n gs bs ps hs a v → HasReducedTails hs → (h l : MarkedPolynomial) (r : Terms) → Contains hs h → IsMarkedBinomial h → Reached (Contains bs) h.poly r →
-    IsIrreducible (Contains bs) r → l.head ≡ h.head → SamePolynomial l.poly (h.poly ++ times (neg_ℚ one_ℚ) [] r) → IsMarkedBinomial l
+    ArePartFacts n gs bs ps hs a v → HasReducedTails hs → (h l : MarkedPolynomial) (r : Terms) → Contains hs h → IsMarkedBinomial h →
+    Reached (Contains bs) h.poly r → IsIrreducible (Contains bs) r → l.head ≡ h.head → SamePolynomial l.poly (h.poly ++ times (neg_ℚ one_ℚ) [] r) →
+    IsMarkedBinomial l
 lift-binomial n gs bs ps hs a v vars two q tails h l r c hb reached free k eq = at hb.tail hb.binomial
   where
     P : List Terms
@@ -106,7 +115,8 @@ lift-binomial n gs bs ps hs a v vars two q tails h l r c hb reached free k eq = 
     at None i = one (alone_reached (Contains bs) h.poly r two (record { monomial = top; is_binomial = i }) reached)
       where
         one : IsAlone r → IsMarkedBinomial l
-        one d = marked_by_tail h l d.monomial k (λ e. at_l e ∙ ap (λ z. z +ℚ neg_ℚ (coefficient r e)) (i.equation e) ∙ ap (λ z. (indicator top e +ℚ neg_ℚ zero_ℚ) +ℚ neg_ℚ z) (d.is_binomial.equation e) ∙ twice_none (indicator top e) (indicator d.monomial e))
+        one d = marked_by_tail h l d.monomial k (λ e. at_l e ∙ ap (λ z. z +ℚ neg_ℚ (coefficient r e)) (i.equation e) ∙
+            ap (λ z. (indicator top e +ℚ neg_ℚ zero_ℚ) +ℚ neg_ℚ z) (d.is_binomial.equation e) ∙ twice_none (indicator top e) (indicator d.monomial e))
     at (Some y) i = marked_by_tail h l t k (λ e. at_l e ∙ ap (λ z. coefficient h.poly e +ℚ neg_ℚ z) (rest_zero e) ∙ less_zero _ ∙ i.equation e)
       where
         t : Option Exponents
@@ -118,7 +128,8 @@ lift-binomial n gs bs ps hs a v vars two q tails h l r c hb reached free k eq = 
           where
             by : (b : Bool) → same y h.head ≡ b → same y h.head ≡ false
             by false s = s
-            by true s = absurd (one_not_zero (sym monic ∙ both_there top t h.poly h.head i (itself h.head ∙ sym (ap (λ b. if b then one_ℚ else zero_ℚ) (same_flip y h.head s)))))
+            by true s = absurd (one_not_zero (sym monic ∙ both_there top t h.poly h.head i
+                (itself h.head ∙ sym (ap (λ b. if b then one_ℚ else zero_ℚ) (same_flip y h.head s)))))
 
         there : HasMonomial h.poly y
         there z = neg_one-not_zero (sym (second_alone top t h.poly y i (ap (λ b. if b then one_ℚ else zero_ℚ) beside) (itself y)) ∙ z)
@@ -139,14 +150,23 @@ lift-binomial n gs bs ps hs a v vars two q tails h l r c hb reached free k eq = 
         own p = Spans-equal P [] (binomial p p) (λ e. sym ((binomial-is p p).equation e ∙ +ℚ-neg_ℚ _)) (Spans-zero P)
 
         carried : IsCarried P top t r
-        carried = carried_reached v bs ps top t h.poly r two q.levels mark_free tail_free (record { first = h.head; second = y; is_binomial = i; of_first = own top; of_second = own t }) reached
+        carried = carried_reached v bs ps top t h.poly r two q.levels mark_free tail_free (record {
+          first = h.head;
+          second = y;
+          is_binomial = i;
+          of_first = own top;
+          of_second = own t;
+        }) reached
 
         spanned : Spans P r
-        spanned = Spans-equal P (binomial (Some carried.first) (Some carried.second)) r (λ e. (binomial-is (Some carried.first) (Some carried.second)).equation e ∙ sym (carried.is_binomial.equation e))
-            (spans_chain P (Some carried.first) top (Some carried.second) (spans_turned P top (Some carried.first) carried.of_first) (spans_chain P top t (Some carried.second) both carried.of_second))
+        spanned = Spans-equal P (binomial (Some carried.first) (Some carried.second)) r
+            (λ e. (binomial-is (Some carried.first) (Some carried.second)).equation e ∙ sym (carried.is_binomial.equation e))
+            (spans_chain P (Some carried.first) top (Some carried.second) (spans_turned P top (Some carried.first) carried.of_first)
+            (spans_chain P top t (Some carried.second) both carried.of_second))
 
         rest_ring : IsInVariables n r
         rest_ring = variables-reached n (Contains bs) h.poly r (λ d j. variables_of_member n gs d.poly vars (q.side.reduced.basis.members d j)) ring reached
 
         rest_zero : SamePolynomial r []
-        rest_zero = parts_decide n gs bs ps v r vars q.side.reduced.basis (side-weak n gs v (negated a) bs q.side) q.levels (member_of_spans n P r w rest_ring spanned) free
+        rest_zero = parts_decide n gs bs ps v r vars q.side.reduced.basis (side-weak n gs v (negated a) bs q.side) q.levels
+            (member_of_spans n P r w rest_ring spanned) free

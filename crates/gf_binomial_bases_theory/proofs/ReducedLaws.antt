@@ -36,7 +36,10 @@ record HasOther (n : ℕ) (fs : List Terms) (b : MarkedPolynomial) (y : Exponent
 with_other : (n : ℕ) (fs : List Terms) (bs : List MarkedPolynomial) (b : MarkedPolynomial) (y : Exponents) → IsMember n fs b.poly →
     ((f : Terms) → IsMember n fs f → IsIrreducible (Contains bs) f → SamePolynomial f []) → HasReducedTails bs → Contains bs b →
     coefficient b.poly b.head ≡ one_ℚ → HasOther n fs b y → IsMarkedBinomial b
-with_other n fs bs b y inside decides tails c monic o = record { tail = t; binomial = record { equation = λ e. equal_if (coefficient b.poly e) (coefficient g e) (sym (difference b.poly g e) ∙ zero e) ∙ (binomial-is h t).equation e } }
+with_other n fs bs b y inside decides tails c monic o = record {
+  tail = t;
+  binomial = record { equation = λ e. equal_if (coefficient b.poly e) (coefficient g e) (sym (difference b.poly g e) ∙ zero e) ∙ (binomial-is h t).equation e };
+}
   where
     h : Option Exponents
     h = Some b.head
@@ -62,7 +65,8 @@ with_other n fs bs b y inside decides tails c monic o = record { tail = t; binom
 
     -- beside both it is b
     beside : (e : Exponents) → same e b.head ≡ false → same e y ≡ false → coefficient d e ≡ coefficient b.poly e
-    beside e s f = at_d e ∙ ap (λ z. coefficient b.poly e +ℚ neg_ℚ (z +ℚ neg_ℚ (indicator t e))) (at_other b.head e s) ∙ ap (λ z. coefficient b.poly e +ℚ neg_ℚ (zero_ℚ +ℚ neg_ℚ z)) (at_other y e f)
+    beside e s f = at_d e ∙ ap (λ z. coefficient b.poly e +ℚ neg_ℚ (z +ℚ neg_ℚ (indicator t e))) (at_other b.head e s) ∙
+        ap (λ z. coefficient b.poly e +ℚ neg_ℚ (zero_ℚ +ℚ neg_ℚ z)) (at_other y e f)
         ∙ ap (λ z. coefficient b.poly e +ℚ neg_ℚ z) (+ℚ-neg_ℚ zero_ℚ) ∙ less_zero _
 
     no : (x y : Exponents) → same x y ≡ true → same x y ≡ false → ⊥
@@ -72,7 +76,12 @@ with_other n fs bs b y inside decides tails c monic o = record { tail = t; binom
     irreducible e m div = by (same e y) refl (same e b.head) refl
       where
         by : (p : Bool) → same e y ≡ p → (q : Bool) → same e b.head ≡ q → ⊥
-        by true s q k = no y b.head (tails b c y o.there (record { member = div.member; contained = div.contained; rest = div.rest; divides = same_trans y e (plus div.rest div.member.head) (same_flip e y s) div.divides })) o.beside
+        by true s q k = no y b.head (tails b c y o.there (record {
+          member = div.member;
+          contained = div.contained;
+          rest = div.rest;
+          divides = same_trans y e (plus div.rest div.member.head) (same_flip e y s) div.divides;
+        })) o.beside
         by false s true k = m (at_mark e k s)
         by false s false k = no e b.head (tails b c e (λ z. m (beside e k s ∙ z)) div) k
 
@@ -98,7 +107,8 @@ reduced_binomials n fs bs v two dec inside decides tails monic b c = at ((top_he
     at_rest e = difference b.poly h e ∙ ap (λ z. coefficient b.poly e +ℚ neg_ℚ z) (monomial_terms-is (Some b.head) e)
 
     at_mark : (e : Exponents) → same e b.head ≡ true → coefficient rest e ≡ zero_ℚ
-    at_mark e s = at_rest e ∙ ap (λ z. z +ℚ neg_ℚ (indicator (Some b.head) e)) (coefficient-same b.poly e b.head s ∙ monic b c) ∙ ap (λ z. one_ℚ +ℚ neg_ℚ z) (at_itself b.head e s) ∙ +ℚ-neg_ℚ one_ℚ
+    at_mark e s = at_rest e ∙ ap (λ z. z +ℚ neg_ℚ (indicator (Some b.head) e)) (coefficient-same b.poly e b.head s ∙ monic b c) ∙ ap (λ z. one_ℚ +ℚ neg_ℚ z)
+        (at_itself b.head e s) ∙ +ℚ-neg_ℚ one_ℚ
 
     beside : (e : Exponents) → same e b.head ≡ false → coefficient rest e ≡ coefficient b.poly e
     beside e s = at_rest e ∙ ap (λ z. coefficient b.poly e +ℚ neg_ℚ z) (at_other b.head e s) ∙ less_zero _
@@ -110,15 +120,24 @@ reduced_binomials n fs bs v two dec inside decides tails monic b c = at ((top_he
     head_there z = one_not_zero (sym (monic b c) ∙ z)
 
     at : SamePolynomial rest [] ⊎ ((x : Exponents) × IsHeaviest [] rest x) → IsMarkedBinomial b
-    at (inl z) = record { tail = None; binomial = record { equation = λ e. equal_if (coefficient b.poly e) (indicator (Some b.head) e) (sym (at_rest e) ∙ z e) ∙ sym (less_zero _) } }
+    at (inl z) = record {
+      tail = None;
+      binomial = record { equation = λ e. equal_if (coefficient b.poly e) (indicator (Some b.head) e) (sym (at_rest e) ∙ z e) ∙ sym (less_zero _) };
+    }
     at (inr x) = by (same x.0 b.head) refl
       where
         by : (p : Bool) → same x.0 b.head ≡ p → IsMarkedBinomial b
         by true s = absurd (x.1.there (at_mark x.0 s))
-        by false s = with_other n fs bs b x.0 (inside b c) decides tails c (monic b c) (record { there = y; beside = s; member = member_of_congruent n fs b.head x.0 (in_ring b.head head_there) (in_ring x.0 y) (congruent_symmetric n fs x.0 b.head congruent) })
+        by false s = with_other n fs bs b x.0 (inside b c) decides tails c (monic b c)
+            (record {
+              there = y;
+              beside = s;
+              member = member_of_congruent n fs b.head x.0 (in_ring b.head head_there) (in_ring x.0 y) (congruent_symmetric n fs x.0 b.head congruent);
+            })
           where
             y : HasMonomial b.poly x.0
             y z = x.1.there (beside x.0 s ∙ z)
 
             congruent : AreCongruent n fs x.0 b.head
-            congruent = basis-graded n fs (AreCongruent n fs) bs b (congruence-grading n fs dec) v (generators_congruent n fs v two) inside decides tails c x.0 y
+            congruent = basis-graded n fs (AreCongruent n fs) bs b (congruence-grading n fs dec) v (generators_congruent n fs v two)
+                inside decides tails c x.0 y

@@ -35,7 +35,8 @@ pub head_there : (s : MarkedPolynomials) → IsBinomialSet s → (b : MarkedPoly
 head_there s p b c = marked_there s.variables b (member_variables s p b c) (p.marked b c)
 
 -- it is made monic
-pub member_fits : (s : MarkedPolynomials) → IsBinomialSet s → (b : MarkedPolynomial) (o : Overflow) → Contains s.items b → IsMonicCause b (errors.Overflow o) → ⊥
+pub member_fits : (s : MarkedPolynomials) → IsBinomialSet s → (b : MarkedPolynomial) (o : Overflow) → Contains s.items b → IsMonicCause b (errors.Overflow o) →
+    ⊥
 member_fits s p b o c k =
     let d = (p.marked b c).descending in
     let v = member_variables s p b c in
@@ -60,18 +61,21 @@ forms_binomial s p d c = at (form_of s.items d c)
     at : ((b : MarkedPolynomial) × Contains s.items b × (monic_of b ≡ d)) → IsMarkedBinomial d
     at b = subst IsMarkedBinomial b.2 (binomial-monic b.0.poly (monic_of b.0) (p.binomials b.0 b.1) (is_form b.0 (head_there s p b.0 b.1)))
 
-pair_fits : (b c : MarkedPolynomial) (o : Overflow) → IsMarkedBinomial b → IsMarkedBinomial c → IsPairOperation b c o.op o.left o.right → Fits o.op o.left o.right
+pair_fits : (b c : MarkedPolynomial) (o : Overflow) → IsMarkedBinomial b → IsMarkedBinomial c → IsPairOperation b c o.op o.left o.right →
+    Fits o.op o.left o.right
 pair_fits b c o hb hc k = elim k [
   | inl d ↦ monic_fits b.poly b.head o.op o.left o.right (binomial-marked b hb) d.operation
   | inr l ↦ elim l [
     | inl d ↦ monic_fits c.poly c.head o.op o.left o.right (binomial-marked c hc) d.operation
-    | inr q ↦ s_polynomial_fits q.0 q.1 o.op o.left o.right (binomial-monic b.poly q.0 (binomial-marked b hb) q.2.left.form) (binomial-monic c.poly q.1 (binomial-marked c hc) q.2.right.form) q.3
+    | inr q ↦ s_polynomial_fits q.0 q.1 o.op o.left o.right (binomial-monic b.poly q.0 (binomial-marked b hb) q.2.left.form)
+        (binomial-monic c.poly q.1 (binomial-marked c hc) q.2.right.form) q.3
   ]
 ]
 
 pub pairs_fit : (bs : List MarkedPolynomial) (o : Overflow) → AreMarkedBinomials (Contains bs) → IsPairCause bs (errors.Overflow o) → ⊥
 pairs_fit bs o two (IsPairCause.s_polynomial b c hb hc r) = r.1 (pair_fits b c o (two b hb) (two c hc) r.0)
-pairs_fit bs o two (IsPairCause.reduction b c s hb hc q r) = r.1 (reduction_fits (Contains bs) s o.op o.left o.right two (binomial-s_polynomial b c s (two b hb) (two c hc) q) r.0)
+pairs_fit bs o two (IsPairCause.reduction b c s hb hc q r) =
+    r.1 (reduction_fits (Contains bs) s o.op o.left o.right two (binomial-s_polynomial b c s (two b hb) (two c hc) q) r.0)
 
 -- ---- the checks
 
@@ -89,10 +93,13 @@ test_fits s o p (IsTestCause.pairs r q) = pairs_fit (map monic_of s.items) o (fo
 
 pub autoreduction_fits : (bs : List MarkedPolynomial) (o : Overflow) → AreMarkedBinomials (Contains bs) → IsAutoreductionRefusal bs (errors.Overflow o) → ⊥
 autoreduction_fits bs o two r = elim r [
-  | inl k ↦ k.1 (monic_fits k.0.member.poly k.0.member.head o.op o.left o.right (binomial-marked k.0.member (two k.0.member (k.0.place, k.0.needed.at.within, k.0.needed.at.is))) k.0.operation.operation)
+  | inl k ↦ k.1 (monic_fits k.0.member.poly k.0.member.head o.op o.left o.right
+      (binomial-marked k.0.member (two k.0.member (k.0.place, k.0.needed.at.within, k.0.needed.at.is))) k.0.operation.operation)
   | inr q ↦ q.2.1 (tail_fits q.0 q.2.0.from q.2.0.at o.op o.left o.right (forms_binomials bs q.0 two q.1) q.2.0.tail q.2.0.operation)
 ]
 
 -- of the members made monic and arranged
-pub monic_forms_fit : (s t : MarkedPolynomials) (o : Overflow) → IsBinomialSet s → IsArranged (monic_set s) t → IsAutoreductionRefusal t.items (errors.Overflow o) → ⊥
-monic_forms_fit s t o p m r = autoreduction_fits t.items o (λ b c. forms_binomial s p b (Contains-permutation t.items (map monic_of s.items) b (IsPermutation-sym (map monic_of s.items) t.items m.members) c)) r
+pub monic_forms_fit : (s t : MarkedPolynomials) (o : Overflow) → IsBinomialSet s → IsArranged (monic_set s) t →
+    IsAutoreductionRefusal t.items (errors.Overflow o) → ⊥
+monic_forms_fit s t o p m r = autoreduction_fits t.items o (λ b c. forms_binomial s p b (Contains-permutation t.items (map monic_of s.items) b
+    (IsPermutation-sym (map monic_of s.items) t.items m.members) c)) r

@@ -50,7 +50,8 @@ module _ (n : ℕ) (b : MarkedPolynomial) (p : IsBinomialSet (record { variables
 
   -- ---- pairs
 
-  pair_short : (c d : MarkedPolynomial) (left right : ℕ) → Contains (map monic_of (b ∷ [])) c → Contains (map monic_of (b ∷ [])) d → IsPairExponents c d left right → left + right < 2 ^ 31
+  pair_short : (c d : MarkedPolynomial) (left right : ℕ) → Contains (map monic_of (b ∷ [])) c → Contains (map monic_of (b ∷ [])) d →
+      IsPairExponents c d left right → left + right < 2 ^ 31
   pair_short c d left right hc hd (x, y, m, k) = at k.sum
     where
       in_x : IsAmong b.poly x
@@ -63,14 +64,21 @@ module _ (n : ℕ) (b : MarkedPolynomial) (p : IsBinomialSet (record { variables
       top = joined b.poly x.head y.head (m.left.head ∙ headed c d hc hd ∙ sym m.right.head) in_x.head
 
       at : IsShiftOperation k.of_b x.poly left right ⊎ IsShiftOperation k.of_c y.poly left right → left + right < 2 ^ 31
-      at (inl i) = shift_short b.poly k.of_b x left right g.short in_x (unraised b.poly k.of_b x g.antichain in_x (there_along b.poly (join x.head y.head) (plus k.of_b x.head) (same_flip (plus k.of_b x.head) (join x.head y.head) k.shift_b) top)) i
-      at (inr i) = shift_short b.poly k.of_c y left right g.short in_y (unraised b.poly k.of_c y g.antichain in_y (there_along b.poly (join x.head y.head) (plus k.of_c y.head) (same_flip (plus k.of_c y.head) (join x.head y.head) k.shift_c) top)) i
+      at (inl i) = shift_short b.poly k.of_b x left right g.short in_x
+          (unraised b.poly k.of_b x g.antichain in_x (there_along b.poly (join x.head y.head) (plus k.of_b x.head)
+          (same_flip (plus k.of_b x.head) (join x.head y.head) k.shift_b) top)) i
+      at (inr i) = shift_short b.poly k.of_c y left right g.short in_y
+          (unraised b.poly k.of_c y g.antichain in_y (there_along b.poly (join x.head y.head) (plus k.of_c y.head)
+          (same_flip (plus k.of_c y.head) (join x.head y.head) k.shift_c) top)) i
 
-  s_polynomial_within : (c d : MarkedPolynomial) (h : Terms) → Contains (map monic_of (b ∷ [])) c → Contains (map monic_of (b ∷ [])) d → IsSPolynomial c d h → IsWithin (HasMonomial b.poly) h
+  s_polynomial_within : (c d : MarkedPolynomial) (h : Terms) → Contains (map monic_of (b ∷ [])) c → Contains (map monic_of (b ∷ [])) d → IsSPolynomial c d h →
+      IsWithin (HasMonomial b.poly) h
   s_polynomial_within c d h hc hd q =
       sum_within (HasMonomial b.poly) (times one_ℚ q.left c.poly) (times (neg_ℚ one_ℚ) q.right d.poly) h
-      (multiple_within (Contains (map monic_of (b ∷ []))) (HasMonomial b.poly) c one_ℚ q.left closed hc (there_along b.poly (join c.head d.head) (plus q.left c.head) (same_flip (plus q.left c.head) (join c.head d.head) q.of_left) top))
-      (multiple_within (Contains (map monic_of (b ∷ []))) (HasMonomial b.poly) d (neg_ℚ one_ℚ) q.right closed hd (there_along b.poly (join c.head d.head) (plus q.right d.head) (same_flip (plus q.right d.head) (join c.head d.head) q.of_right) top))
+      (multiple_within (Contains (map monic_of (b ∷ []))) (HasMonomial b.poly) c one_ℚ q.left closed hc
+      (there_along b.poly (join c.head d.head) (plus q.left c.head) (same_flip (plus q.left c.head) (join c.head d.head) q.of_left) top))
+      (multiple_within (Contains (map monic_of (b ∷ []))) (HasMonomial b.poly) d (neg_ℚ one_ℚ) q.right closed hd
+      (there_along b.poly (join c.head d.head) (plus q.right d.head) (same_flip (plus q.right d.head) (join c.head d.head) q.of_right) top))
       q.equal
     where
       closed : IsClosed (Contains (map monic_of (b ∷ []))) (HasMonomial b.poly)
@@ -81,10 +89,12 @@ module _ (n : ℕ) (b : MarkedPolynomial) (p : IsBinomialSet (record { variables
 
   pairs_memory : (e : PolyError) → IsPairsRefusal (map monic_of (b ∷ [])) e → e ≡ errors.Memory
   pairs_memory (errors.Overflow o) q = absurd (pairs_fit (map monic_of (b ∷ [])) o (forms_binomial (record { variables = n; items = b ∷ [] }) p) q)
-  pairs_memory (errors.Exponent o) (IsPairCause.s_polynomial c d hc hd r) = absurd (let l = pair_short c d o.left o.right hc hd r.0 in let k = r.1 in omega arith)
+  pairs_memory (errors.Exponent o) (IsPairCause.s_polynomial c d hc hd r) =
+      absurd (let l = pair_short c d o.left o.right hc hd r.0 in let k = r.1 in omega arith)
   pairs_memory (errors.Exponent o) (IsPairCause.reduction c d h hc hd q r) =
       let w = reached_within b.poly (map monic_of (b ∷ [])) h r.0.from g.antichain among (s_polynomial_within c d h hc hd q) r.0.reached in
-      absurd (let l = step_short b.poly (map monic_of (b ∷ [])) r.0.from r.0.at o.left o.right g.antichain g.short among w r.0.sum in let k = r.1 in omega arith)
+      absurd (let l = step_short b.poly (map monic_of (b ∷ [])) r.0.from r.0.at o.left o.right g.antichain g.short among w r.0.sum in let k = r.1 in
+      omega arith)
   pairs_memory errors.Memory q = refl
 
   -- ---- the checks
@@ -96,7 +106,8 @@ module _ (n : ℕ) (b : MarkedPolynomial) (p : IsBinomialSet (record { variables
 
   pub checks_within : n ≤ 3 → HasExponentsUpTo 500 b.poly → AreChecksWithinLimits (record { variables = n; items = b ∷ [] })
   checks_within few low = record {
-    system = marking_within n (b ∷ []) p.variables (p.marked b (Contains-here b []), tt) few (λ d c. subst (λ (z : MarkedPolynomial). HasExponentsUpTo 500 z.poly) (only b d c) low);
+    system = marking_within n (b ∷ []) p.variables (p.marked b (Contains-here b []), tt) few
+        (λ d c. subst (λ (z : MarkedPolynomial). HasExponentsUpTo 500 z.poly) (only b d c) low);
     forms = forms_memory;
     pairs = pairs_memory;
   }
@@ -107,12 +118,14 @@ module _ (n : ℕ) (b : MarkedPolynomial) (p : IsBinomialSet (record { variables
     needed_among : (ks : List MarkedPolynomial) → AreNeededForms t.items ks → AreAmong b.poly ks
     needed_among ks m d c =
         let e = m.inside d c in
-        made e.member d (Contains-permutation t.items (map monic_of (b ∷ [])) e.member (IsPermutation-sym (map monic_of (b ∷ [])) t.items a.members) (e.place, e.needed.at.within, e.needed.at.is)) e.form
+        made e.member d (Contains-permutation t.items (map monic_of (b ∷ [])) e.member (IsPermutation-sym (map monic_of (b ∷ [])) t.items a.members)
+        (e.place, e.needed.at.within, e.needed.at.is)) e.form
 
     pub tails_within : (e : PolyError) → IsAutoreductionRefusal t.items e → e ≡ errors.Memory
     tails_within (errors.Overflow o) r = absurd (monic_forms_fit (record { variables = n; items = b ∷ [] }) t o p a r)
     tails_within (errors.Exponent o) (inl k) = absurd k.0
     tails_within (errors.Exponent o) (inr (ks, m, k)) =
         let i = needed_among ks m in
-        absurd (let l = step_short b.poly ks k.0.from.poly k.0.at o.left o.right g.antichain g.short i (tail_within b.poly ks k.0.from g.antichain i k.0.tail) k.0.sum in let h = k.1 in omega arith)
+        absurd (let l = step_short b.poly ks k.0.from.poly k.0.at o.left o.right g.antichain g.short i (tail_within b.poly ks k.0.from g.antichain i k.0.tail)
+        k.0.sum in let h = k.1 in omega arith)
     tails_within errors.Memory r = refl

@@ -35,9 +35,11 @@ use Rattle.gf_binomial_calls_theory.specs.Laws.{FlipsOfBinomialsFit}
 lift_fits : (bs : List MarkedPolynomial) (h : MarkedPolynomial) (op : Op) (left right : Fraction) → AreMarkedBinomials (Contains bs) → IsMarkedBinomial h →
     IsLiftOperation bs h op left right → Fits op left right
 lift_fits bs h op left right two m (IsLiftOperation.remainder o) = reduction_fits (Contains bs) h.poly op left right two (binomial-marked h m) o
-lift_fits bs h op left right two m (IsLiftOperation.difference r at f e l k) = subst (λ x. Fits x left right) (sym e) (fits-sub 2 2 left right (omega arith) (omega arith)
+lift_fits bs h op left right two m (IsLiftOperation.difference r at f e l k) =
+    subst (λ x. Fits x left right) (sym e) (fits-sub 2 2 left right (omega arith) (omega arith)
     (subst (IsSmallWhole 2) (sym l) (coefficient-small h.poly at (binomial-marked h m)))
-    (subst (IsSmallWhole 2) (sym k) (coefficient-small r at (binomial-reached (Contains bs) h.poly r two (binomial-marked h m) (normal_form-reached bs h.poly r f.reached)))))
+    (subst (IsSmallWhole 2) (sym k) (coefficient-small r at (binomial-reached (Contains bs) h.poly r two (binomial-marked h m)
+    (normal_form-reached bs h.poly r f.reached)))))
 
 -- the monic forms of those that are needed
 pub forms_binomials : (ls ks : List MarkedPolynomial) → AreMarkedBinomials (Contains ls) → AreNeededForms ls ks → AreMarkedBinomials (Contains ks)
@@ -72,7 +74,8 @@ flip_fits n fs k bs a op left right vars gens b f o = at o
     lifts : (hs ls : List MarkedPolynomial) → IsBasisOfParts n bs a hs → AreLifts bs hs ls → AreMarkedBinomials (Contains ls)
     lifts hs ls p m l c =
         let h = matched-from (IsLift bs) hs ls m l c in
-        lift-binomial n fs bs p.along.parts hs a v vars two (facts hs p) p.reduced.tails h.0 l h.2.remainder h.1 (members hs p h.0 h.1) h.2.reached h.2.irreducible h.2.head h.2.poly
+        lift-binomial n fs bs p.along.parts hs a v vars two (facts hs p) p.reduced.tails h.0 l h.2.remainder h.1 (members hs p h.0 h.1)
+        h.2.reached h.2.irreducible h.2.head h.2.poly
 
     at : IsFlipOperation n bs a op left right → Fits op left right
     at (IsFlipOperation.parts gs h r) = run_fits gs (IsFacetBelow (negated_row_of a)) op left right (along_binomials gs h) r

@@ -30,10 +30,12 @@ use Rattle.gf_binomial_calls_theory.proofs.SetLaws.{set_binomials, set_sums}
 pub flips_of_binomials_fit : FlipsOfBinomialsFit
 flips_of_binomials_fit = flip_fits
 
-reduction_narrow : (bs : List MarkedPolynomial) (f : Terms) (o : Overflow) → AreMarkedBinomials (Contains bs) → IsBinomial f → IsReductionRefusal bs f (errors.Overflow o) → ⊥
+reduction_narrow : (bs : List MarkedPolynomial) (f : Terms) (o : Overflow) → AreMarkedBinomials (Contains bs) → IsBinomial f →
+    IsReductionRefusal bs f (errors.Overflow o) → ⊥
 reduction_narrow bs f o m h r = r.1 (reduction_fits (Contains bs) f o.op o.left o.right m h r.0)
 
-basis_narrow : (order : MonomialOrder) (n : ℕ) (fs : List Terms) (budget : ℕ) (o : Overflow) → AreBinomials fs → IsBasisRefusal order n fs budget (basis_errors.Overflow o) → ⊥
+basis_narrow : (order : MonomialOrder) (n : ℕ) (fs : List Terms) (budget : ℕ) (o : Overflow) → AreBinomials fs →
+    IsBasisRefusal order n fs budget (basis_errors.Overflow o) → ⊥
 basis_narrow order n fs budget o h r = r.1 (run_fits fs (below_of order) o.op o.left o.right h r.0)
 
 pub refusals_tell_no_overflow : RefusalsTellNoOverflow
@@ -53,7 +55,19 @@ refusals_tell_no_overflow = record {
 }
 
 pub plain_sets_are_binomials : PlainSetsAreBinomials
-plain_sets_are_binomials = record { meaning = λ n qs ws h r f c. contained_each IsBinomial (written_polynomials ws) (set_binomials n qs ws h r) f c; sums = set_sums }
+plain_sets_are_binomials = record {
+  meaning = λ n qs ws h r f c. contained_each IsBinomial (written_polynomials ws) (set_binomials n qs ws h r) f c;
+  sums = set_sums;
+}
 
 pub limits_are_met : LimitsAreMet
-limits_are_met = record { generators = plain_difference; runs = runs_within; flips = flip_within; search = search_within; small_search = small_search; checks = checks_within; tails = λ n b t e p g a r. tails_within n b p g t a e r; monomials = monomials_within }
+limits_are_met = record {
+  generators = plain_difference;
+  runs = runs_within;
+  flips = flip_within;
+  search = search_within;
+  small_search = small_search;
+  checks = checks_within;
+  tails = λ n b t e p g a r. tails_within n b p g t a e r;
+  monomials = monomials_within;
+}

@@ -1,6 +1,7 @@
 -- Runs and flips of an ideal that one pure difference binomial generates stay within their limits.
 -- To cite: plain_difference, runs_within, flip_within, search_within.
-use Rattle.std.proofs.Common.{◌≡◌, ◌⊎◌, ℕ, zero, suc, ◌+◌, ◌<◌, ◌≤◌, ◌^◌, Bool, true, false, if◌then◌else◌, List, [], ◌∷◌, length, Contains, Some, ℤ, arith, refl, sym, ap, ◌∙◌, subst, inl, inr}
+use Rattle.std.proofs.Common.{◌≡◌, ◌⊎◌, ℕ, zero, suc, ◌+◌, ◌<◌, ◌≤◌, ◌^◌, Bool, true, false, if◌then◌else◌, List, [], ◌∷◌, length, Contains, Some, ℤ, arith}
+use Rattle.std.proofs.Common.{refl, sym, ap, ◌∙◌, subst, inl, inr}
 use Rattle.gf_frac.specs.Fraction.{◌*ℚ◌, neg_ℚ, zero_ℚ, one_ℚ}
 use Rattle.gf_frac.proofs.FractionLaws.{*ℚ-zero}
 use Rattle.gf_exponents_theory.specs.Exponents.{Exponents, entry, same, plus, Divides}
@@ -72,7 +73,17 @@ plain_difference p q f d np nq lp lq = record {
     alike u x y z s h k = cancel x u [] (same_trans (plus u x) y x (same_flip y (plus u x) s) (same_trans y z x k (same_flip x z h)))
 
     multiple : (u x y a b : Exponents) → same y (plus u x) ≡ true → same x a ≡ true → same y b ≡ true → Divides a b
-    multiple u x y a b s h k = record { rest = u; product = same_by_entries b (plus u a) (λ i. omega (arith, entries_same y (plus u x) s i, entries_same x a h i, entries_same y b k i, entry-plus u x i, entry-plus u a i)) }
+    multiple u x y a b s h k = record {
+      rest = u;
+      product = same_by_entries b (plus u a) (λ i. omega (
+        arith,
+        entries_same y (plus u x) s i,
+        entries_same x a h i,
+        entries_same y b k i,
+        entry-plus u x i,
+        entry-plus u a i,
+      ));
+    }
 
     apart : (u x y : Exponents) → same y (plus u x) ≡ true → (same x p ≡ true) ⊎ (same x q ≡ true) → (same y p ≡ true) ⊎ (same y q ≡ true) → same u [] ≡ true
     apart u x y s (inl h) (inl k) = alike u x y p s h k
@@ -105,7 +116,8 @@ pub record IsOnePart (f : Terms) (ps : List MarkedPolynomial) : Type 0 where
   pub alone : ps ≡ part ∷ []
   pub within : IsWithin (HasMonomial f) part.poly
 
-one_part : (f : Terms) (u a : List ℤ) (bs ps : List MarkedPolynomial) → AreAmong f bs → length bs ≤ 1 → IsNormal bs a → Matching (IsLevelPart u) bs ps → IsOnePart f ps
+one_part : (f : Terms) (u a : List ℤ) (bs ps : List MarkedPolynomial) → AreAmong f bs → length bs ≤ 1 → IsNormal bs a → Matching (IsLevelPart u) bs ps →
+    IsOnePart f ps
 one_part f u a [] ps m l k h = absurd (omega (arith, k.1.1))
 one_part f u a (b ∷ []) [] m l k h = elim h [ ]
 one_part f u a (b ∷ []) (p ∷ []) m l k h = record { part = p; alone = refl; within = λ x n. (m b (0, omega arith, refl)).within x (part-there u b p x h.0 n).1 }
@@ -140,7 +152,8 @@ flip_within n f k bs a budget v g b q = record {
 
     one : {fs : List Terms} → (h : AreAlong a bs fs) → IsOnePart f h.parts
     one h = one_part f u a bs h.parts among (basis_short n f bs v b.reduced.basis b.reduced.tails b.reduced.heads) q.inside.normal
-        (matched-map (IsPartAlong a) (IsLevelPart u) bs h.parts (λ d p c i. level_of_along u (negated a) d p side.nonzero side.zero (side.marked d c) (along_negated a d p i)) h.each)
+        (matched-map (IsPartAlong a) (IsLevelPart u) bs h.parts (λ d p c i. level_of_along u (negated a) d p side.nonzero side.zero (side.marked d c)
+        (along_negated a d p i)) h.each)
 
     -- the basis of the part
     hs_within : (hs : List MarkedPolynomial) → IsBasisOfParts n bs a hs → (h : MarkedPolynomial) → Contains hs h → IsWithin (HasMonomial f) h.poly
@@ -154,15 +167,18 @@ flip_within n f k bs a budget v g b q = record {
             (subst (λ (z : List Terms). IsReducedBasisFor n z (IsFacetBelow (negated_row_of a)) hs) p.along.polynomials p.reduced)).basis
 
         form : IsMonicForm o.part.poly h
-        form = basis_forms n o.part.poly hs (λ x m. v x (o.within x m)) (subst (λ (z : List MarkedPolynomial). IsBasis n (polys z) hs) o.alone basis) p.reduced.tails p.reduced.heads h c
+        form = basis_forms n o.part.poly hs (λ x m. v x (o.within x m)) (subst (λ (z : List MarkedPolynomial). IsBasis n (polys z) hs) o.alone basis)
+            p.reduced.tails p.reduced.heads h c
 
     -- the lifts
-    lifts_within : (hs ls : List MarkedPolynomial) → IsBasisOfParts n bs a hs → AreLifts bs hs ls → (l : MarkedPolynomial) → Contains ls l → IsWithin (HasMonomial f) l.poly
+    lifts_within : (hs ls : List MarkedPolynomial) → IsBasisOfParts n bs a hs → AreLifts bs hs ls → (l : MarkedPolynomial) → Contains ls l →
+        IsWithin (HasMonomial f) l.poly
     lifts_within hs ls p m l c = at (matched-from (IsLift bs) hs ls m l c)
       where
         at : ((h : MarkedPolynomial) × Contains hs h × IsLift bs h l) → IsWithin (HasMonomial f) l.poly
         at h = sum_within (HasMonomial f) h.0.poly (times (neg_ℚ one_ℚ) [] h.2.remainder) l.poly inside
-            (λ x t. reached_within f bs h.0.poly h.2.remainder g.antichain among inside h.2.reached x (λ z. t (coefficient-times (neg_ℚ one_ℚ) [] h.2.remainder x ∙ ap (λ y. neg_ℚ one_ℚ *ℚ y) z ∙ *ℚ-zero (neg_ℚ one_ℚ))))
+            (λ x t. reached_within f bs h.0.poly h.2.remainder g.antichain among inside h.2.reached x
+            (λ z. t (coefficient-times (neg_ℚ one_ℚ) [] h.2.remainder x ∙ ap (λ y. neg_ℚ one_ℚ *ℚ y) z ∙ *ℚ-zero (neg_ℚ one_ℚ))))
             h.2.poly
           where
             inside : IsWithin (HasMonomial f) h.0.poly
@@ -181,9 +197,11 @@ flip_within n f k bs a budget v g b q = record {
         run_short facet o.part.poly left right (antichain_within f o.part.poly o.within g.antichain) (short_within f o.part.poly o.within g.short)
         (subst (λ (z : List Terms). IsRunExponents z (IsFacetBelow (negated_row_of a)) left right) (h.polynomials ∙ ap polys o.alone) r)
     exponents left right (IsFlipExponents.lift hs p r) =
-        step_short f bs r.sum.from r.sum.at left right g.antichain g.short among (reached_within f bs r.member.poly r.sum.from g.antichain among (hs_within hs p r.member r.contained) r.sum.reached) r.sum.sum
+        step_short f bs r.sum.from r.sum.at left right g.antichain g.short among
+        (reached_within f bs r.member.poly r.sum.from g.antichain among (hs_within hs p r.member r.contained) r.sum.reached) r.sum.sum
     exponents left right (IsFlipExponents.tail hs ls ks p l m r) =
-        let i = forms_among hs ls ks p l m in step_short f ks r.from.poly r.at left right g.antichain g.short i (tail_within f ks r.from g.antichain i r.tail) r.sum
+        let i = forms_among hs ls ks p l m in step_short f ks r.from.poly r.at left right g.antichain g.short i (tail_within f ks r.from g.antichain i r.tail)
+        r.sum
 
 -- ---- searches
 
@@ -191,7 +209,9 @@ pub search_within : (F : Fan) (f : Terms) (pairs : ℕ) → F.ideal ≡ f ∷ []
     ((v : MarkedPolynomials) (s : ConeOverflow) → IsNodeIn F v → IsConeStep F v s → ⊥) → IsTreeWithinLimits F pairs
 search_within F f pairs e g steps = record {
   flips = λ v a node q. flip_within v.variables f F.region v.items a pairs
-      (subst (λ (z : List Terms). AreInVariables v.variables z) e (subst (λ (n : ℕ). AreInVariables n F.ideal) (sym node.variables) node.fan.ideal) f (0, omega arith, refl)) g
-      (subst (λ (z : List Terms). IsBasisInRegion v.variables z F.region v.items) e (subst (λ (n : ℕ). IsBasisInRegion n F.ideal F.region v.items) (sym node.variables) node.basis)) q;
+      (subst (λ (z : List Terms). AreInVariables v.variables z) e (subst (λ (n : ℕ). AreInVariables n F.ideal) (sym node.variables) node.fan.ideal) f
+      (0, omega arith, refl)) g
+      (subst (λ (z : List Terms). IsBasisInRegion v.variables z F.region v.items) e (subst (λ (n : ℕ). IsBasisInRegion n F.ideal F.region v.items)
+      (sym node.variables) node.basis)) q;
   systems = steps;
 }

@@ -25,8 +25,8 @@ sums_plain : (n : ℕ) (qs : List (List WrittenTerm)) (fs : List Terms) → Each
 sums_plain n [] fs h e = let q : fs ≡ [] = cc in subst (Each (IsPlain n)) (sym q) tt
 sums_plain n (q ∷ qs) fs h e = at (terms_written n q) (sums_of n qs) refl (λ gs k. sums_plain n qs gs h.1 k) refl e
   where
-    at : (r : Result Terms ExponentOverflow) (s : Result (List Terms) ExponentOverflow) → terms_written n q ≡ r → ((gs : List Terms) → sums_of n qs ≡ Ok gs → Each (IsPlain n) gs) →
-        sums_of n qs ≡ s → before_all r s ≡ Ok fs → Each (IsPlain n) fs
+    at : (r : Result Terms ExponentOverflow) (s : Result (List Terms) ExponentOverflow) → terms_written n q ≡ r →
+        ((gs : List Terms) → sums_of n qs ≡ Ok gs → Each (IsPlain n) gs) → sums_of n qs ≡ s → before_all r s ≡ Ok fs → Each (IsPlain n) fs
     at (Ok f) (Ok gs) a next b k = let w : fs ≡ f ∷ gs = cc in subst (Each (IsPlain n)) (sym w) ((q, h.0, a), next gs b)
     at (Ok f) (Err o) a next b k = absurd (cc)
     at (Err o) (Ok gs) a next b k = absurd (cc)
@@ -49,11 +49,25 @@ written_binomials : (n : ℕ) (fs : List Terms) (ws : List Written) → Each (Is
 written_binomials n [] [] h a = tt
 written_binomials n [] (w ∷ ws) h a = absurd a
 written_binomials n (f ∷ fs) [] h a = absurd a
-written_binomials n (f ∷ fs) (written.Zero ∷ ws) h a = (record { first = None; second = None; binomial = record { equation = λ e. sym (+ℚ-neg_ℚ _) } }, written_binomials n fs ws h.1 a.1)
+written_binomials n (f ∷ fs) (written.Zero ∷ ws) h a = (
+  record {
+    first = None;
+    second = None;
+    binomial = record { equation = λ e. sym (+ℚ-neg_ℚ _) };
+  },
+  written_binomials n fs ws h.1 a.1,
+)
 written_binomials n (f ∷ fs) (written.Nonzero m ∷ ws) h a =
-    let b = plain_binomial n h.0.0 f h.0.1 h.0.2 in
-    (record { first = b.first; second = b.second; binomial = binomial_of-equal b.first b.second f m.poly (λ e. sym (a.0.sum e)) b.binomial }, written_binomials n fs ws h.1 a.1)
+    let b = plain_binomial n h.0.0 f h.0.1 h.0.2 in (
+      record {
+        first = b.first;
+        second = b.second;
+        binomial = binomial_of-equal b.first b.second f m.poly (λ e. sym (a.0.sum e)) b.binomial;
+      },
+      written_binomials n fs ws h.1 a.1,
+    )
 
 -- the polynomials that are read are pure difference binomials
-pub set_binomials : (n : ℕ) (qs : List (List WrittenTerm)) (ws : List Written) → ArePlainlyWritten qs → IsWhatRemains n qs ws → Each IsBinomial (written_polynomials ws)
+pub set_binomials : (n : ℕ) (qs : List (List WrittenTerm)) (ws : List Written) → ArePlainlyWritten qs → IsWhatRemains n qs ws →
+    Each IsBinomial (written_polynomials ws)
 set_binomials n qs ws h r = written_binomials n r.sums ws (sums_plain n qs r.sums h r.exponents) r.written

@@ -1,7 +1,8 @@
 -- The systems of the normals of an ideal with one generator, and of the marking of a set, stay in range, where there are at most three
 -- variables and the exponents and the rows of the region are up to 500.
 -- To cite: systems_within, small_search, marking_within.
-use Rattle.std.proofs.Common.{◌≡◌, ℕ, zero, suc, ◌+◌, ◌≤◌, List, [], ◌∷◌, ◌++◌, length, All, Contains, Err, ℤ, pos, ◌-ℤ◌, unsigned_abs, arith, refl, sym, ◌∙◌, subst, inl, inr}
+use Rattle.std.proofs.Common.{◌≡◌, ℕ, zero, suc, ◌+◌, ◌≤◌, List, [], ◌∷◌, ◌++◌, length, All, Contains, Err, ℤ, pos, ◌-ℤ◌, unsigned_abs, arith, refl, sym, ◌∙◌}
+use Rattle.std.proofs.Common.{subst, inl, inr}
 use Rattle.std.proofs.lemmas.Int.{ints}
 use Rattle.std.proofs.lemmas.List.{get_or_default}
 use Rattle.std.proofs.lemmas.List.Elements.{All-nil, All-contains, Contains-get_or, Contains-append_cases}
@@ -61,7 +62,8 @@ unit_up (suc n) (suc i) = up_cons 500 _ _ (omega arith) (unit_up n i)
 pub systems_within : (F : Fan) (f : Terms) → F.ideal ≡ f ∷ [] → F.variables ≤ 3 → HaveEntriesUpTo 500 F.region.rows → HasExponentsUpTo 500 f →
     (v : MarkedPolynomials) (s : ConeOverflow) → IsNodeIn F v → IsConeStep F v s → ⊥
 systems_within F f e few low short v s node step =
-    let q : Cone s ≡ Memory = not_refused (Err (Cone s)) (length rows + 1) c.variables rows (a ∷ []) rows_wide equation_wide step.step (omega (arith, few, node.variables, step.is_cone.variables)) rows_low equation_low in
+    let q : Cone s ≡ Memory = not_refused (Err (Cone s)) (length rows + 1) c.variables rows (a ∷ []) rows_wide equation_wide step.step
+    (omega (arith, few, node.variables, step.is_cone.variables)) rows_low equation_low in
     absurd (cc)
   where
     n : ℕ
@@ -77,7 +79,8 @@ systems_within F f e few low short v s node step =
     a = normal_at c step.place
 
     basis : IsBasisInRegion n (f ∷ []) F.region v.items
-    basis = subst (λ (z : List Terms). IsBasisInRegion n z F.region v.items) e (subst (λ (m : ℕ). IsBasisInRegion m F.ideal F.region v.items) (sym node.variables) node.basis)
+    basis = subst (λ (z : List Terms). IsBasisInRegion n z F.region v.items) e (subst (λ (m : ℕ). IsBasisInRegion m F.ideal F.region v.items)
+        (sym node.variables) node.basis)
 
     inside : AreInVariables n (f ∷ [])
     inside = subst (λ (z : List Terms). AreInVariables n z) e (subst (λ (m : ℕ). AreInVariables m F.ideal) (sym node.variables) node.fan.ideal)
@@ -97,7 +100,8 @@ systems_within F f e few low short v s node step =
             let t = d.2.term in
             let w = canonical d.0 d.1 in
             up_divided 500 k.0 b k.2.0 k.2.1 (subst (UpTo 500) (sym d.2.row)
-            (differences_up 500 d.0.head t.mono (short d.0.head m.there) (short t.mono (monic-monomials f d.0 m t.mono (term_there n d.0.poly t w.variables w.descending d.2.inside)))))
+            (differences_up 500 d.0.head t.mono (short d.0.head m.there)
+            (short t.mono (monic-monomials f d.0 m t.mono (term_there n d.0.poly t w.variables w.descending d.2.inside)))))
 
     normal_long : (b : List ℤ) → IsNormal v.items b → length b ≡ c.variables
     normal_long b k = normal-length n v.items b canonical k ∙ sym step.is_cone.variables
@@ -114,7 +118,8 @@ systems_within F f e few low short v s node step =
     rows_wide : AreRows c.variables rows
     rows_wide = all_by (λ t. length t ≡ c.variables) rows (λ t k. elim (Contains-append_cases (others_of step.place c.normals) c.beside t k) [
       | inl o ↦ normal_long t (other t o)
-      | inr i ↦ All-contains (λ t. length t ≡ n) (F.region.rows ++ units n n) t (region_rows_wide n F.region region_wide) (subst (λ (z : List (List ℤ)). Contains z t) step.is_cone.beside i) ∙ sym step.is_cone.variables
+      | inr i ↦ All-contains (λ t. length t ≡ n) (F.region.rows ++ units n n) t (region_rows_wide n F.region region_wide)
+          (subst (λ (z : List (List ℤ)). Contains z t) step.is_cone.beside i) ∙ sym step.is_cone.variables
     ])
 
     rows_low : HaveEntriesUpTo 500 rows
@@ -130,18 +135,21 @@ systems_within F f e few low short v s node step =
     equation_wide = all_by (λ t. length t ≡ c.variables) (a ∷ []) (λ t k. subst (λ (z : List ℤ). length z ≡ c.variables) (only a t k) (normal_long a is_normal))
 
     equation_low : HaveEntriesUpTo 500 (a ∷ [])
-    equation_low = all_by (All (λ x. unsigned_abs x ≤ 500)) (a ∷ []) (λ t k. subst (λ (z : List ℤ). All (λ x. unsigned_abs x ≤ 500) z) (only a t k) (all_up 500 a (normal_up a is_normal)))
+    equation_low = all_by (All (λ x. unsigned_abs x ≤ 500)) (a ∷ []) (λ t k. subst (λ (z : List ℤ). All (λ x. unsigned_abs x ≤ 500) z) (only a t k)
+        (all_up 500 a (normal_up a is_normal)))
 
 -- so a search over the bases of such an ideal stays within its limits
-pub small_search : (F : Fan) (f : Terms) (pairs : ℕ) → F.ideal ≡ f ∷ [] → IsPlainGenerator f → F.variables ≤ 3 → HaveEntriesUpTo 500 F.region.rows → HasExponentsUpTo 500 f → IsTreeWithinLimits F pairs
+pub small_search : (F : Fan) (f : Terms) (pairs : ℕ) → F.ideal ≡ f ∷ [] → IsPlainGenerator f → F.variables ≤ 3 → HaveEntriesUpTo 500 F.region.rows →
+    HasExponentsUpTo 500 f → IsTreeWithinLimits F pairs
 small_search F f pairs e g few low short = search_within F f pairs e g (systems_within F f e few low short)
 
 -- ---- the marking of a set
 
-pub marking_within : (n : ℕ) (bs : List MarkedPolynomial) → HaveVariables n bs → Each HasMarkedTerm bs → n ≤ 3 → ((b : MarkedPolynomial) → Contains bs b → HasExponentsUpTo 500 b.poly) →
-    IsSystemWithinLimits (record { variables = n; items = bs })
+pub marking_within : (n : ℕ) (bs : List MarkedPolynomial) → HaveVariables n bs → Each HasMarkedTerm bs → n ≤ 3 →
+    ((b : MarkedPolynomial) → Contains bs b → HasExponentsUpTo 500 b.poly) → IsSystemWithinLimits (record { variables = n; items = bs })
 marking_within n bs v m few low o step =
-    let q : Cone o ≡ Memory = not_refused (Err (Cone o)) (length (system_of n bs)) n (system_of n bs) [] (marked_system_wide n bs v m) (All-nil (λ (t : List ℤ). length t ≡ n)) step few rows_low (All-nil (All (λ (x : ℤ). unsigned_abs x ≤ 500))) in
+    let q : Cone o ≡ Memory = not_refused (Err (Cone o)) (length (system_of n bs)) n (system_of n bs) [] (marked_system_wide n bs v m)
+    (All-nil (λ (t : List ℤ). length t ≡ n)) step few rows_low (All-nil (All (λ (x : ℤ). unsigned_abs x ≤ 500))) in
     absurd (cc)
   where
     canonical : AreCanonical n bs
@@ -154,8 +162,10 @@ marking_within n bs v m few low o step =
         at d =
             let t = d.2.term in
             let w = canonical d.0 d.1 in
-            let head = marked_there n d.0 (contained_each (λ (b : MarkedPolynomial). HasVariables n b.poly) bs v d.0 d.1) (contained_each HasMarkedTerm bs m d.0 d.1) in
-            subst (UpTo 500) (sym d.2.row) (differences_up 500 d.0.head t.mono (low d.0 d.1 d.0.head head) (low d.0 d.1 t.mono (term_there n d.0.poly t w.variables w.descending d.2.inside)))
+            let head = marked_there n d.0 (contained_each (λ (b : MarkedPolynomial). HasVariables n b.poly) bs v d.0 d.1)
+            (contained_each HasMarkedTerm bs m d.0 d.1) in
+            subst (UpTo 500) (sym d.2.row) (differences_up 500 d.0.head t.mono (low d.0 d.1 d.0.head head)
+            (low d.0 d.1 t.mono (term_there n d.0.poly t w.variables w.descending d.2.inside)))
 
     rows_low : HaveEntriesUpTo 500 (system_of n bs)
     rows_low = all_by (All (λ x. unsigned_abs x ≤ 500)) (system_of n bs) (λ t k. elim (Contains-append_cases (rows_of_polynomials bs) (units n n) t k) [

@@ -18,7 +18,8 @@ use Rattle.gf_cone.specs.Cones.{normal_at}
 use Rattle.gf_binomial_bases_theory.specs.Laws.{HaveOneMonomial}
 use Rattle.gf_binomial_bases_theory.proofs.LawsHold.{monomial_bases}
 
-pub no_normals : (n : ℕ) (bs : List MarkedPolynomial) (a : List ℤ) → AreCanonical n bs → ((b : MarkedPolynomial) → Contains bs b → HasOneMonomial b) → IsNormal bs a → ⊥
+pub no_normals : (n : ℕ) (bs : List MarkedPolynomial) (a : List ℤ) → AreCanonical n bs → ((b : MarkedPolynomial) → Contains bs b → HasOneMonomial b) →
+    IsNormal bs a → ⊥
 no_normals n bs a k one h = at (row-from bs h.0 h.1)
   where
     at : ((b : MarkedPolynomial) × Contains bs b × IsTermRow b.head b.poly h.0) → ⊥
@@ -32,11 +33,13 @@ no_normals n bs a k one h = at (row-from bs h.0 h.1)
 pub monomials_within : (F : Fan) (pairs : ℕ) → HaveOneMonomial F.ideal → IsTreeWithinLimits F pairs
 monomials_within F pairs one = record {
   flips = λ v a node q. absurd (none v a node q.inside.normal);
-  systems = λ v s node step. none v (normal_at step.cone step.place) node (step.is_cone.normals.only (normal_at step.cone step.place) (Contains-get_or step.cone.normals step.place [] step.inside));
+  systems = λ v s node step. none v (normal_at step.cone step.place) node (step.is_cone.normals.only (normal_at step.cone step.place)
+      (Contains-get_or step.cone.normals step.place [] step.inside));
 }
   where
     none : (v : MarkedPolynomials) (a : List ℤ) → IsNodeIn F v → IsNormal v.items a → ⊥
-    none v a node = no_normals v.variables v.items a basis.arranged.canonical (monomial_bases v.variables F.ideal v.items (subst (λ (n : ℕ). AreInVariables n F.ideal) (sym node.variables) node.fan.ideal) one basis.reduced)
+    none v a node = no_normals v.variables v.items a basis.arranged.canonical
+        (monomial_bases v.variables F.ideal v.items (subst (λ (n : ℕ). AreInVariables n F.ideal) (sym node.variables) node.fan.ideal) one basis.reduced)
       where
         basis : IsBasisInRegion v.variables F.ideal F.region v.items
         basis = subst (λ (n : ℕ). IsBasisInRegion n F.ideal F.region v.items) (sym node.variables) node.basis

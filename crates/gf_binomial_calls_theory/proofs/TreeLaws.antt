@@ -19,8 +19,8 @@ use Rattle.gf_binomials_theory.specs.Binomials.{AreBinomials}
 use Rattle.gf_binomial_calls_theory.proofs.FlipLaws.{flip_fits}
 
 -- a flip of a basis of the ideal, in each region
-pub flip_narrow : (n : ℕ) (fs : List Terms) (k : Region) (bs : List MarkedPolynomial) (a : List ℤ) (budget : ℕ) (o : Overflow) → AreInVariables n fs → AreBinomials fs →
-    IsBasisInRegion n fs k bs → IsFlippable n k bs a → IsFlipRefusal n bs a budget (flips.Overflow o) → ⊥
+pub flip_narrow : (n : ℕ) (fs : List Terms) (k : Region) (bs : List MarkedPolynomial) (a : List ℤ) (budget : ℕ) (o : Overflow) → AreInVariables n fs →
+    AreBinomials fs → IsBasisInRegion n fs k bs → IsFlippable n k bs a → IsFlipRefusal n bs a budget (flips.Overflow o) → ⊥
 flip_narrow n fs k bs a budget o v two b f r = r.1 (flip_fits n fs k bs a o.op o.left o.right v two b f r.0)
 
 pub tree_narrow : (F : Fan) (pairs : ℕ) (o : Overflow) → AreBinomials F.ideal → IsTreeRefusal F pairs (trees.Overflow o) → ⊥

@@ -1,7 +1,8 @@
 -- What plainly written polynomials mean, and that their like terms are added in range.
 -- To cite: plain_binomial, plain_sums.
 use Rattle.std.specs.Ordering.{is_eq}
-use Rattle.std.proofs.Common.{◌≡◌, ◌≢◌, ℕ, ◌+◌, ◌-◌, ◌≤◌, Bool, true, false, if◌then◌else◌, cond, List, [], ◌∷◌, ◌++◌, length, pos, Result, Ok, Err, Some, None, arith, refl, ap, sym, ◌∙◌, subst}
+use Rattle.std.proofs.Common.{◌≡◌, ◌≢◌, ℕ, ◌+◌, ◌-◌, ◌≤◌, Bool, true, false, if◌then◌else◌, cond, List, [], ◌∷◌, ◌++◌, length, pos, Result, Ok, Err, Some, None}
+use Rattle.std.proofs.Common.{arith, refl, ap, sym, ◌∙◌, subst}
 use Rattle.std.proofs.lemmas.List.{length-append}
 use Rattle.gf_frac.specs.Fraction.{Fraction, over, ◌+ℚ◌, neg_ℚ, zero_ℚ, one_ℚ}
 use Rattle.gf_frac.specs.declared.refusal.Overflow.{Overflow}
@@ -39,7 +40,8 @@ two_terms c d (Err o) (Ok y) f e = absurd (cc)
 two_terms c d (Err o) (Err p) f e = absurd (cc)
 
 unit_coefficient : (u : WrittenTerm) → HasNoNumber u → coefficient_of u ≡ signed_fraction u.minus one_ℚ
-unit_coefficient u h = ap (λ z. signed_fraction u.minus (over (pos z) (u.denom - 1))) h.numerator ∙ ap (λ z. signed_fraction u.minus (over (pos 1) (z - 1))) h.denominator
+unit_coefficient u h = ap (λ z. signed_fraction u.minus (over (pos z) (u.denom - 1))) h.numerator ∙
+    ap (λ z. signed_fraction u.minus (over (pos 1) (z - 1))) h.denominator
 
 -- ---- what they mean
 
@@ -54,7 +56,11 @@ minus_at x e = +ℚ-zero _ ∙ at (same e x)
     at false = sym neg-zero
 
 single : (b : Bool) (x : Exponents) → IsBinomial (unit b x ∷ [])
-single false x = record { first = Some x; second = None; binomial = record { equation = λ e. plus_at x e ∙ sym (ap (λ z. indicator (Some x) e +ℚ z) neg-zero ∙ +ℚ-zero _) } }
+single false x = record {
+  first = Some x;
+  second = None;
+  binomial = record { equation = λ e. plus_at x e ∙ sym (ap (λ z. indicator (Some x) e +ℚ z) neg-zero ∙ +ℚ-zero _) };
+}
 single true x = record { first = None; second = Some x; binomial = record { equation = λ e. minus_at x e ∙ sym (zero-+ℚ _) } }
 
 double : (b c : Bool) (x y : Exponents) → b ≢ c → IsBinomial (unit b x ∷ unit c y ∷ [])
@@ -66,7 +72,8 @@ double true false x y n = record {
   second = Some x;
   binomial = record {
     equation = λ e.
-        ap (λ z. z +ℚ coefficient (unit false y ∷ []) e) (sym (+ℚ-zero _) ∙ minus_at x e) ∙ ap (λ z. neg_ℚ (indicator (Some x) e) +ℚ z) (plus_at y e) ∙ +ℚ_comm _ _;
+        ap (λ z. z +ℚ coefficient (unit false y ∷ []) e) (sym (+ℚ-zero _) ∙ minus_at x e) ∙ ap (λ z. neg_ℚ (indicator (Some x) e) +ℚ z) (plus_at y e) ∙
+        +ℚ_comm _ _;
   };
 }
 
@@ -118,7 +125,8 @@ few_units : (f : Terms) (o : Overflow) → AreUnits f → length f ≤ 2 → IsL
 few_units f o h l w =
     let k = front_units w.earlier w.last w.later (subst AreUnits w.split (like_units w.at f h)) in
     let m : length w.earlier ≤ 2 = omega (arith, like_length w.at f, l, ap length w.split, length-append w.earlier (w.last ∷ w.later)) in
-    w.leaves (fits-add (length w.earlier) 1 o.left o.right (omega (arith, m)) (omega arith) (subst (IsSmallWhole (length w.earlier)) (sym w.left) (small_sum w.earlier k.0)) (subst (IsSmallWhole 1) (sym w.right) k.1))
+    w.leaves (fits-add (length w.earlier) 1 o.left o.right (omega (arith, m)) (omega arith) (subst (IsSmallWhole (length w.earlier)) (sym w.left)
+    (small_sum w.earlier k.0)) (subst (IsSmallWhole 1) (sym w.right) k.1))
 
 small_term : (u : WrittenTerm) → HasNoNumber u → IsSmallWhole 1 (coefficient_of u)
 small_term u h = subst (IsSmallWhole 1) (sym (unit_coefficient u h)) (small_unit u.minus)

@@ -71,5 +71,6 @@ pub record RefusalsTellNoOverflow : Type 0 where
 
 -- polynomials that are written plainly are read as pure difference binomials, and no sum of like terms leaves the range
 pub record PlainSetsAreBinomials : Type 0 where
-  pub meaning : (n : ℕ) (qs : List (List WrittenTerm)) (ws : List Written) → ArePlainlyWritten qs → IsWhatRemains n qs ws → AreBinomials (written_polynomials ws)
+  pub meaning : (n : ℕ) (qs : List (List WrittenTerm)) (ws : List Written) → ArePlainlyWritten qs → IsWhatRemains n qs ws →
+      AreBinomials (written_polynomials ws)
   pub sums : (n : ℕ) (qs : List (List WrittenTerm)) (o : Overflow) → ArePlainlyWritten qs → IsCombiningCause n qs (text_errors.Overflow o) → ⊥

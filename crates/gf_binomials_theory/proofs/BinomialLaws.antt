@@ -40,22 +40,27 @@ stepped by p q f g s m h = at (one_of_two p q f s.at h s.there)
     sum : (e : Exponents) → coefficient g e ≡ (indicator p e +ℚ neg_ℚ (indicator q e)) +ℚ neg_ℚ (coefficient f s.at) *ℚ (indicator u e +ℚ neg_ℚ (indicator t e))
     sum e = s.equal e ∙ coefficient-++ f (times (neg_ℚ (coefficient f s.at)) s.rest s.member.poly) e
         ∙ ap (λ z. z +ℚ coefficient (times (neg_ℚ (coefficient f s.at)) s.rest s.member.poly) e) (h.equation e)
-        ∙ ap (λ z. (indicator p e +ℚ neg_ℚ (indicator q e)) +ℚ z) (multiple_of_binomial (neg_ℚ (coefficient f s.at)) s.rest (Some s.member.head) m.tail s.member.poly m.binomial e)
+        ∙ ap (λ z. (indicator p e +ℚ neg_ℚ (indicator q e)) +ℚ z) (multiple_of_binomial (neg_ℚ (coefficient f s.at)) s.rest (Some s.member.head)
+        m.tail s.member.poly m.binomial e)
 
     at : IsFirst p q s.at ⊎ IsFirst q p s.at → Stepped p q s.at t g
     at (inl k) = Stepped.first k.there (record {
       equation = λ e. sum e
-          ∙ ap (λ z. (indicator p e +ℚ neg_ℚ (indicator q e)) +ℚ neg_ℚ z *ℚ (indicator u e +ℚ neg_ℚ (indicator t e))) (first_alone p q f s.at h k.there.one k.other)
+          ∙ ap (λ z. (indicator p e +ℚ neg_ℚ (indicator q e)) +ℚ neg_ℚ z *ℚ (indicator u e +ℚ neg_ℚ (indicator t e)))
+          (first_alone p q f s.at h k.there.one k.other)
           ∙ ap (λ z. (indicator p e +ℚ neg_ℚ (indicator q e)) +ℚ z) (neg_one (indicator u e +ℚ neg_ℚ (indicator t e)))
-          ∙ ap (λ z. (indicator p e +ℚ neg_ℚ (indicator q e)) +ℚ neg_ℚ (z +ℚ neg_ℚ (indicator t e))) (sym (k.there.like e ∙ at_like s.at (plus s.rest s.member.head) e s.divides))
+          ∙ ap (λ z. (indicator p e +ℚ neg_ℚ (indicator q e)) +ℚ neg_ℚ (z +ℚ neg_ℚ (indicator t e)))
+          (sym (k.there.like e ∙ at_like s.at (plus s.rest s.member.head) e s.divides))
           ∙ first_replaced (indicator p e) (indicator q e) (indicator t e);
     })
     at (inr k) = Stepped.second k.there (record {
       equation = λ e. sum e
-          ∙ ap (λ z. (indicator p e +ℚ neg_ℚ (indicator q e)) +ℚ neg_ℚ z *ℚ (indicator u e +ℚ neg_ℚ (indicator t e))) (second_alone p q f s.at h k.other k.there.one)
+          ∙ ap (λ z. (indicator p e +ℚ neg_ℚ (indicator q e)) +ℚ neg_ℚ z *ℚ (indicator u e +ℚ neg_ℚ (indicator t e)))
+          (second_alone p q f s.at h k.other k.there.one)
           ∙ ap (λ z. (indicator p e +ℚ neg_ℚ (indicator q e)) +ℚ z *ℚ (indicator u e +ℚ neg_ℚ (indicator t e))) (neg_ℚ-neg_ℚ one_ℚ)
           ∙ ap (λ z. (indicator p e +ℚ neg_ℚ (indicator q e)) +ℚ z) (one-*ℚ (indicator u e +ℚ neg_ℚ (indicator t e)))
-          ∙ ap (λ z. (indicator p e +ℚ neg_ℚ (indicator q e)) +ℚ (z +ℚ neg_ℚ (indicator t e))) (sym (k.there.like e ∙ at_like s.at (plus s.rest s.member.head) e s.divides))
+          ∙ ap (λ z. (indicator p e +ℚ neg_ℚ (indicator q e)) +ℚ (z +ℚ neg_ℚ (indicator t e)))
+          (sym (k.there.like e ∙ at_like s.at (plus s.rest s.member.head) e s.divides))
           ∙ second_replaced (indicator p e) (indicator q e) (indicator t e);
     })
 
@@ -79,10 +84,14 @@ binomial-s_polynomial b c s hb hc q = record {
   binomial = record {
     equation = λ e. q.equal e
         ∙ coefficient-++ (times one_ℚ q.left b.poly) (times (neg_ℚ one_ℚ) q.right c.poly) e
-        ∙ ap (λ z. z +ℚ coefficient (times (neg_ℚ one_ℚ) q.right c.poly) e) (multiple_of_binomial one_ℚ q.left (Some b.head) hb.tail b.poly hb.binomial e ∙ one-*ℚ _)
-        ∙ ap (λ z. (indicator (Some (plus q.left b.head)) e +ℚ neg_ℚ (indicator r e)) +ℚ z) (multiple_of_binomial (neg_ℚ one_ℚ) q.right (Some c.head) hc.tail c.poly hc.binomial e ∙ neg_one _)
-        ∙ ap (λ z. (z +ℚ neg_ℚ (indicator r e)) +ℚ neg_ℚ (indicator (Some (plus q.right c.head)) e +ℚ neg_ℚ (indicator t e))) (at_like (plus q.left b.head) (join b.head c.head) e q.of_left)
-        ∙ ap (λ z. (indicator (Some (join b.head c.head)) e +ℚ neg_ℚ (indicator r e)) +ℚ neg_ℚ (z +ℚ neg_ℚ (indicator t e))) (at_like (plus q.right c.head) (join b.head c.head) e q.of_right)
+        ∙ ap (λ z. z +ℚ coefficient (times (neg_ℚ one_ℚ) q.right c.poly) e) (multiple_of_binomial one_ℚ q.left (Some b.head) hb.tail b.poly hb.binomial e ∙
+        one-*ℚ _)
+        ∙ ap (λ z. (indicator (Some (plus q.left b.head)) e +ℚ neg_ℚ (indicator r e)) +ℚ z) (multiple_of_binomial (neg_ℚ one_ℚ) q.right (Some c.head)
+        hc.tail c.poly hc.binomial e ∙ neg_one _)
+        ∙ ap (λ z. (z +ℚ neg_ℚ (indicator r e)) +ℚ neg_ℚ (indicator (Some (plus q.right c.head)) e +ℚ neg_ℚ (indicator t e)))
+        (at_like (plus q.left b.head) (join b.head c.head) e q.of_left)
+        ∙ ap (λ z. (indicator (Some (join b.head c.head)) e +ℚ neg_ℚ (indicator r e)) +ℚ neg_ℚ (z +ℚ neg_ℚ (indicator t e)))
+        (at_like (plus q.right c.head) (join b.head c.head) e q.of_right)
         ∙ first_replaced (indicator (Some (join b.head c.head)) e) (indicator r e) (indicator t e);
   };
 }
@@ -101,7 +110,8 @@ binomial-monic f b h m = at (one_of_two h.first h.second f b.head h.binomial m.t
       tail = h.second;
       binomial = record {
         equation = λ e. sym (one-*ℚ _)
-            ∙ ap (λ z. z *ℚ coefficient b.poly e) (sym (first_alone h.first h.second f b.head h.binomial k.there.one k.other)) ∙ m.equation e ∙ h.binomial.equation e
+            ∙ ap (λ z. z *ℚ coefficient b.poly e) (sym (first_alone h.first h.second f b.head h.binomial k.there.one k.other)) ∙ m.equation e ∙
+            h.binomial.equation e
             ∙ ap (λ z. z +ℚ neg_ℚ (indicator h.second e)) (k.there.like e);
       };
     }
@@ -109,7 +119,8 @@ binomial-monic f b h m = at (one_of_two h.first h.second f b.head h.binomial m.t
       tail = h.first;
       binomial = record {
         equation = λ e. sym (neg_ℚ-neg_ℚ _)
-            ∙ ap neg_ℚ (sym (neg_one (coefficient b.poly e)) ∙ ap (λ z. z *ℚ coefficient b.poly e) (sym (second_alone h.first h.second f b.head h.binomial k.other k.there.one)) ∙ m.equation e ∙ h.binomial.equation e)
+            ∙ ap neg_ℚ (sym (neg_one (coefficient b.poly e)) ∙ ap (λ z. z *ℚ coefficient b.poly e)
+            (sym (second_alone h.first h.second f b.head h.binomial k.other k.there.one)) ∙ m.equation e ∙ h.binomial.equation e)
             ∙ turned_round (indicator h.first e) (indicator h.second e)
             ∙ ap (λ z. z +ℚ neg_ℚ (indicator h.first e)) (k.there.like e);
       };
@@ -130,7 +141,8 @@ step_fits by f at Div left right m h o = absurd o
 step_fits by f at Sub left right m h o =
     let b = binomial-marked o.member (m o.member o.place.contained) in
     fits-sub 2 4 left right (omega arith) (omega arith) (subst (IsSmallWhole 2) (sym o.is_left) (coefficient-small f (plus o.rest o.exponents) h))
-    (subst (IsSmallWhole 4) (sym o.is_right) (small-* 2 2 (coefficient f at) (coefficient o.member.poly o.exponents) (coefficient-small f at h) (coefficient-small o.member.poly o.exponents b)))
+    (subst (IsSmallWhole 4) (sym o.is_right) (small-* 2 2 (coefficient f at) (coefficient o.member.poly o.exponents) (coefficient-small f at h)
+    (coefficient-small o.member.poly o.exponents b)))
 step_fits by f at Mul left right m h o = elim o.operands [
   | inl k ↦ fits-mul 2 2 left right (omega arith) (omega arith) (omega arith) (subst (IsSmallWhole 2) (sym k.0) x) (subst (IsSmallWhole 2) (sym k.1) y)
   | inr k ↦ fits-mul 2 2 left right (omega arith) (omega arith) (omega arith) (subst (IsSmallWhole 2) (sym k.0) y) (subst (IsSmallWhole 2) (sym k.1) x)
@@ -148,12 +160,14 @@ reduction_fits by f op left right m h o = step_fits by o.from o.at op left right
 
 multiple-small : (u : Exponents) (b : MarkedPolynomial) (e : Exponents) → IsMarkedBinomial b → IsSmallWhole 2 (coefficient (times one_ℚ u b.poly) e)
 multiple-small u b e h = subst (IsSmallWhole 2) (sym (multiple_of_binomial one_ℚ u (Some b.head) h.tail b.poly h.binomial e ∙ one-*ℚ _))
-    (small-+ 1 1 (indicator (Some (plus u b.head)) e) (neg_ℚ (indicator (shifted u h.tail) e)) (indicator-small (Some (plus u b.head)) e) (small-neg 1 (indicator (shifted u h.tail) e) (indicator-small (shifted u h.tail) e)))
+    (small-+ 1 1 (indicator (Some (plus u b.head)) e) (neg_ℚ (indicator (shifted u h.tail) e)) (indicator-small (Some (plus u b.head)) e)
+    (small-neg 1 (indicator (shifted u h.tail) e) (indicator-small (shifted u h.tail) e)))
 
 pub s_polynomial_fits : (b c : MarkedPolynomial) (op : Op) (left right : Fraction) → IsMarkedBinomial b → IsMarkedBinomial c →
     IsSPolynomialOperation b c op left right → Fits op left right
 s_polynomial_fits b c op left right hb hc o = subst (λ x. Fits x left right) (sym o.is_op)
-    (fits-sub 2 2 left right (omega arith) (omega arith) (subst (IsSmallWhole 2) (sym o.is_left) (multiple-small o.of_b b o.exponents hb)) (subst (IsSmallWhole 2) (sym o.is_right) (multiple-small o.of_c c o.exponents hc)))
+    (fits-sub 2 2 left right (omega arith) (omega arith) (subst (IsSmallWhole 2) (sym o.is_left) (multiple-small o.of_b b o.exponents hb))
+    (subst (IsSmallWhole 2) (sym o.is_right) (multiple-small o.of_c c o.exponents hc)))
 
 pub coefficient-plus_minus : (f : Terms) (x : Exponents) → IsBinomial f → HasMonomial f x → IsPlusMinusOne (coefficient f x)
 coefficient-plus_minus f x h n = at (one_of_two h.first h.second f x h.binomial n)
@@ -164,4 +178,5 @@ coefficient-plus_minus f x h n = at (one_of_two h.first h.second f x h.binomial 
 
 pub monic_fits : (f : Terms) (x : Exponents) (op : Op) (left right : Fraction) → IsBinomial f → IsMonicOperation f x op left right → Fits op left right
 monic_fits f x op left right h o = subst (λ z. Fits z left right) (sym o.is_op)
-    (fits-div 2 left right (omega arith) (subst (IsSmallWhole 2) (sym o.is_left) (coefficient-small f o.exponents h)) (subst IsPlusMinusOne (sym o.is_right) (coefficient-plus_minus f x h o.there)))
+    (fits-div 2 left right (omega arith) (subst (IsSmallWhole 2) (sym o.is_left) (coefficient-small f o.exponents h))
+    (subst IsPlusMinusOne (sym o.is_right) (coefficient-plus_minus f x h o.there)))

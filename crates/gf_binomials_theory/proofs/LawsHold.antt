@@ -8,10 +8,22 @@ use Rattle.gf_binomials_theory.proofs.PrincipalRuns.{work_forms, run_short}
 use Rattle.gf_binomials_theory.proofs.PrincipalBases.{basis_forms, basis_short}
 
 pub binomials_stay_binomials : BinomialsStayBinomials
-binomials_stay_binomials = record { reduction = λ bs. binomial-reached (Contains bs); s_polynomial = binomial-s_polynomial; monic_form = binomial-monic; list = λ fs o. list_binomials fs (below_of o); tail = tail-binomial }
+binomials_stay_binomials = record {
+  reduction = λ bs. binomial-reached (Contains bs);
+  s_polynomial = binomial-s_polynomial;
+  monic_form = binomial-monic;
+  list = λ fs o. list_binomials fs (below_of o);
+  tail = tail-binomial;
+}
 
 pub operations_on_binomials_fit : OperationsOnBinomialsFit
-operations_on_binomials_fit = record { reduction = λ bs. reduction_fits (Contains bs); s_polynomial = s_polynomial_fits; monic_form = monic_fits; tail = tail_fits; run = λ fs o. run_fits fs (below_of o) }
+operations_on_binomials_fit = record {
+  reduction = λ bs. reduction_fits (Contains bs);
+  s_polynomial = s_polynomial_fits;
+  monic_form = monic_fits;
+  tail = tail_fits;
+  run = λ fs o. run_fits fs (below_of o);
+}
 
 pub principal_runs_are_short : PrincipalRunsAreShort
 principal_runs_are_short = record { exponents = run_short; members = λ order f bs a w. (work_forms order f bs a w).1 }

@@ -43,7 +43,8 @@ indicator-small (Some x) e = at (same e x)
 -- ---- a difference
 
 pub binomial_of-small : (p q : Option Exponents) (f : Terms) (e : Exponents) → IsBinomialOf p q f → IsSmallWhole 2 (coefficient f e)
-binomial_of-small p q f e h = subst (IsSmallWhole 2) (sym (h.equation e)) (small-+ 1 1 (indicator p e) (neg_ℚ (indicator q e)) (indicator-small p e) (small-neg 1 (indicator q e) (indicator-small q e)))
+binomial_of-small p q f e h = subst (IsSmallWhole 2) (sym (h.equation e)) (small-+ 1 1 (indicator p e) (neg_ℚ (indicator q e)) (indicator-small p e)
+    (small-neg 1 (indicator q e) (indicator-small q e)))
 
 pub binomial_of-equal : (p q : Option Exponents) (f g : Terms) → SamePolynomial f g → IsBinomialOf p q f → IsBinomialOf p q g
 binomial_of-equal p q f g e h = record { equation = λ x. sym (e x) ∙ h.equation x }
@@ -52,11 +53,13 @@ pub neg-zero : neg_ℚ zero_ℚ ≡ zero_ℚ
 neg-zero = sym (zero-+ℚ (neg_ℚ zero_ℚ)) ∙ +ℚ-neg_ℚ zero_ℚ
 
 -- its coefficient where the first is that monomial, and the second isn't
-pub first_alone : (p q : Option Exponents) (f : Terms) (x : Exponents) → IsBinomialOf p q f → indicator p x ≡ one_ℚ → indicator q x ≡ zero_ℚ → coefficient f x ≡ one_ℚ
+pub first_alone : (p q : Option Exponents) (f : Terms) (x : Exponents) → IsBinomialOf p q f → indicator p x ≡ one_ℚ → indicator q x ≡ zero_ℚ →
+    coefficient f x ≡ one_ℚ
 first_alone p q f x h a b = h.equation x ∙ ap (λ z. z +ℚ neg_ℚ (indicator q x)) a ∙ ap (λ z. one_ℚ +ℚ neg_ℚ z) b ∙ ap (λ z. one_ℚ +ℚ z) neg-zero ∙ +ℚ-zero one_ℚ
 
 -- or the other way round
-pub second_alone : (p q : Option Exponents) (f : Terms) (x : Exponents) → IsBinomialOf p q f → indicator p x ≡ zero_ℚ → indicator q x ≡ one_ℚ → coefficient f x ≡ neg_ℚ one_ℚ
+pub second_alone : (p q : Option Exponents) (f : Terms) (x : Exponents) → IsBinomialOf p q f → indicator p x ≡ zero_ℚ → indicator q x ≡ one_ℚ →
+    coefficient f x ≡ neg_ℚ one_ℚ
 second_alone p q f x h a b = h.equation x ∙ ap (λ z. z +ℚ neg_ℚ (indicator q x)) a ∙ ap (λ z. zero_ℚ +ℚ neg_ℚ z) b ∙ zero-+ℚ _
 
 -- both or none: nothing is there
@@ -104,10 +107,12 @@ multiple_of_binomial c u p q f h e = elim (multiple_or_not u e) [
 -- ---- identities
 
 pub first_replaced : (p q t : Fraction) → (p +ℚ neg_ℚ q) +ℚ neg_ℚ (p +ℚ neg_ℚ t) ≡ t +ℚ neg_ℚ q
-first_replaced = each_q _ (λ a a' k. each_q _ (λ b b' l. each_q _ (λ c c' m. simp overs (over-eq _ _ _ _ (simp dens (simp naturals (diff-eq _ _ _ _ (omega arith))))))))
+first_replaced =
+    each_q _ (λ a a' k. each_q _ (λ b b' l. each_q _ (λ c c' m. simp overs (over-eq _ _ _ _ (simp dens (simp naturals (diff-eq _ _ _ _ (omega arith))))))))
 
 pub second_replaced : (p q t : Fraction) → (p +ℚ neg_ℚ q) +ℚ (q +ℚ neg_ℚ t) ≡ p +ℚ neg_ℚ t
-second_replaced = each_q _ (λ a a' k. each_q _ (λ b b' l. each_q _ (λ c c' m. simp overs (over-eq _ _ _ _ (simp dens (simp naturals (diff-eq _ _ _ _ (omega arith))))))))
+second_replaced =
+    each_q _ (λ a a' k. each_q _ (λ b b' l. each_q _ (λ c c' m. simp overs (over-eq _ _ _ _ (simp dens (simp naturals (diff-eq _ _ _ _ (omega arith))))))))
 
 pub turned_round : (p q : Fraction) → neg_ℚ (p +ℚ neg_ℚ q) ≡ q +ℚ neg_ℚ p
 turned_round = each_q _ (λ a a' k. each_q _ (λ b b' l. simp overs (over-eq _ _ _ _ (simp dens (simp naturals (diff-eq _ _ _ _ (omega arith)))))))

@@ -68,11 +68,13 @@ spans_zero : (f g : Terms) → SamePolynomial f [] → Spans (f ∷ []) g → Sa
 spans_zero f g z s = spans_nothing g (Spans-trans [] (f ∷ []) g (λ p c. Spans.none p (subst (λ (h : Terms). SamePolynomial h []) (only f p c) z)) s)
 
 -- the reduced basis with the monic form at the greatest monomial
-same_as_form : (n : ℕ) (f : Terms) (hs : List MarkedPolynomial) (y : Exponents) → IsInVariables n f → (b : IsBasis n (f ∷ []) hs) → HasReducedTails hs → AreApart hs →
-    IsGreatest (IsWeightedBelow b.marked.0) f y → AreSameBasis hs (monic_at f y ∷ [])
+same_as_form : (n : ℕ) (f : Terms) (hs : List MarkedPolynomial) (y : Exponents) → IsInVariables n f → (b : IsBasis n (f ∷ []) hs) → HasReducedTails hs →
+    AreApart hs → IsGreatest (IsWeightedBelow b.marked.0) f y → AreSameBasis hs (monic_at f y ∷ [])
 same_as_form n f hs y v b t a g = reduced_bases_are_unique.for_order (MonomialOrder.weighted w) n (q.poly ∷ []) hs (q ∷ [])
-    (reduced_by_order n (q.poly ∷ []) hs (IsWeightedBelow w) inside (basis_along n (f ∷ []) (q.poly ∷ []) hs same_ideals b) (weighted-order w).strict weighted t a)
-    (bases_go_by_their_marks.reduced_orders (MonomialOrder.weighted w) n (q.poly ∷ []) positive.0 (q ∷ []) inside (principal_ideal n positive.0 q positive.1 in_ring (positive.2 q (Contains-here q []))) marked)
+    (reduced_by_order n (q.poly ∷ []) hs (IsWeightedBelow w) inside (basis_along n (f ∷ []) (q.poly ∷ []) hs same_ideals b) (weighted-order w).strict weighted t
+    a)
+    (bases_go_by_their_marks.reduced_orders (MonomialOrder.weighted w) n (q.poly ∷ []) positive.0 (q ∷ []) inside
+    (principal_ideal n positive.0 q positive.1 in_ring (positive.2 q (Contains-here q []))) marked)
   where
     w : List ℕ
     w = b.marked.0
@@ -116,14 +118,16 @@ basis_forms n f hs v b t a h c = at ((top_greatest (IsWeightedBelow b.marked.0) 
         by : ((d : MarkedPolynomial) × Contains (q ∷ []) d × IsTwin h d) → IsMonicForm f h
         by d = record {
           there = there_along f q.head h.head (same_flip h.head q.head twin.head) y.1.there;
-          equation = λ x. ap (λ c. c *ℚ coefficient h.poly x) (coefficient-same f h.head q.head twin.head) ∙ ap (λ z. coefficient f q.head *ℚ z) (twin.poly x) ∙ (monic_at-form f y.0 y.1.there).equation x;
+          equation = λ x. ap (λ c. c *ℚ coefficient h.poly x) (coefficient-same f h.head q.head twin.head) ∙ ap (λ z. coefficient f q.head *ℚ z) (twin.poly x) ∙
+              (monic_at-form f y.0 y.1.there).equation x;
         }
           where
             twin : IsTwin h q
             twin = subst (IsTwin h) (sym (only q d.0 d.1)) d.2
 
 -- there is one at most
-pub basis_short : (n : ℕ) (f : Terms) (hs : List MarkedPolynomial) → IsInVariables n f → IsBasis n (f ∷ []) hs → HasReducedTails hs → AreApart hs → length hs ≤ 1
+pub basis_short : (n : ℕ) (f : Terms) (hs : List MarkedPolynomial) → IsInVariables n f → IsBasis n (f ∷ []) hs → HasReducedTails hs → AreApart hs →
+    length hs ≤ 1
 basis_short n f [] v b t a = omega arith
 basis_short n f (h ∷ []) v b t a = omega arith
 basis_short n f (h ∷ k ∷ hs) v b t a = absurd (no ((top_greatest (IsWeightedBelow b.marked.0) (weighted-order b.marked.0)).some f))

@@ -45,10 +45,12 @@ closed-among f bs a m = record {
   lower = λ b c u t n h. there_along f t (plus u t) (same_flip (plus u t) t (same_shift_right t u [] (unraised f u b a (m b c) h))) ((m b c).within t n);
 }
 
-pub reached_within : (f : Terms) (bs : List MarkedPolynomial) (g h : Terms) → IsAntichain f → AreAmong f bs → IsWithin (HasMonomial f) g → Reached (Contains bs) g h → IsWithin (HasMonomial f) h
+pub reached_within : (f : Terms) (bs : List MarkedPolynomial) (g h : Terms) → IsAntichain f → AreAmong f bs → IsWithin (HasMonomial f) g →
+    Reached (Contains bs) g h → IsWithin (HasMonomial f) h
 reached_within f bs g h a m w r = (taken (Contains bs) (HasMonomial f) g h (closed-among f bs a m) w r).within
 
-pub shift_short : (f : Terms) (u : Exponents) (b : MarkedPolynomial) (left right : ℕ) → HasShortExponents f → IsAmong f b → same u [] ≡ true → IsShiftOperation u b.poly left right → left + right < 2 ^ 31
+pub shift_short : (f : Terms) (u : Exponents) (b : MarkedPolynomial) (left right : ℕ) → HasShortExponents f → IsAmong f b → same u [] ≡ true →
+    IsShiftOperation u b.poly left right → left + right < 2 ^ 31
 shift_short f u b left right l m s k = these k.operands
   where
     none : entry u k.variable ≡ 0
@@ -61,13 +63,15 @@ shift_short f u b left right l m s k = these k.operands
     these (inl p) = omega (arith, p.0, p.1, none, short)
     these (inr p) = omega (arith, p.0, p.1, none, short)
 
-pub step_short : (f : Terms) (bs : List MarkedPolynomial) (g : Terms) (at : Exponents) (left right : ℕ) → IsAntichain f → HasShortExponents f → AreAmong f bs → IsWithin (HasMonomial f) g →
-    IsStepExponents (Contains bs) g at left right → left + right < 2 ^ 31
+pub step_short : (f : Terms) (bs : List MarkedPolynomial) (g : Terms) (at : Exponents) (left right : ℕ) → IsAntichain f → HasShortExponents f → AreAmong f bs →
+    IsWithin (HasMonomial f) g → IsStepExponents (Contains bs) g at left right → left + right < 2 ^ 31
 step_short f bs g at left right a l m w o =
     let d = m o.member o.place.contained in
-    shift_short f o.rest o.member left right l d (unraised f o.rest o.member a d (there_along f at (plus o.rest o.member.head) o.place.divides (w at o.place.there))) o.sum
+    shift_short f o.rest o.member left right l d (unraised f o.rest o.member a d (there_along f at (plus o.rest o.member.head) o.place.divides
+    (w at o.place.there))) o.sum
 
-pub tail_within : (f : Terms) (bs : List MarkedPolynomial) (b : MarkedPolynomial) → IsAntichain f → AreAmong f bs → IsTail bs b → IsWithin (HasMonomial f) b.poly
+pub tail_within : (f : Terms) (bs : List MarkedPolynomial) (b : MarkedPolynomial) → IsAntichain f → AreAmong f bs → IsTail bs b →
+    IsWithin (HasMonomial f) b.poly
 tail_within f bs b a m (IsTail.member d c) = (m b c).within
 tail_within f bs c a m (IsTail.step b d t h s n) = reached_within f bs b.poly c.poly a m (tail_within f bs b a m t) (reached-one (Contains bs) b.poly c.poly s)
 
@@ -87,8 +91,10 @@ pub form-among : (f : Terms) (b : MarkedPolynomial) → IsMonicForm f b → IsAm
 form-among f b m = record { head = m.there; within = λ x n. monic-monomials f b m x n }
 
 -- two of them have the same mark
-pub forms_alike : (below : Exponents → Exponents → Type 0) (f : Terms) (b c : MarkedPolynomial) → IsStrict below → IsFormOf below f b → IsFormOf below f c → same c.head b.head ≡ true
-forms_alike below f b c o p q = at (p.marked.tail c.head (form_to f b c.head p.form q.form.there)) (q.marked.tail b.head (form_to f c b.head q.form p.form.there))
+pub forms_alike : (below : Exponents → Exponents → Type 0) (f : Terms) (b c : MarkedPolynomial) → IsStrict below → IsFormOf below f b → IsFormOf below f c →
+    same c.head b.head ≡ true
+forms_alike below f b c o p q = at (p.marked.tail c.head (form_to f b c.head p.form q.form.there))
+    (q.marked.tail b.head (form_to f c b.head q.form p.form.there))
   where
     at : (same c.head b.head ≡ true) ⊎ below c.head b.head → (same b.head c.head ≡ true) ⊎ below b.head c.head → same c.head b.head ≡ true
     at (inl s) k = s
@@ -101,7 +107,8 @@ forms_alike below f b c o p q = at (p.marked.tail c.head (form_to f b c.head p.f
 abbrev IsWhole : Terms → Terms → Type 0
 IsWhole f g = SamePolynomial g f ⊎ SamePolynomial g []
 
-step_whole : (below : Exponents → Exponents → Type 0) (f : Terms) (bs : List MarkedPolynomial) (g h : Terms) → IsAntichain f → AreFormsOf below f bs → IsWhole f g → IsStep (Contains bs) g h → IsWhole f h
+step_whole : (below : Exponents → Exponents → Type 0) (f : Terms) (bs : List MarkedPolynomial) (g h : Terms) → IsAntichain f → AreFormsOf below f bs →
+    IsWhole f g → IsStep (Contains bs) g h → IsWhole f h
 step_whole below f bs g h a m (inr z) s = absurd (s.there (z s.at))
 step_whole below f bs g h a m (inl e) s = inr (λ y.
     s.equal y
@@ -123,29 +130,35 @@ step_whole below f bs g h a m (inl e) s = inr (λ y.
     here : same s.at s.member.head ≡ true
     here = same_trans s.at (plus s.rest s.member.head) s.member.head s.divides (same_shift_right s.member.head s.rest [] none)
 
-reached_whole : (below : Exponents → Exponents → Type 0) (f : Terms) (bs : List MarkedPolynomial) (g h : Terms) → IsAntichain f → AreFormsOf below f bs → IsWhole f g → Reached (Contains bs) g h → IsWhole f h
+reached_whole : (below : Exponents → Exponents → Type 0) (f : Terms) (bs : List MarkedPolynomial) (g h : Terms) → IsAntichain f → AreFormsOf below f bs →
+    IsWhole f g → Reached (Contains bs) g h → IsWhole f h
 reached_whole below f bs g h a m (inl e) (Reached.here k q) = inl (λ y. sym (q y) ∙ e y)
 reached_whole below f bs g h a m (inr z) (Reached.here k q) = inr (λ y. sym (q y) ∙ z y)
 reached_whole below f bs g h a m w (Reached.next k l r s) = step_whole below f bs k h a m (reached_whole below f bs g k a m w r) s
 
 -- the marks of two forms are their least common multiple
 join_alike : (b c : MarkedPolynomial) → same c.head b.head ≡ true → same (join b.head c.head) b.head ≡ true
-join_alike b c s = same_by_entries (join b.head c.head) b.head (λ i. entry-join b.head c.head i ∙ ap (λ z. max (entry b.head i) z) (entries_same c.head b.head s i) ∙ omega arith)
+join_alike b c s = same_by_entries (join b.head c.head) b.head (λ i. entry-join b.head c.head i ∙ ap (λ z. max (entry b.head i) z)
+    (entries_same c.head b.head s i) ∙ omega arith)
 
-raised_none : (b c : MarkedPolynomial) (u v : Exponents) → same c.head b.head ≡ true → same v b.head ≡ true → same (plus u v) (join b.head c.head) ≡ true → same u [] ≡ true
-raised_none b c u v s t h = cancel v u [] (same_trans (plus u v) (join b.head c.head) v h (same_trans (join b.head c.head) b.head v (join_alike b c s) (same_flip v b.head t)))
+raised_none : (b c : MarkedPolynomial) (u v : Exponents) → same c.head b.head ≡ true → same v b.head ≡ true → same (plus u v) (join b.head c.head) ≡ true →
+    same u [] ≡ true
+raised_none b c u v s t h =
+    cancel v u [] (same_trans (plus u v) (join b.head c.head) v h (same_trans (join b.head c.head) b.head v (join_alike b c s) (same_flip v b.head t)))
 
 forms_equal : (f : Terms) (b c : MarkedPolynomial) → IsMonicForm f b → IsMonicForm f c → same c.head b.head ≡ true → SamePolynomial b.poly c.poly
 forms_equal f b c p q s x = *ℚ_cancel (coefficient f b.head) (coefficient b.poly x) (coefficient c.poly x) p.there
     (p.equation x ∙ sym (q.equation x) ∙ ap (λ z. z *ℚ coefficient c.poly x) (coefficient-same f c.head b.head s))
 
-s_polynomial_none : (below : Exponents → Exponents → Type 0) (f : Terms) (b c : MarkedPolynomial) (s : Terms) → IsStrict below → IsFormOf below f b → IsFormOf below f c → IsSPolynomial b c s → SamePolynomial s []
+s_polynomial_none : (below : Exponents → Exponents → Type 0) (f : Terms) (b c : MarkedPolynomial) (s : Terms) → IsStrict below → IsFormOf below f b →
+    IsFormOf below f c → IsSPolynomial b c s → SamePolynomial s []
 s_polynomial_none below f b c s o p q h y =
     h.equal y
     ∙ coefficient-++ (times one_ℚ h.left b.poly) (times (neg_ℚ one_ℚ) h.right c.poly) y
     ∙ ap₂ (λ x z. x +ℚ z)
     (coefficient-times-one one_ℚ h.left b.poly y (raised_none b c h.left b.head alike (same-refl b.head) h.of_left) ∙ one-*ℚ (coefficient b.poly y))
-    (coefficient-times-one (neg_ℚ one_ℚ) h.right c.poly y (raised_none b c h.right c.head alike alike h.of_right) ∙ neg_ℚ-*ℚ one_ℚ (coefficient c.poly y) ∙ ap neg_ℚ (one-*ℚ (coefficient c.poly y) ∙ sym (forms_equal f b c p.form q.form alike y)))
+    (coefficient-times-one (neg_ℚ one_ℚ) h.right c.poly y (raised_none b c h.right c.head alike alike h.of_right) ∙ neg_ℚ-*ℚ one_ℚ (coefficient c.poly y) ∙
+    ap neg_ℚ (one-*ℚ (coefficient c.poly y) ∙ sym (forms_equal f b c p.form q.form alike y)))
     ∙ +ℚ-neg_ℚ (coefficient b.poly y)
   where
     alike : same c.head b.head ≡ true
@@ -153,7 +166,8 @@ s_polynomial_none below f b c s o p q h y =
 
 -- ---- lists of a run
 
-origin_whole : (below : Exponents → Exponents → Type 0) (f : Terms) (bs : List MarkedPolynomial) (g : Terms) → IsStrict below → AreFormsOf below f bs → IsOrigin (f ∷ []) bs g → IsWhole f g
+origin_whole : (below : Exponents → Exponents → Type 0) (f : Terms) (bs : List MarkedPolynomial) (g : Terms) → IsStrict below → AreFormsOf below f bs →
+    IsOrigin (f ∷ []) bs g → IsWhole f g
 origin_whole below f bs g o m (inl c) = at (Contains-cases f g [] c)
   where
     at : (f ≡ g) ⊎ Contains [] g → IsWhole f g
@@ -162,15 +176,20 @@ origin_whole below f bs g o m (inl c) = at (Contains-cases f g [] c)
 origin_whole below f bs g o m (inr (b, c, k, l, h)) = inr (s_polynomial_none below f b c g o (m b k) (m c l) h)
 
 form_whole : (f g : Terms) (b : MarkedPolynomial) → IsWhole f g → IsMonicForm g b → IsMonicForm f b
-form_whole f g b (inl e) m = record { there = λ z. m.there (e b.head ∙ z); equation = λ x. ap (λ c. c *ℚ coefficient b.poly x) (sym (e b.head)) ∙ m.equation x ∙ e x }
+form_whole f g b (inl e) m = record {
+  there = λ z. m.there (e b.head ∙ z);
+  equation = λ x. ap (λ c. c *ℚ coefficient b.poly x) (sym (e b.head)) ∙ m.equation x ∙ e x;
+}
 form_whole f g b (inr z) m = absurd (m.there (z b.head))
 
-first_form : (below : Exponents → Exponents → Type 0) (f : Terms) (bs : List MarkedPolynomial) (b : MarkedPolynomial) → IsStrict below → AreFormsOf below f bs → IsFormOf below f b →
-    (IsDivisible (Contains bs) b.head → ⊥) → length (bs ++ b ∷ []) ≤ 1
+first_form : (below : Exponents → Exponents → Type 0) (f : Terms) (bs : List MarkedPolynomial) (b : MarkedPolynomial) → IsStrict below → AreFormsOf below f bs →
+    IsFormOf below f b → (IsDivisible (Contains bs) b.head → ⊥) → length (bs ++ b ∷ []) ≤ 1
 first_form below f [] b o m p n = omega arith
-first_form below f (c ∷ bs) b o m p n = absurd (n (record { member = c; contained = Contains-here c bs; rest = []; divides = forms_alike below f c b o (m c (Contains-here c bs)) p }))
+first_form below f (c ∷ bs) b o m p n =
+    absurd (n (record { member = c; contained = Contains-here c bs; rest = []; divides = forms_alike below f c b o (m c (Contains-here c bs)) p }))
 
-pub work_forms : (order : MonomialOrder) (f : Terms) (bs : List MarkedPolynomial) → IsAntichain f → IsWorkList (f ∷ []) (below_of order) bs → AreFormsOf (below_of order) f bs × (length bs ≤ 1)
+pub work_forms : (order : MonomialOrder) (f : Terms) (bs : List MarkedPolynomial) → IsAntichain f → IsWorkList (f ∷ []) (below_of order) bs →
+    AreFormsOf (below_of order) f bs × (length bs ≤ 1)
 work_forms order f cs a IsWorkList.start = (λ b c. absurd (omega (arith, c.1)), omega arith)
 work_forms order f cs a (IsWorkList.more bs g h b w o r q m n) = at (work_forms order f bs a w).0
   where
@@ -181,7 +200,10 @@ work_forms order f cs a (IsWorkList.more bs g h b w o r q m n) = at (work_forms 
     at forms = (λ c k. by c (Contains-last bs b c k), first_form (below_of order) f bs b strict forms new n)
       where
         new : IsFormOf (below_of order) f b
-        new = record { form = form_whole f h b (reached_whole (below_of order) f bs g h a forms (origin_whole (below_of order) f bs g strict forms o) r) q; marked = m }
+        new = record {
+          form = form_whole f h b (reached_whole (below_of order) f bs g h a forms (origin_whole (below_of order) f bs g strict forms o) r) q;
+          marked = m;
+        }
 
         by : (c : MarkedPolynomial) → Contains bs c ⊎ (c ≡ b) → IsFormOf (below_of order) f c
         by c (inl k) = forms c k
@@ -196,11 +218,13 @@ whole_within f g (inr z) x n = absurd (n (z x))
 
 -- ---- sums of exponents
 
-pub run_short : (order : MonomialOrder) (f : Terms) (left right : ℕ) → IsAntichain f → HasShortExponents f → IsRunExponents (f ∷ []) (below_of order) left right → left + right < 2 ^ 31
+pub run_short : (order : MonomialOrder) (f : Terms) (left right : ℕ) → IsAntichain f → HasShortExponents f →
+    IsRunExponents (f ∷ []) (below_of order) left right → left + right < 2 ^ 31
 run_short order f left right a l (IsRunExponents.step bs g w o h) =
     let m = work_among order f bs a w in
     step_short f bs h.from h.at left right a l m
-    (reached_within f bs g h.from a m (whole_within f g (origin_whole (below_of order) f bs g (order-is order).strict (work_forms order f bs a w).0 o)) h.reached) h.sum
+    (reached_within f bs g h.from a m (whole_within f g (origin_whole (below_of order) f bs g (order-is order).strict (work_forms order f bs a w).0 o))
+    h.reached) h.sum
 run_short order f left right a l (IsRunExponents.s_polynomial bs b c w k m h) = at h.sum
   where
     p : IsFormOf (below_of order) f b

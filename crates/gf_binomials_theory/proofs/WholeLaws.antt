@@ -74,7 +74,8 @@ sum_at : (a c : ℤ) → unsigned_abs a < 2 ^ 126 → unsigned_abs c < 2 ^ 126 �
 sum_at a c h l = record {
   left = subst InRange (sym (times_one a _ gcd-one)) (record { within = omega (arith, h) });
   right = subst InRange (sym (times_one c _ gcd-one)) (record { within = omega (arith, l) });
-  sum = subst InRange (sym (ap (λ z. z +ℤ c *ℤ pos (1 / gcd 1 1)) (times_one a _ gcd-one) ∙ ap (λ z. a +ℤ z) (times_one c _ gcd-one))) (record { within = omega (arith, abs-sum a c, h, l) });
+  sum = subst InRange (sym (ap (λ z. z +ℤ c *ℤ pos (1 / gcd 1 1)) (times_one a _ gcd-one) ∙ ap (λ z. a +ℤ z) (times_one c _ gcd-one)))
+      (record { within = omega (arith, abs-sum a c, h, l) });
   denominator = subst (λ z. z < 2 ^ 127) (sym (ap (λ z. 1 * (1 / z)) gcd-one)) (omega arith);
 }
 
@@ -84,7 +85,8 @@ product_at a c h = record {
       ap (λ z. int_div a (pos z) *ℤ int_div c (pos (gcd (unsigned_abs c) 1))) (gcd-by_one (unsigned_abs a))
       ∙ ap (λ z. int_div a (pos 1) *ℤ int_div c (pos z)) (gcd-by_one (unsigned_abs c))
       ∙ ap (λ z. z *ℤ int_div c (pos 1)) (by_one a) ∙ ap (λ z. a *ℤ z) (by_one c))) (record { within = h });
-  denominator = subst (λ z. z < 2 ^ 127) (sym (ap (λ z. (1 / z) * (1 / gcd (unsigned_abs a) 1)) (gcd-by_one (unsigned_abs c)) ∙ ap (λ z. (1 / 1) * (1 / z)) (gcd-by_one (unsigned_abs a)))) (omega arith);
+  denominator = subst (λ z. z < 2 ^ 127) (sym (ap (λ z. (1 / z) * (1 / gcd (unsigned_abs a) 1)) (gcd-by_one (unsigned_abs c)) ∙ ap (λ z. (1 / 1) * (1 / z))
+      (gcd-by_one (unsigned_abs a)))) (omega arith);
 }
 
 pub fits-add : (j k : ℕ) (x y : Fraction) → j < 2 ^ 126 → k < 2 ^ 126 → IsSmallWhole j x → IsSmallWhole k y → FitsAdd x y
@@ -104,7 +106,8 @@ fits-mul j k x y lj lk m h l =
     (subst (λ z. FitsProduct h.number z y.num y.den) (sym (den_of j x lj h))
     (subst (λ z. FitsProduct h.number 1 z y.den) (sym (num_of k y lk l))
     (subst (λ z. FitsProduct h.number 1 l.number z) (sym (den_of k y lk l))
-    (product_at h.number l.number (let q : unsigned_abs (h.number *ℤ l.number) ≤ j * k = subst (λ z. z ≤ j * k) (sym (unsigned_abs-mul h.number l.number)) (mul-le-mul h.size l.size) in omega (arith, q, m))))))
+    (product_at h.number l.number (let q : unsigned_abs (h.number *ℤ l.number) ≤ j * k = subst (λ z. z ≤ j * k) (sym (unsigned_abs-mul h.number l.number))
+    (mul-le-mul h.size l.size) in omega (arith, q, m))))))
 
 -- ---- 1 and -1 are their own reciprocals
 

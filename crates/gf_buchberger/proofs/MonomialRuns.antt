@@ -144,7 +144,8 @@ step_leaves : (e : Exponents) (bs : List MarkedPolynomial) (g h : Terms) → Are
 step_leaves e bs g h u s t y =
     t.equal y
     ∙ coefficient-++ g (times (neg_ℚ (coefficient g t.at)) t.rest t.member.poly) y
-    ∙ ap (λ z. coefficient g y +ℚ z) (coefficient-times-one (neg_ℚ (coefficient g t.at)) t.rest t.member.poly y none ∙ ap₂ (λ c x. neg_ℚ c *ℚ x) (there.0 t.at ∙ coefficient_there e t.at there.1) (unit.poly y ∙ sym (there.0 y)))
+    ∙ ap (λ z. coefficient g y +ℚ z) (coefficient-times-one (neg_ℚ (coefficient g t.at)) t.rest t.member.poly y none ∙
+    ap₂ (λ c x. neg_ℚ c *ℚ x) (there.0 t.at ∙ coefficient_there e t.at there.1) (unit.poly y ∙ sym (there.0 y)))
     ∙ opposite (coefficient g y)
   where
     unit : IsUnit e t.member
@@ -164,7 +165,8 @@ reached_small e bs f h u s (Reached.next g k r t) = inr (step_leaves e bs g k u 
 join_same : (e h k : Exponents) → same h e ≡ true → same k e ≡ true → same (join h k) e ≡ true
 join_same e h k p q = same_by_entries (join h k) e (λ i. entry-join h k i ∙ ap₂ max (entries_same h e p i) (entries_same k e q i) ∙ omega arith)
 
-raised_none : (e u : Exponents) (a b c : MarkedPolynomial) → IsUnit e a → IsUnit e b → IsUnit e c → same (plus u a.head) (join b.head c.head) ≡ true → same u [] ≡ true
+raised_none : (e u : Exponents) (a b c : MarkedPolynomial) → IsUnit e a → IsUnit e b → IsUnit e c → same (plus u a.head) (join b.head c.head) ≡ true →
+    same u [] ≡ true
 raised_none e u a b c h p q s = unraised e u a h (same_trans (plus u a.head) (join b.head c.head) e s (join_same e b.head c.head p.head q.head))
 
 s_polynomial_none : (e : Exponents) (b c : MarkedPolynomial) (s : Terms) → IsUnit e b → IsUnit e c → IsSPolynomial b c s → SamePolynomial s []
@@ -187,16 +189,28 @@ origin_small e bs f u (inl c) = at (Contains-cases (unit_monomial e) f [] c)
 origin_small e bs f u (inr (b, c, k, l, h)) = inr (s_polynomial_none e b c f (u b k) (u c l) h)
 
 monic_unit : (e : Exponents) (g : Terms) (b : MarkedPolynomial) → IsSmall e g → IsMonicForm g b → IsUnit e b
-monic_unit e g b s q = record { poly = λ y. sym (one-*ℚ (coefficient b.poly y)) ∙ ap (λ z. z *ℚ coefficient b.poly y) (sym (there.0 b.head ∙ coefficient_there e b.head there.1)) ∙ q.equation y ∙ there.0 y; head = there.1 }
+monic_unit e g b s q = record {
+  poly = λ y. sym (one-*ℚ (coefficient b.poly y)) ∙ ap (λ z. z *ℚ coefficient b.poly y) (sym (there.0 b.head ∙ coefficient_there e b.head there.1)) ∙
+      q.equation y ∙ there.0 y;
+  head = there.1;
+}
   where
     there : SamePolynomial g (unit_monomial e) × (same b.head e ≡ true)
     there = small_there e g b.head s q.there
 
-first_member : (e : Exponents) (bs : List MarkedPolynomial) (b : MarkedPolynomial) → AreUnits e bs → IsUnit e b → (IsDivisible (Contains bs) b.head → ⊥) → length (bs ++ b ∷ []) ≤ 1
+first_member : (e : Exponents) (bs : List MarkedPolynomial) (b : MarkedPolynomial) → AreUnits e bs → IsUnit e b → (IsDivisible (Contains bs) b.head → ⊥) →
+    length (bs ++ b ∷ []) ≤ 1
 first_member e [] b u h n = omega arith
-first_member e (a ∷ bs) b u h n = absurd (n (record { member = a; contained = Contains-here a bs; rest = []; divides = same_trans b.head e a.head h.head (same_flip a.head e (u a (Contains-here a bs)).head) }))
+first_member e (a ∷ bs) b u h n =
+    absurd (n (record {
+      member = a;
+      contained = Contains-here a bs;
+      rest = [];
+      divides = same_trans b.head e a.head h.head (same_flip a.head e (u a (Contains-here a bs)).head);
+    }))
 
-one_more : (e : Exponents) (bs : List MarkedPolynomial) (f g : Terms) (b : MarkedPolynomial) → AreUnits e bs → IsOrigin (unit_monomial e ∷ []) bs f → Reached (Contains bs) f g → IsMonicForm g b → (IsDivisible (Contains bs) b.head → ⊥) → AreUnits e (bs ++ b ∷ []) × (length (bs ++ b ∷ []) ≤ 1)
+one_more : (e : Exponents) (bs : List MarkedPolynomial) (f g : Terms) (b : MarkedPolynomial) → AreUnits e bs → IsOrigin (unit_monomial e ∷ []) bs f →
+    Reached (Contains bs) f g → IsMonicForm g b → (IsDivisible (Contains bs) b.head → ⊥) → AreUnits e (bs ++ b ∷ []) × (length (bs ++ b ∷ []) ≤ 1)
 one_more e bs f g b units o r q n = (λ c k. at c (Contains-last bs b c k), first_member e bs b units unit n)
   where
     unit : IsUnit e b
@@ -206,13 +220,16 @@ one_more e bs f g b units o r q n = (λ c k. at c (Contains-last bs b c k), firs
     at c (inl k) = units c k
     at c (inr p) = subst (IsUnit e) (sym p) unit
 
-work_units : (e : Exponents) (below : Exponents → Exponents → Type 0) (bs : List MarkedPolynomial) → IsWorkList (unit_monomial e ∷ []) below bs → AreUnits e bs × (length bs ≤ 1)
+work_units : (e : Exponents) (below : Exponents → Exponents → Type 0) (bs : List MarkedPolynomial) → IsWorkList (unit_monomial e ∷ []) below bs →
+    AreUnits e bs × (length bs ≤ 1)
 work_units e below cs IsWorkList.start = (λ b c. absurd (omega (arith, c.1)), omega arith)
 work_units e below cs (IsWorkList.more bs f g b w o r q m n) = one_more e bs f g b (work_units e below bs w).0 o r q n
 
 -- no step is taken at an unmarked term
-no_tail : (e : Exponents) (bs : List MarkedPolynomial) (b c : MarkedPolynomial) → IsUnit e b → (s : IsStep (Contains bs) b.poly c.poly) → same s.at b.head ≡ false → ⊥
-no_tail e bs b c unit s n = let x : same s.at b.head ≡ true = same_trans s.at e b.head (small_there e b.poly s.at (inl unit.poly) s.there).1 (same_flip b.head e unit.head) in absurd (cc)
+no_tail : (e : Exponents) (bs : List MarkedPolynomial) (b c : MarkedPolynomial) → IsUnit e b → (s : IsStep (Contains bs) b.poly c.poly) →
+    same s.at b.head ≡ false → ⊥
+no_tail e bs b c unit s n = let x : same s.at b.head ≡ true =
+    same_trans s.at e b.head (small_there e b.poly s.at (inl unit.poly) s.there).1 (same_flip b.head e unit.head) in absurd (cc)
 
 tail_unit : (e : Exponents) (bs : List MarkedPolynomial) (b : MarkedPolynomial) → AreUnits e bs → IsTail bs b → IsUnit e b
 tail_unit e bs c u (IsTail.member b k) = u b k
@@ -220,9 +237,12 @@ tail_unit e bs d u (IsTail.step b c t h s n) = absurd (no_tail e bs b c (tail_un
 
 -- ---- operations
 
-step_fits : (e : Exponents) (bs : List MarkedPolynomial) (f : Terms) (at : Exponents) (op : Op) (left right : Fraction) → AreUnits e bs → IsSmall e f → IsStepOperation (Contains bs) f at op left right → Fits op left right
+step_fits : (e : Exponents) (bs : List MarkedPolynomial) (f : Terms) (at : Exponents) (op : Op) (left right : Fraction) → AreUnits e bs → IsSmall e f →
+    IsStepOperation (Contains bs) f at op left right → Fits op left right
 step_fits e bs f at Add left right u s h = absurd h
-step_fits e bs f at Sub left right u s h = sub_fits left right (subst IsBit (sym h.is_left) (small_bit e f s (plus h.rest h.exponents))) (subst IsBit (sym h.is_right) (bit_product (coefficient f at) (coefficient h.member.poly h.exponents) (small_bit e f s at) (small_bit e h.member.poly (inl (u h.member h.place.contained).poly) h.exponents)))
+step_fits e bs f at Sub left right u s h = sub_fits left right (subst IsBit (sym h.is_left) (small_bit e f s (plus h.rest h.exponents)))
+    (subst IsBit (sym h.is_right) (bit_product (coefficient f at) (coefficient h.member.poly h.exponents) (small_bit e f s at)
+    (small_bit e h.member.poly (inl (u h.member h.place.contained).poly) h.exponents)))
 step_fits e bs f at Mul left right u s h = these h.operands
   where
     x : IsBit (coefficient f at)
@@ -236,7 +256,8 @@ step_fits e bs f at Mul left right u s h = these h.operands
     these (inr p) = mul_fits left right (subst IsBit (sym p.0) y) (subst IsBit (sym p.1) x)
 step_fits e bs f at Div left right u s h = absurd h
 
-s_polynomial_fits : (e : Exponents) (b c : MarkedPolynomial) (op : Op) (left right : Fraction) → IsUnit e b → IsUnit e c → IsSPolynomialOperation b c op left right → Fits op left right
+s_polynomial_fits : (e : Exponents) (b c : MarkedPolynomial) (op : Op) (left right : Fraction) → IsUnit e b → IsUnit e c →
+    IsSPolynomialOperation b c op left right → Fits op left right
 s_polynomial_fits e b c op left right p q h = subst (λ o. Fits o left right) (sym h.is_op) (sub_fits left right
     (subst IsBit (sym (h.is_left ∙ plain b h.of_b (raised_none e h.of_b b b c p p q h.shift_b))) (small_bit e b.poly (inl p.poly) h.exponents))
     (subst IsBit (sym (h.is_right ∙ plain c h.of_c (raised_none e h.of_c c b c q p q h.shift_c))) (small_bit e c.poly (inl q.poly) h.exponents)))
@@ -244,7 +265,8 @@ s_polynomial_fits e b c op left right p q h = subst (λ o. Fits o left right) (s
     plain : (a : MarkedPolynomial) (u : Exponents) → same u [] ≡ true → coefficient (times one_ℚ u a.poly) h.exponents ≡ coefficient a.poly h.exponents
     plain a u s = coefficient-times-one one_ℚ u a.poly h.exponents s ∙ one-*ℚ (coefficient a.poly h.exponents)
 
-operation_fits : (e : Exponents) (below : Exponents → Exponents → Type 0) (op : Op) (left right : Fraction) → IsRunOperation (unit_monomial e ∷ []) below op left right → Fits op left right
+operation_fits : (e : Exponents) (below : Exponents → Exponents → Type 0) (op : Op) (left right : Fraction) →
+    IsRunOperation (unit_monomial e ∷ []) below op left right → Fits op left right
 operation_fits e below op left right (IsRunOperation.step bs f w o h) =
     let u = (work_units e below bs w).0 in
     step_fits e bs h.from h.at op left right u (reached_small e bs f h.from u (origin_small e bs f u o) h.reached) h.operation
@@ -254,7 +276,8 @@ operation_fits e below op left right (IsRunOperation.monic bs f g at w o r k n h
     let u = (work_units e below bs w).0 in
     let s = reached_small e bs f g u (origin_small e bs f u o) r in
     let there = small_there e g at s h.there in
-    subst (λ p. Fits p left right) (sym h.is_op) (div_fits left right (subst IsBit (sym h.is_left) (small_bit e g s h.exponents)) (h.is_right ∙ there.0 at ∙ coefficient_there e at there.1))
+    subst (λ p. Fits p left right) (sym h.is_op) (div_fits left right (subst IsBit (sym h.is_left) (small_bit e g s h.exponents))
+    (h.is_right ∙ there.0 at ∙ coefficient_there e at there.1))
 operation_fits e below op left right (IsRunOperation.tail bs b at w t n h) =
     let u = (work_units e below bs w).0 in step_fits e bs b.poly at op left right u (inl (tail_unit e bs b u t).poly) h
 
@@ -263,7 +286,8 @@ operation_fits e below op left right (IsRunOperation.tail bs b at w t n h) =
 abbrev AreShort : Exponents → Type 0
 AreShort e = (i : ℕ) → entry e i < 2 ^ 31
 
-shift_fits : (e u : Exponents) (b : MarkedPolynomial) (left right : ℕ) → AreShort e → IsUnit e b → same u [] ≡ true → IsShiftOperation u b.poly left right → left + right < 2 ^ 31
+shift_fits : (e u : Exponents) (b : MarkedPolynomial) (left right : ℕ) → AreShort e → IsUnit e b → same u [] ≡ true → IsShiftOperation u b.poly left right →
+    left + right < 2 ^ 31
 shift_fits e u b left right l h s k = these k.operands
   where
     none : entry u k.variable ≡ 0
@@ -276,12 +300,15 @@ shift_fits e u b left right l h s k = these k.operands
     these (inl p) = omega (arith, p.0, p.1, none, there, l k.variable)
     these (inr p) = omega (arith, p.0, p.1, none, there, l k.variable)
 
-step_sum_fits : (e : Exponents) (bs : List MarkedPolynomial) (f : Terms) (at : Exponents) (left right : ℕ) → AreShort e → AreUnits e bs → IsSmall e f → IsStepExponents (Contains bs) f at left right → left + right < 2 ^ 31
+step_sum_fits : (e : Exponents) (bs : List MarkedPolynomial) (f : Terms) (at : Exponents) (left right : ℕ) → AreShort e → AreUnits e bs → IsSmall e f →
+    IsStepExponents (Contains bs) f at left right → left + right < 2 ^ 31
 step_sum_fits e bs f at left right l u s h =
     let there = (small_there e f at s h.place.there).1 in
-    shift_fits e h.rest h.member left right l (u h.member h.place.contained) (unraised e h.rest h.member (u h.member h.place.contained) (same_trans (plus h.rest h.member.head) at e (same_flip at (plus h.rest h.member.head) h.place.divides) there)) h.sum
+    shift_fits e h.rest h.member left right l (u h.member h.place.contained) (unraised e h.rest h.member (u h.member h.place.contained)
+    (same_trans (plus h.rest h.member.head) at e (same_flip at (plus h.rest h.member.head) h.place.divides) there)) h.sum
 
-sum_fits : (e : Exponents) (below : Exponents → Exponents → Type 0) (left right : ℕ) → AreShort e → IsRunExponents (unit_monomial e ∷ []) below left right → left + right < 2 ^ 31
+sum_fits : (e : Exponents) (below : Exponents → Exponents → Type 0) (left right : ℕ) → AreShort e → IsRunExponents (unit_monomial e ∷ []) below left right →
+    left + right < 2 ^ 31
 sum_fits e below left right l (IsRunExponents.step bs f w o h) =
     let u = (work_units e below bs w).0 in
     step_sum_fits e bs h.from h.at left right l u (reached_small e bs f h.from u (origin_small e bs f u o) h.reached) h.sum

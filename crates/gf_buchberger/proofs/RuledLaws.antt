@@ -1,7 +1,8 @@
 -- Runs by the rule of the program: what refuses one is an operation of it, and where its operations stay within limits only memory may be wanting.
 -- Such a run is a run of Buchberger's algorithm.
 -- To cite: ruled_generators_stop, ruled_stop, ruled_tails_stop, if_within_rule, not_of_numbers; run_of_ruled, ruled_within_limits. The rest are steps.
-use Rattle.std.specs.Prelude.{◌≡◌, ◌⊎◌, ℕ, zero, suc, ◌+◌, ◌<◌, ◌≤◌, Bool, true, false, List, [], ◌∷◌, length, sum_by, slice_index_or, Contains, Result, Ok, Err, IfErr}
+use Rattle.std.specs.Prelude.{◌≡◌, ◌⊎◌, ℕ, zero, suc, ◌+◌, ◌<◌, ◌≤◌, Bool, true, false, List, [], ◌∷◌, length, sum_by, slice_index_or, Contains, Result, Ok}
+use Rattle.std.specs.Prelude.{Err, IfErr}
 use Rattle.std.proofs.Common.{arith, refl, sym, ap, ◌∙◌, subst, inl, inr}
 use Rattle.std.proofs.lemmas.List.Sums.{sum_by-cons}
 use Rattle.gf_frac.specs.Fraction.{Fraction}
@@ -26,7 +27,8 @@ use Rattle.gf_buchberger.specs.declared.queue.Waiting.{Waiting}
 use Rattle.gf_buchberger.specs.declared.runs.Run.{Run}
 use Rattle.gf_buchberger.specs.declared.runs.Stop.{Stop}
 use Rattle.gf_buchberger.specs.declared.runs.Stop.TheVariants as stops
-use Rattle.gf_buchberger.specs.Bases.{AreRunsWithinLimits, IsWantOfMemory, is_of_numbers, IsRuledRefusal, IsRuledRunRefusal, IsSpentAnswer, IsStopAnswer, of_poly_error}
+use Rattle.gf_buchberger.specs.Bases.{AreRunsWithinLimits, IsWantOfMemory, is_of_numbers, IsRuledRefusal, IsRuledRunRefusal, IsSpentAnswer, IsStopAnswer}
+use Rattle.gf_buchberger.specs.Bases.{of_poly_error}
 use Rattle.gf_buchberger.specs.Generators.{IsRefusedEntry}
 use Rattle.gf_buchberger.specs.Jobs.{HaveRingVariables}
 use Rattle.gf_buchberger.specs.Pairs.{PairMarks, IsPairTable, pairs_below, place, one_if, is_settled, settled_count}

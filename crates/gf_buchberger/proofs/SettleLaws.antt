@@ -19,7 +19,8 @@ use Rattle.gf_buchberger.specs.Progress.{IsSettling, IsWorkedThrough, IsStop}
 use Rattle.gf_buchberger.specs.Ruled.{IsRuled}
 use Rattle.gf_buchberger.specs.declared.runs.Stop.TheVariants as stops
 use Rattle.gf_buchberger.specs.Pairs.{PairMarks, IsPairTable, is_settled, settled_count, with_settled}
-use Rattle.gf_buchberger.specs.Runs.{AreReducers, State, with_pair, IsWaiting, IsState, IsRun, IsAppended, CountsAsSettled, IsExcused, IsPairWorkedOff, IsSettledBy, IsSettlingRefusal, IsSomeRun}
+use Rattle.gf_buchberger.specs.Runs.{AreReducers, State, with_pair, IsWaiting, IsState, IsRun, IsAppended, CountsAsSettled, IsExcused, IsPairWorkedOff}
+use Rattle.gf_buchberger.specs.Runs.{IsSettledBy, IsSettlingRefusal, IsSomeRun}
 use Rattle.gf_buchberger.proofs.PairsLaws.{settled_count-settle, settled_count-member, settled-member_old, IsPairTable-member}
 use Rattle.gf_buchberger.proofs.JobLaws.{run_reducers}
 use Rattle.gf_buchberger.proofs.RunSteps.{state_eq, excused_pair, reduced_pair, run-permuted, run-settled, length-last, contained_old}
@@ -27,8 +28,9 @@ use Rattle.gf_buchberger.proofs.RunSteps.{state_eq, excused_pair, reduced_pair, 
 -- ---- the run so far
 
 -- a pair taken out of the queue
-pub settling-popped : (order : MonomialOrder) (old : State) (members : List MarkedPolynomial) (table : PairMarks) (strategy : Strategy) (queue rest : List Waiting) (w : Waiting) (done : ℕ) →
-    IsPermutation queue (w ∷ rest) → IsSettling order old (record { members = members; table = table; queue = queue; strategy = strategy }) done →
+pub settling-popped : (order : MonomialOrder) (old : State) (members : List MarkedPolynomial) (table : PairMarks) (strategy : Strategy)
+    (queue rest : List Waiting) (w : Waiting) (done : ℕ) → IsPermutation queue (w ∷ rest) →
+    IsSettling order old (record { members = members; table = table; queue = queue; strategy = strategy }) done →
     IsSettling order old (with_pair w (record { members = members; table = table; queue = rest; strategy = strategy })) done
 settling-popped order old members table strategy queue rest w done p s = record {
   run =
@@ -51,7 +53,8 @@ pub record IsNext (order : MonomialOrder) (s : State) (w : Waiting) : Type 0 whe
   pub member : w.second < s.table.members
   pub reducers : AreReducers order s.members
 
-pub is_next : (order : MonomialOrder) (old s : State) (w : Waiting) (done : ℕ) → IsSomeRun order old → IsSettling order old (with_pair w s) done → IsNext order s w
+pub is_next : (order : MonomialOrder) (old s : State) (w : Waiting) (done : ℕ) → IsSomeRun order old → IsSettling order old (with_pair w s) done →
+    IsNext order s w
 is_next order old s w done some h = record {
   state = record { table = run.state.table; size = run.state.size; valid = λ v c. run.state.valid v (Contains-there w v s.queue c) };
   pair = valid.0;
@@ -77,15 +80,19 @@ run-passed order n fs s w e r = record {
   waiting = λ i j l m. stays i j (r.waiting i j l m);
 }
   where
-    moved : (v : Waiting) → w ≡ v → (is_settled s.table w.first w.second ≡ true) ⊎ IsCovered s.members w.first w.second → (is_settled s.table v.first v.second ≡ true) ⊎ IsWaiting s.queue v.first v.second ⊎ IsCovered s.members v.first v.second
+    moved : (v : Waiting) → w ≡ v → (is_settled s.table w.first w.second ≡ true) ⊎ IsCovered s.members w.first w.second →
+        (is_settled s.table v.first v.second ≡ true) ⊎ IsWaiting s.queue v.first v.second ⊎ IsCovered s.members v.first v.second
     moved v q (inl k) = inl (subst (λ (z : Waiting). is_settled s.table z.first z.second ≡ true) q k)
     moved v q (inr k) = inr (inr (subst (λ (z : Waiting). IsCovered s.members z.first z.second) q k))
 
-    place : (i j : ℕ) (v : Waiting) → v.first ≡ i → v.second ≡ j → (w ≡ v) ⊎ Contains s.queue v → (is_settled s.table i j ≡ true) ⊎ IsWaiting s.queue i j ⊎ IsCovered s.members i j
-    place i j v f g (inl q) = subst (λ (z : ℕ). (is_settled s.table z j ≡ true) ⊎ IsWaiting s.queue z j ⊎ IsCovered s.members z j) f (subst (λ (z : ℕ). (is_settled s.table v.first z ≡ true) ⊎ IsWaiting s.queue v.first z ⊎ IsCovered s.members v.first z) g (moved v q e))
+    place : (i j : ℕ) (v : Waiting) → v.first ≡ i → v.second ≡ j → (w ≡ v) ⊎ Contains s.queue v →
+        (is_settled s.table i j ≡ true) ⊎ IsWaiting s.queue i j ⊎ IsCovered s.members i j
+    place i j v f g (inl q) = subst (λ (z : ℕ). (is_settled s.table z j ≡ true) ⊎ IsWaiting s.queue z j ⊎ IsCovered s.members z j) f
+        (subst (λ (z : ℕ). (is_settled s.table v.first z ≡ true) ⊎ IsWaiting s.queue v.first z ⊎ IsCovered s.members v.first z) g (moved v q e))
     place i j v f g (inr c) = inr (inl (record { pair = v; contained = c; first = f; second = g }))
 
-    stays : (i j : ℕ) → (is_settled s.table i j ≡ true) ⊎ IsWaiting (w ∷ s.queue) i j ⊎ IsCovered s.members i j → (is_settled s.table i j ≡ true) ⊎ IsWaiting s.queue i j ⊎ IsCovered s.members i j
+    stays : (i j : ℕ) → (is_settled s.table i j ≡ true) ⊎ IsWaiting (w ∷ s.queue) i j ⊎ IsCovered s.members i j →
+        (is_settled s.table i j ≡ true) ⊎ IsWaiting s.queue i j ⊎ IsCovered s.members i j
     stays i j (inl q) = inl q
     stays i j (inr (inl v)) = place i j v.pair v.first v.second (Contains-cases w v.pair s.queue v.contained)
     stays i j (inr (inr c)) = inr (inr c)
@@ -135,7 +142,8 @@ worked order old mid w n (inr h) = elim h.left [
 excused_beside : (w : Waiting) (s : State) (i j : ℕ) → IsExcused s i j → IsExcused (with_pair w s) i j
 excused_beside w s i j (inl h) = inl h
 excused_beside w s i j (inr (inl h)) = inr (inl h)
-excused_beside w s i j (inr (inr (k, h))) = inr (inr (k, record { inside = h.inside; divides = h.divides; left = counts_beside w s i k h.left; right = counts_beside w s k j h.right }))
+excused_beside w s i j (inr (inr (k, h))) =
+    inr (inr (k, record { inside = h.inside; divides = h.divides; left = counts_beside w s i k h.left; right = counts_beside w s k j h.right }))
   where
     counts_beside : (w : Waiting) (s : State) (p q : ℕ) → CountsAsSettled s p q → CountsAsSettled (with_pair w s) p q
     counts_beside w s p q (inl h) = inl h
@@ -143,8 +151,15 @@ excused_beside w s i j (inr (inr (k, h))) = inr (inr (k, record { inside = h.ins
     counts_beside w s p q (inr (inr h)) = inr (inr h)
 
 -- the pair is settled in the middle, and the run goes on there
-worked-run : (order : MonomialOrder) (n : ℕ) (fs : List Terms) (old mid : State) (w : Waiting) → IsRun order n fs (with_pair w old) → IsPairWorkedOff order old mid w.first w.second → IsRun order n fs (with_pair w mid) × ((b c : MarkedPolynomial) → IsAt mid.members w.first b → IsAt mid.members w.second c → IsSettledPair n mid.members (below_of order) b c)
-worked-run order n fs old mid w r (inl (x, e)) = subst (λ (s : State). IsRun order n fs (with_pair w s) × ((b c : MarkedPolynomial) → IsAt s.members w.first b → IsAt s.members w.second c → IsSettledPair n s.members (below_of order) b c)) (sym e) (r, λ b c p q. excused_pair order n fs (with_pair w old) w.first w.second b c r (excused_beside w old w.first w.second x) p q)
+worked-run : (order : MonomialOrder) (n : ℕ) (fs : List Terms) (old mid : State) (w : Waiting) → IsRun order n fs (with_pair w old) →
+    IsPairWorkedOff order old mid w.first w.second → IsRun order n fs (with_pair w mid) × ((b c : MarkedPolynomial) → IsAt mid.members w.first b →
+    IsAt mid.members w.second c → IsSettledPair n mid.members (below_of order) b c)
+worked-run order n fs old mid w r (inl (x, e)) = subst (λ (s : State). IsRun order n fs (with_pair w s) × ((b c : MarkedPolynomial) → IsAt s.members w.first b →
+    IsAt s.members w.second c → IsSettledPair n s.members (below_of order) b c)) (sym e) (
+      r,
+      λ b c p q. excused_pair order n fs (with_pair w old)
+          w.first w.second b c r (excused_beside w old w.first w.second x) p q,
+    )
 worked-run order n fs old mid w r (inr h) = reduced_pair order n fs w old mid r h
 
 middle_table : (order : MonomialOrder) (old mid : State) (i j : ℕ) → IsPairTable old.table → IsPairWorkedOff order old mid i j → IsPairTable mid.table
@@ -176,7 +191,11 @@ settling-more order start old new w done next first u h b = subst (λ (s : State
   ruled = λ k fs r. subst (IsRuled k order fs (length fs)) whole (IsRuled.settled w old new (h.ruled k fs r) first b);
   kept = λ d c. k.kept d (h.kept d c);
   members = omega (arith, k.members, h.members);
-  count = settled_count-settle b.middle.table w.first w.second table next.pair (omega (arith, k.size, next.member)) (k.unsettled ∙ u) ∙ omega (arith, k.count, h.count);
+  count = settled_count-settle b.middle.table w.first w.second table next.pair (omega (arith, k.size, next.member)) (k.unsettled ∙ u) ∙ omega (
+    arith,
+    k.count,
+    h.count,
+  );
 })
   where
     k : IsWorked old b.middle w
@@ -185,7 +204,12 @@ settling-more order start old new w done next first u h b = subst (λ (s : State
     table : IsPairTable b.middle.table
     table = middle_table order old b.middle w.first w.second next.state.table b.worked
 
-    whole : new ≡ record { members = b.middle.members; table = with_settled b.middle.table w.first w.second; queue = b.middle.queue; strategy = b.middle.strategy }
+    whole : new ≡ record {
+      members = b.middle.members;
+      table = with_settled b.middle.table w.first w.second;
+      queue = b.middle.queue;
+      strategy = b.middle.strategy;
+    }
     whole = settled-whole order old new w b
 
 -- ---- fewer are left
@@ -200,37 +224,43 @@ less a b k m q r e l h = omega arith
 pub below : (a b : ℕ) → a ≤ b → a ≢ b → a < b
 below a b l n = elim (cases_lt a b) [ inl m ↦ m | inr m ↦ absurd (n (omega arith)) ]
 
-pub fewer : (order : MonomialOrder) (start old new : State) (w : Waiting) (budget done : ℕ) → done < budget → IsNext order old w → IsSettling order start (with_pair w old) done → IsSettledBy order old new w.first w.second → left_over budget (length start.members) new (done + 1) < left_over budget (length start.members) (with_pair w old) done
+pub fewer : (order : MonomialOrder) (start old new : State) (w : Waiting) (budget done : ℕ) → done < budget → IsNext order old w →
+    IsSettling order start (with_pair w old) done → IsSettledBy order old new w.first w.second → left_over budget (length start.members) new (done + 1) <
+    left_over budget (length start.members) (with_pair w old) done
 fewer order start old new w budget done l next h b =
     let e : budget - done ≡ suc (budget - (done + 1)) = omega arith in
-    less ((budget - done) * (length start.members + budget + 2)) ((budget - (done + 1)) * (length start.members + budget + 2)) (length start.members + budget + 2) (length old.members) (suc (length old.queue)) (length new.queue) (ap (λ (z : ℕ). z * (length start.members + budget + 2)) e ∙ omega arith) (omega (arith, ap length b.queue, (worked order old b.middle w next b.worked).queue)) (omega (arith, h.members))
+    less ((budget - done) * (length start.members + budget + 2)) ((budget - (done + 1)) * (length start.members + budget + 2)) (length start.members + budget +
+    2) (length old.members) (suc (length old.queue)) (length new.queue) (ap (λ (z : ℕ). z * (length start.members + budget + 2)) e ∙ omega arith)
+    (omega (arith, ap length b.queue, (worked order old b.middle w next b.worked).queue)) (omega (arith, h.members))
 
 -- with the queue as it was before the pair was taken out
 plus_less : (x a b : ℕ) → a < b → x + a < x + b
 plus_less x a b l = omega arith
 
-pub skipped_fewer : (budget first done : ℕ) (members : List MarkedPolynomial) (table : PairMarks) (strategy : Strategy) (queue rest : List Waiting) (w : Waiting) →
-    IsPermutation queue (w ∷ rest) →
-    left_over budget first (record { members = members; table = table; queue = rest; strategy = strategy }) done < left_over budget first (record { members = members; table = table; queue = queue; strategy = strategy }) done
+pub skipped_fewer : (budget first done : ℕ) (members : List MarkedPolynomial) (table : PairMarks) (strategy : Strategy) (queue rest : List Waiting)
+    (w : Waiting) → IsPermutation queue (w ∷ rest) → left_over budget first (record { members = members; table = table; queue = rest; strategy = strategy })
+    done < left_over budget first (record { members = members; table = table; queue = queue; strategy = strategy }) done
 skipped_fewer budget first done members table strategy queue rest w p =
     plus_less ((budget - done) * (first + budget + 2)) (length rest) (length queue) (omega (arith, length_permutation queue (w ∷ rest) p))
 
-pub settled_fewer : (order : MonomialOrder) (start new : State) (members : List MarkedPolynomial) (table : PairMarks) (strategy : Strategy) (queue rest : List Waiting) (w : Waiting) (budget done : ℕ) →
-    IsSomeRun order start → IsPermutation queue (w ∷ rest) → done ≤ budget → done ≢ budget →
+pub settled_fewer : (order : MonomialOrder) (start new : State) (members : List MarkedPolynomial) (table : PairMarks) (strategy : Strategy)
+    (queue rest : List Waiting) (w : Waiting) (budget done : ℕ) → IsSomeRun order start → IsPermutation queue (w ∷ rest) → done ≤ budget → done ≢ budget →
     IsSettling order start (record { members = members; table = table; queue = queue; strategy = strategy }) done →
     IsSettledBy order (record { members = members; table = table; queue = rest; strategy = strategy }) new w.first w.second →
-    left_over budget (length start.members) new (done + 1) < left_over budget (length start.members) (record { members = members; table = table; queue = queue; strategy = strategy }) done
+    left_over budget (length start.members) new (done + 1) < left_over budget (length start.members)
+    (record { members = members; table = table; queue = queue; strategy = strategy }) done
 settled_fewer order start new members table strategy queue rest w budget done some p l n h b =
     let q = settling-popped order start members table strategy queue rest w done p h in
     subst (λ (k : ℕ). left_over budget (length start.members) new (done + 1) < (budget - done) * (length start.members + budget + 2) + k)
     (length_permutation queue (w ∷ rest) p)
-    (fewer order start (record { members = members; table = table; queue = rest; strategy = strategy }) new w budget done (below done budget l n) (is_next order start (record { members = members; table = table; queue = rest; strategy = strategy }) w done some q) q b)
+    (fewer order start (record { members = members; table = table; queue = rest; strategy = strategy }) new w budget done (below done budget l n)
+    (is_next order start (record { members = members; table = table; queue = rest; strategy = strategy }) w done some q) q b)
 
 -- ---- stops
 
 -- the next of a run whose pair was taken out
-pub popped_next : (order : MonomialOrder) (start : State) (members : List MarkedPolynomial) (table : PairMarks) (strategy : Strategy) (queue rest : List Waiting) (w : Waiting) (done : ℕ) →
-    IsSomeRun order start → IsPermutation queue (w ∷ rest) →
+pub popped_next : (order : MonomialOrder) (start : State) (members : List MarkedPolynomial) (table : PairMarks) (strategy : Strategy)
+    (queue rest : List Waiting) (w : Waiting) (done : ℕ) → IsSomeRun order start → IsPermutation queue (w ∷ rest) →
     IsSettling order start (record { members = members; table = table; queue = queue; strategy = strategy }) done →
     IsNext order (record { members = members; table = table; queue = rest; strategy = strategy }) w
 popped_next order start members table strategy queue rest w done some p h =
@@ -252,8 +282,15 @@ first_popped queue rest w p f v c = f v (Contains-permutation (w ∷ rest) queue
 
 -- ---- the end
 
-pub drained : (order : MonomialOrder) (start : State) (members : List MarkedPolynomial) (table : PairMarks) (strategy : Strategy) (queue rest : List Waiting) (budget done : ℕ) →
-    queue ≡ [] → rest ≡ [] → done ≤ budget → IsSettling order start (record { members = members; table = table; queue = queue; strategy = strategy }) done →
+pub drained : (order : MonomialOrder) (start : State) (members : List MarkedPolynomial) (table : PairMarks) (strategy : Strategy) (queue rest : List Waiting)
+    (budget done : ℕ) → queue ≡ [] → rest ≡ [] → done ≤ budget →
+    IsSettling order start (record { members = members; table = table; queue = queue; strategy = strategy }) done →
     IsWorkedThrough order budget start (record { members = members; table = table; queue = rest; strategy = strategy })
 drained order start members table strategy queue rest budget done e f l h =
-    record { done = done; within = l; settling = subst (λ (q : List Waiting). IsSettling order start (record { members = members; table = table; queue = q; strategy = strategy }) done) (e ∙ sym f) h; none = f }
+    record {
+      done = done;
+      within = l;
+      settling = subst (λ (q : List Waiting). IsSettling order start (record { members = members; table = table; queue = q; strategy = strategy }) done)
+          (e ∙ sym f) h;
+      none = f;
+    }

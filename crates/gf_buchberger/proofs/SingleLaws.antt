@@ -20,7 +20,8 @@ one_term (t ∷ []) m l c = (at (Contains-cases t m [] c), tt)
 one_term (t ∷ s ∷ f) m l c = absurd (omega arith)
 
 pub single_at : (b : MarkedPolynomial) (f : Terms) → f ≡ b.poly → length f ≡ 1 → HasMarkedTerm b → HasOneMonomial b
-single_at b f e l m x n = at (listed (λ (t : Term). t.mono ≡ b.head) b.poly x (one_term b.poly (record { coef = m.mark; mono = b.head }) (subst (λ (z : Terms). length z ≡ 1) e l) m.term) n)
+single_at b f e l m x n = at (listed (λ (t : Term). t.mono ≡ b.head) b.poly x (one_term b.poly (record { coef = m.mark; mono = b.head })
+    (subst (λ (z : Terms). length z ≡ 1) e l) m.term) n)
   where
     at : (t : Term) × (t.mono ≡ b.head) × (same x t.mono ≡ true) → same x b.head ≡ true
     at t = subst (λ (z : Exponents). same x z ≡ true) t.1 t.2

@@ -88,7 +88,8 @@ pub record IsRun (order : MonomialOrder) (n : ℕ) (fs : List Terms) (s : State)
   pub work : IsWorkList fs (below_of order) s.members
   pub variables : MembersHaveVariables n s.members
   pub state : IsState s
-  pub settled : (i j : ℕ) (b c : MarkedPolynomial) → i < j → IsAt s.members i b → IsAt s.members j c → is_settled s.table i j ≡ true → IsSettledPair n s.members (below_of order) b c
+  pub settled : (i j : ℕ) (b c : MarkedPolynomial) → i < j → IsAt s.members i b → IsAt s.members j c → is_settled s.table i j ≡ true →
+      IsSettledPair n s.members (below_of order) b c
   pub waiting : (i j : ℕ) → i < j → j < length s.members → (is_settled s.table i j ≡ true) ⊎ IsWaiting s.queue i j ⊎ IsCovered s.members i j
 
 -- the state with one pair more that waits
@@ -177,7 +178,8 @@ IsAppendRefusal order r = IsRefusedBy (IsAppendOperation order r) NoSum
 
 -- the pair of the members at p and q counts as settled: its mark says so, or the marked monomials are coprime
 abbrev pub CountsAsSettled : State → ℕ → ℕ → Type 0
-CountsAsSettled s p q = ((p < q) × (is_settled s.table p q ≡ true)) ⊎ ((q < p) × (is_settled s.table q p ≡ true)) ⊎ ((b c : MarkedPolynomial) → IsAt s.members p b → IsAt s.members q c → AreCoprime b.head c.head)
+CountsAsSettled s p q = ((p < q) × (is_settled s.table p q ≡ true)) ⊎ ((q < p) × (is_settled s.table q p ≡ true)) ⊎ ((b c : MarkedPolynomial) →
+    IsAt s.members p b → IsAt s.members q c → AreCoprime b.head c.head)
 
 -- the mark of a third member divides the least common multiple of the marks, and its pairs with both count as settled
 pub record IsChain (s : State) (i j k : ℕ) : Type 0 where
@@ -196,7 +198,8 @@ AreSingleAt s i j = (b c : MarkedPolynomial) → IsAt s.members i b → IsAt s.m
 
 -- the pair needs no reduction: the marks are coprime, both members have one monomial, or there is a chain
 abbrev pub IsExcused : State → ℕ → ℕ → Type 0
-IsExcused s i j = ((b c : MarkedPolynomial) → IsAt s.members i b → IsAt s.members j c → AreCoprime b.head c.head) ⊎ AreSingleAt s i j ⊎ ((k : ℕ) × IsChain s i j k)
+IsExcused s i j = ((b c : MarkedPolynomial) → IsAt s.members i b → IsAt s.members j c → AreCoprime b.head c.head) ⊎ AreSingleAt s i j ⊎
+    ((k : ℕ) × IsChain s i j k)
 
 -- ---- one pair
 
@@ -245,7 +248,8 @@ pub record IsSettledBy (order : MonomialOrder) (old new : State) (i j : ℕ) : T
 -- where a pair is refused: at its S-polynomial, at the reduction of that, or in making what is left monic
 pub data IsRefusedPair (order : MonomialOrder) (s : State) (i j : ℕ) (e : PolyError) : Type 0 where
   s_polynomial : (b c : MarkedPolynomial) → IsAt s.members i b → IsAt s.members j c → IsMonicPairRefusal b c e → IsRefusedPair order s i j e
-  reduction : (b c : MarkedPolynomial) (f : Terms) → IsAt s.members i b → IsAt s.members j c → IsSPolynomial b c f → IsReductionRefusal s.members f e → IsRefusedPair order s i j e
+  reduction : (b c : MarkedPolynomial) (f : Terms) → IsAt s.members i b → IsAt s.members j c → IsSPolynomial b c f → IsReductionRefusal s.members f e →
+      IsRefusedPair order s i j e
   monic : (b c : MarkedPolynomial) (f r : Terms) → IsAt s.members i b → IsAt s.members j c → IsSPolynomial b c f → IsRemainder s.members f r →
       IsNormalForm s.members f r → IsAppendRefusal order r e → IsRefusedPair order s i j e
 

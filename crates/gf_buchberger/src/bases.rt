@@ -7,7 +7,8 @@ ghost use Rattle.gf_ideal_theory.specs.Marks.{HasPositiveWeight, IsRealisable};
 ghost use Rattle.gf_division.specs.Autoreduction.{IsAutoreduced, IsReducedOf, IsAutoreductionRefusal};
 ghost use Rattle.gf_buchberger.specs.declared.queue.Strategy.TheVariants.{Degree};
 ghost use Rattle.gf_buchberger.specs.Ruled.{AreRuledRunsWithinLimits};
-ghost use Rattle.gf_buchberger.specs.Bases.{IsArrangedBasis, IsBasisRefusal, IsRuledRefusal, AreRunsWithinLimits, IsWantOfMemory, IsSpentAnswer, IsStopAnswer, HasStopVariables, of_poly_error};
+ghost use Rattle.gf_buchberger.specs.Bases.{IsArrangedBasis, IsBasisRefusal, IsRuledRefusal, AreRunsWithinLimits, IsWantOfMemory, IsSpentAnswer, IsStopAnswer};
+ghost use Rattle.gf_buchberger.specs.Bases.{HasStopVariables, of_poly_error};
 ghost use Rattle.gf_buchberger.specs.Jobs.{HaveRingVariables, IsSuited, IsBasisJob};
 ghost use Rattle.gf_buchberger.specs.Runs.{MembersHaveVariables};
 

@@ -6,7 +6,9 @@ ghost use Rattle.gf_poly.specs.declared.error.PolyError.TheVariants.{Memory};
 ghost use Rattle.gf_ideal_theory.specs.Reduction.{HasOneMonomial};
 ghost use Rattle.gf_buchberger.specs.Covered.{IsCovered};
 ghost use Rattle.gf_buchberger.specs.Progress.{IsWorkedThrough, IsStop};
-ghost use Rattle.gf_buchberger.specs.Runs.{AreReducers, IsMultipleAt, IsReducedPair, IsPairWorkedOff, IsSettlingRefusal, AreComparable, MembersHaveSomeVariables, state_of, IsState, PairsPushed, IsJoinable, IsJoined, IsTakenUp, IsLeftOfPair, CountsAsSettled, IsChain, IsExcused, IsSettledBy, IsSomeRun};
+ghost use Rattle.gf_buchberger.specs.Runs.{AreReducers, IsMultipleAt, IsReducedPair, IsPairWorkedOff, IsSettlingRefusal, AreComparable};
+ghost use Rattle.gf_buchberger.specs.Runs.{MembersHaveSomeVariables, state_of, IsState, PairsPushed, IsJoinable, IsJoined, IsTakenUp, IsLeftOfPair};
+ghost use Rattle.gf_buchberger.specs.Runs.{CountsAsSettled, IsChain, IsExcused, IsSettledBy, IsSomeRun};
 
 use crate::covered::Redundant;
 use crate::left::{left_of, left_of_wide};

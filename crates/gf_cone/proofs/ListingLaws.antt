@@ -5,7 +5,8 @@ use Rattle.std.specs.Ordering.{int_cmp, MatchOrdering}
 use Rattle.std.specs.Cmp.Lexicographic.{slice_cmp}
 use Rattle.std.specs.declared.cmp.Ordering.{Ordering}
 use Rattle.std.specs.declared.cmp.Ordering.TheVariants.{Less, Equal, Greater}
-use Rattle.std.proofs.Common.{◌≡◌, ◌⊎◌, ◌↔◌, ℕ, zero, suc, ◌+◌, ◌<◌, ◌≤◌, List, [], ◌∷◌, ◌++◌, length, All, Contains, ℤ, ◌<ℤ◌, take, arith, sym, ap, ◌∙◌, subst, inl, inr, get_or}
+use Rattle.std.proofs.Common.{◌≡◌, ◌⊎◌, ◌↔◌, ℕ, zero, suc, ◌+◌, ◌<◌, ◌≤◌, List, [], ◌∷◌, ◌++◌, length, All, Contains, ℤ, ◌<ℤ◌, take, arith, sym, ap, ◌∙◌, subst}
+use Rattle.std.proofs.Common.{inl, inr, get_or}
 use Rattle.std.proofs.lemmas.Bool.{cases_lt}
 use Rattle.std.proofs.lemmas.List.{take_more, take_all, get_or_default}
 use Rattle.std.proofs.lemmas.List.Elements.{All-contains, Contains-append_left, Contains-append_right, Contains-append_cases}
@@ -30,8 +31,10 @@ AreLower v i xs = (y : List ℤ) → Contains (take i xs) y → Precedes ◌<ℤ
 compared : (x v : List ℤ) (o : Ordering) → o ≡ slice_cmp int_cmp x v → MatchOrdering o (Precedes ◌<ℤ◌ x v) (x ≡ v) (Precedes ◌<ℤ◌ v x)
 compared x v o e = subst (λ (p : Ordering). MatchOrdering p (Precedes ◌<ℤ◌ x v) (x ≡ v) (Precedes ◌<ℤ◌ v x)) (sym e) (vectors_compare x v)
 
-place_more : (v x : List ℤ) (xs : List (List ℤ)) (i : ℕ) (o : Ordering) → i < length xs → x ≡ get_or xs i x → o ≡ slice_cmp int_cmp x v → o ≡ Less → AreLower v i xs → AreLower v (i + 1) xs
-place_more v x xs i o l e c q h y k = at (Contains-append_cases (take i xs) (x ∷ []) y (subst (λ (z : List (List ℤ)). Contains z y) (take_more xs i x l ∙ ap (λ (z : List ℤ). take i xs ++ z ∷ []) (sym e)) k))
+place_more : (v x : List ℤ) (xs : List (List ℤ)) (i : ℕ) (o : Ordering) → i < length xs → x ≡ get_or xs i x → o ≡ slice_cmp int_cmp x v → o ≡ Less →
+    AreLower v i xs → AreLower v (i + 1) xs
+place_more v x xs i o l e c q h y k = at (Contains-append_cases (take i xs) (x ∷ []) y
+    (subst (λ (z : List (List ℤ)). Contains z y) (take_more xs i x l ∙ ap (λ (z : List ℤ). take i xs ++ z ∷ []) (sym e)) k))
   where
     below : Precedes ◌<ℤ◌ x v
     below = subst (λ (p : Ordering). MatchOrdering p (Precedes ◌<ℤ◌ x v) (x ≡ v) (Precedes ◌<ℤ◌ v x)) q (compared x v o c)
@@ -45,8 +48,10 @@ placed v x [] i l e p h = absurd (omega arith)
 placed v x (y ∷ xs) zero l e p h = subst (Precedes ◌<ℤ◌ v) e p
 placed v x (y ∷ xs) (suc i) l e p h = (h y (Contains-here y (take i xs)), placed v x xs i (omega arith) e p (λ z k. h z (Contains-there y z (take i xs) k)))
 
-pub is_in : (v x : List ℤ) (xs : List (List ℤ)) (i : ℕ) (o : Ordering) → i < length xs → x ≡ get_or xs i x → o ≡ slice_cmp int_cmp x v → o ≡ Equal → Contains xs v
-is_in v x xs i o l e c q = subst (Contains xs) (subst (λ (p : Ordering). MatchOrdering p (Precedes ◌<ℤ◌ x v) (x ≡ v) (Precedes ◌<ℤ◌ v x)) q (compared x v o c)) (i, l, sym e)
+pub is_in : (v x : List ℤ) (xs : List (List ℤ)) (i : ℕ) (o : Ordering) → i < length xs → x ≡ get_or xs i x → o ≡ slice_cmp int_cmp x v → o ≡ Equal →
+    Contains xs v
+is_in v x xs i o l e c q = subst (Contains xs) (subst (λ (p : Ordering). MatchOrdering p (Precedes ◌<ℤ◌ x v) (x ≡ v) (Precedes ◌<ℤ◌ v x)) q (compared x v o c))
+    (i, l, sym e)
 
 ended : (v : List ℤ) (xs : List (List ℤ)) → ((y : List ℤ) → Contains xs y → Precedes ◌<ℤ◌ y v) → GoesInAt v (length xs) xs
 ended v [] h = tt
@@ -65,7 +70,8 @@ ascends_before (z ∷ xs) (suc i) x y h l e c = elim (Contains-cases z y (take i
 ]
 
 -- so in an ascending list all up to a place are lower, where what stands there is
-pub lower_through : (v x : List ℤ) (xs : List (List ℤ)) (i : ℕ) (o : Ordering) → Ascends xs → i < length xs → x ≡ get_or xs i x → o ≡ slice_cmp int_cmp x v → o ≡ Less → AreLower v (i + 1) xs
+pub lower_through : (v x : List ℤ) (xs : List (List ℤ)) (i : ℕ) (o : Ordering) → Ascends xs → i < length xs → x ≡ get_or xs i x → o ≡ slice_cmp int_cmp x v →
+    o ≡ Less → AreLower v (i + 1) xs
 lower_through v x xs i o h l e c q = place_more v x xs i o l e c q (λ y k. before_strict.transitive y x v (ascends_before xs i x y h l e k) below)
   where
     below : Precedes ◌<ℤ◌ x v
@@ -75,20 +81,23 @@ lower_through v x xs i o h l e c q = place_more v x xs i o l e c q (λ y k. befo
 pub record IsHigher (v : List ℤ) (i : ℕ) (xs : List (List ℤ)) : Type 0 where
   pub at : (d : List ℤ) → i < length xs → Precedes ◌<ℤ◌ v (get_or xs i d)
 
-pub higher_at : (v x : List ℤ) (xs : List (List ℤ)) (i : ℕ) (o : Ordering) → i < length xs → x ≡ get_or xs i x → o ≡ slice_cmp int_cmp x v → o ≡ Greater → IsHigher v i xs
+pub higher_at : (v x : List ℤ) (xs : List (List ℤ)) (i : ℕ) (o : Ordering) → i < length xs → x ≡ get_or xs i x → o ≡ slice_cmp int_cmp x v → o ≡ Greater →
+    IsHigher v i xs
 higher_at v x xs i o l e c q = record { at = λ d m. subst (Precedes ◌<ℤ◌ v) (e ∙ get_or_default xs i x d l) above }
   where
     above : Precedes ◌<ℤ◌ v x
     above = subst (λ (p : Ordering). MatchOrdering p (Precedes ◌<ℤ◌ x v) (x ≡ v) (Precedes ◌<ℤ◌ v x)) q (compared x v o c)
 
 -- between what is lower and what is higher
-pub place_between : (v : List ℤ) (xs : List (List ℤ)) (low high : ℕ) → low ≡ high → high ≤ length xs → AreLower v low xs → IsHigher v high xs → GoesInAt v low xs
+pub place_between : (v : List ℤ) (xs : List (List ℤ)) (low high : ℕ) → low ≡ high → high ≤ length xs → AreLower v low xs → IsHigher v high xs →
+    GoesInAt v low xs
 place_between v xs low high e m h k = at (cases_lt low (length xs))
   where
     at : (low < length xs) ⊎ (length xs ≤ low) → GoesInAt v low xs
     at (inl l) =
         let n : high < length xs = omega arith in
-        placed v (get_or xs low []) xs low l (get_or_default xs low [] (get_or xs low []) l) (subst (λ (i : ℕ). Precedes ◌<ℤ◌ v (get_or xs i [])) (sym e) (k.at [] n)) h
+        placed v (get_or xs low []) xs low l (get_or_default xs low [] (get_or xs low []) l) (subst (λ (i : ℕ). Precedes ◌<ℤ◌ v (get_or xs i [])) (sym e)
+        (k.at [] n)) h
     at (inr g) = let q : length xs ≡ low = omega arith in subst (λ (i : ℕ). GoesInAt v i xs) q (place_end v xs low g h)
 
 -- ---- a vector put in
@@ -118,9 +127,13 @@ inserted_back v a (suc i) (x ∷ xs) p (inr k) = elim (Contains-cases x a xs k) 
 
 inserted_ascends : (v : List ℤ) (i : ℕ) (xs : List (List ℤ)) → Ascends xs → GoesInAt v i xs → Ascends (insert xs i v)
 inserted_ascends v zero [] h p = ((λ y c. absurd (omega (arith, c.1))), tt)
-inserted_ascends v zero (x ∷ xs) h p = ((λ y c. elim (Contains-cases x y xs c) [ inl e ↦ subst (Precedes ◌<ℤ◌ v) e p | inr k ↦ before_strict.transitive v x y p (h.0 y k) ]), h)
+inserted_ascends v zero (x ∷ xs) h p =
+    ((λ y c. elim (Contains-cases x y xs c) [ inl e ↦ subst (Precedes ◌<ℤ◌ v) e p | inr k ↦ before_strict.transitive v x y p (h.0 y k) ]), h)
 inserted_ascends v (suc i) [] h p = absurd p
-inserted_ascends v (suc i) (x ∷ xs) h p = ((λ y c. elim (inserted_cases v y i xs p.1 c) [ inl e ↦ subst (Precedes ◌<ℤ◌ x) (sym e) p.0 | inr k ↦ h.0 y k ]), inserted_ascends v i xs h.1 p.1)
+inserted_ascends v (suc i) (x ∷ xs) h p = (
+  (λ y c. elim (inserted_cases v y i xs p.1 c) [ inl e ↦ subst (Precedes ◌<ℤ◌ x) (sym e) p.0 | inr k ↦ h.0 y k ]),
+  inserted_ascends v i xs h.1 p.1,
+)
 
 -- a list and what is put in
 pub record HasMore (xs : List (List ℤ)) (v : List ℤ) (more : List (List ℤ)) : Type 0 where
@@ -128,7 +141,8 @@ pub record HasMore (xs : List (List ℤ)) (v : List ℤ) (more : List (List ℤ)
   pub has : (a : List ℤ) → Contains more a ↔ ((a ≡ v) ⊎ Contains xs a)
 
 pub inserted : (v : List ℤ) (i : ℕ) (xs more : List (List ℤ)) → Ascends xs → GoesInAt v i xs → more ≡ insert xs i v → HasMore xs v more
-inserted v i xs more h p e = subst (HasMore xs v) (sym e) (record { rises = inserted_ascends v i xs h p; has = λ a. (inserted_cases v a i xs p, inserted_back v a i xs p) })
+inserted v i xs more h p e =
+    subst (HasMore xs v) (sym e) (record { rises = inserted_ascends v i xs h p; has = λ a. (inserted_cases v a i xs p, inserted_back v a i xs p) })
 
 -- ---- normals collected
 

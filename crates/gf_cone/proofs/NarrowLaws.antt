@@ -21,7 +21,8 @@ grown (suc a) b (suc c) d l m = (let r : a * b ≤ c * d = grown a b c d (omega 
 
 -- the product of numbers below 2^31 and up to 2^26
 pub product_short : (x y : ℤ) → unsigned_abs x < 2 ^ 31 → unsigned_abs y ≤ 2 ^ 26 → unsigned_abs (x *ℤ y) ≤ 2 ^ 57
-product_short x y l m = (let g : unsigned_abs x * unsigned_abs y ≤ (2 ^ 31) * (2 ^ 26) = grown (unsigned_abs x) (unsigned_abs y) (2 ^ 31) (2 ^ 26) (omega (arith, l)) m in omega (arith, g, unsigned_abs-mul x y))
+product_short x y l m = (let g : unsigned_abs x * unsigned_abs y ≤ (2 ^ 31) * (2 ^ 26) = grown (unsigned_abs x) (unsigned_abs y) (2 ^ 31) (2 ^ 26)
+    (omega (arith, l)) m in omega (arith, g, unsigned_abs-mul x y))
 
 pub short_fits : (z : ℤ) → unsigned_abs z ≤ 2 ^ 57 → unsigned_abs z < 2 ^ 63
 short_fits z h = omega (arith, h)

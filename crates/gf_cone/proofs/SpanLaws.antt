@@ -1,6 +1,7 @@
 -- What shows that a normal is in the cone of other vectors, up to a multiple.
 -- To cite: rows_wide, place_in_all, unit_entry_in, not_crossable_spanned.
-use Rattle.std.proofs.Common.{◌≡◌, ◌⊎◌, ℕ, ◌+◌, ◌-◌, ◌<◌, ◌≤◌, List, [], ◌++◌, length, get_or, ℤ, pos, ◌+ℤ◌, ◌*ℤ◌, ◌<ℤ◌, ◌≤ℤ◌, arith, sym, ap, ap₂, ◌∙◌, subst, inl, inr, length-append}
+use Rattle.std.proofs.Common.{◌≡◌, ◌⊎◌, ℕ, ◌+◌, ◌-◌, ◌<◌, ◌≤◌, List, [], ◌++◌, length, get_or, ℤ, pos, ◌+ℤ◌, ◌*ℤ◌, ◌<ℤ◌, ◌≤ℤ◌, arith, sym, ap, ap₂, ◌∙◌, subst}
+use Rattle.std.proofs.Common.{inl, inr, length-append}
 use Rattle.std.proofs.lemmas.Int.{ints}
 use Rattle.std.proofs.lemmas.List.{get_or_default, ext_get_or}
 use Rattle.std.proofs.lemmas.List.Elements.{All-append}
@@ -25,15 +26,22 @@ use Rattle.gf_cone.proofs.CrossingLaws.{in_all, other_positive, normal_zero, uni
 -- ---- rows by their places
 
 -- all rows have as many entries as there are variables
-pub rows_wide : (c : ConeRows) (kept : List (List ℤ)) → all_rows c ≡ kept ++ units c.variables c.variables → AreRows c.variables kept → AreRows c.variables (all_rows c)
+pub rows_wide : (c : ConeRows) (kept : List (List ℤ)) → all_rows c ≡ kept ++ units c.variables c.variables → AreRows c.variables kept →
+    AreRows c.variables (all_rows c)
 rows_wide c kept e w = subst (AreRows c.variables) (sym e) (All-append (λ t. length t ≡ c.variables) kept (units c.variables c.variables) w
-    (λ i d m. units_wide c.variables c.variables (get_or (units c.variables c.variables) i d) (i, m, get_or_default (units c.variables c.variables) i (get_or (units c.variables c.variables) i d) d m)))
+    (λ i d m. units_wide c.variables c.variables (get_or (units c.variables c.variables) i d) (
+      i,
+      m,
+      get_or_default (units c.variables c.variables) i
+          (get_or (units c.variables c.variables) i d) d m,
+    )))
 
 row_wide : (c : ConeRows) (j : ℕ) → AreRows c.variables (all_rows c) → j < length (all_rows c) → length (get_or (all_rows c) j []) ≡ c.variables
 row_wide c j w l = w j [] l
 
 -- a place of a kept vector or of a unit vector is one of a row
-pub place_in_all : (c : ConeRows) (kept : List (List ℤ)) (j : ℕ) → all_rows c ≡ kept ++ units c.variables c.variables → (j < length kept) ⊎ (j - length kept < c.variables) → j < length (all_rows c)
+pub place_in_all : (c : ConeRows) (kept : List (List ℤ)) (j : ℕ) → all_rows c ≡ kept ++ units c.variables c.variables →
+    (j < length kept) ⊎ (j - length kept < c.variables) → j < length (all_rows c)
 place_in_all c kept j e h = subst (λ (z : List (List ℤ)). j < length z) (sym e) (at h)
   where
     at : (j < length kept) ⊎ (j - length kept < c.variables) → j < length (kept ++ units c.variables c.variables)
@@ -41,12 +49,19 @@ place_in_all c kept j e h = subst (λ (z : List (List ℤ)). j < length z) (sym 
     at (inr l) = omega (arith, l, length-append kept (units c.variables c.variables), length-units c.variables c.variables)
 
 -- the entry of a unit vector
-pub unit_entry_in : (c : ConeRows) (kept : List (List ℤ)) (j i : ℕ) → all_rows c ≡ kept ++ units c.variables c.variables → length kept ≤ j → j < length (all_rows c) →
-    get_or (unit c.variables (j - length kept)) i (pos 0) ≡ get_or (get_or (all_rows c) j []) i (pos 0)
+pub unit_entry_in : (c : ConeRows) (kept : List (List ℤ)) (j i : ℕ) → all_rows c ≡ kept ++ units c.variables c.variables → length kept ≤ j →
+    j < length (all_rows c) → get_or (unit c.variables (j - length kept)) i (pos 0) ≡ get_or (get_or (all_rows c) j []) i (pos 0)
 unit_entry_in c kept j i e g l =
-    let k : j - length kept < c.variables = omega (arith, g, subst (λ (z : List (List ℤ)). j < length z) e l, length-append kept (units c.variables c.variables), length-units c.variables c.variables) in
+    let k : j - length kept < c.variables = omega (
+      arith,
+      g,
+      subst (λ (z : List (List ℤ)). j < length z) e l,
+      length-append kept (units c.variables c.variables),
+      length-units c.variables c.variables,
+    ) in
     let p : length kept + (j - length kept) ≡ j = omega (arith, g) in
-    ap (λ (z : List ℤ). get_or z i (pos 0)) (sym (unit_in_all c.variables (j - length kept) kept k) ∙ ap (λ (x : ℕ). get_or (kept ++ units c.variables c.variables) x []) p ∙ ap (λ (z : List (List ℤ)). get_or z j []) (sym e))
+    ap (λ (z : List ℤ). get_or z i (pos 0)) (sym (unit_in_all c.variables (j - length kept) kept k) ∙
+    ap (λ (x : ℕ). get_or (kept ++ units c.variables c.variables) x []) p ∙ ap (λ (z : List (List ℤ)). get_or z j []) (sym e))
 
 -- ---- three shares that are a multiple of the normal
 
@@ -55,9 +70,10 @@ abbrev share_on : (c : ConeRows) (s : Share) (w : List ℤ) → ℤ
 share_on c s w = s.times *ℤ dot (get_or (all_rows c) s.place []) w
 
 -- what holds entry by entry holds on each vector
-balanced_on : (c : ConeRows) (i : ℕ) (s : Span) (w : List ℤ) → AreRows c.variables (all_rows c) → i < length c.normals → s.first.place < length (all_rows c) → s.second.place < length (all_rows c) → s.third.place < length (all_rows c) →
-    length (normal_at c i) ≡ c.variables → ((j : ℕ) → j < c.variables → IsBalancedAt c i s j) →
-    share_on c s.first w +ℤ share_on c s.second w +ℤ share_on c s.third w ≡ s.normal *ℤ dot (normal_at c i) w
+balanced_on : (c : ConeRows) (i : ℕ) (s : Span) (w : List ℤ) → AreRows c.variables (all_rows c) → i < length c.normals → s.first.place < length (all_rows c) →
+    s.second.place < length (all_rows c) → s.third.place < length (all_rows c) → length (normal_at c i) ≡ c.variables →
+    ((j : ℕ) → j < c.variables → IsBalancedAt c i s j) → share_on c s.first w +ℤ share_on c s.second w +ℤ share_on c s.third w ≡ s.normal *ℤ dot (normal_at c i)
+    w
 balanced_on c i s w r l m n o q h = sym sums ∙ ap (λ (z : List ℤ). dot z w) same ∙ dot-times s.normal normal w
   where
     normal : List ℤ
@@ -89,7 +105,8 @@ balanced_on c i s w r l m n o q h = sym sums ∙ ap (λ (z : List ℤ). dot z w)
 
     sums : dot (vector_sum two (scaled s.third.times d)) w ≡ share_on c s.first w +ℤ share_on c s.second w +ℤ share_on c s.third w
     sums = dot-plus two (scaled s.third.times d) w (w2 ∙ sym wd) ∙ ap₂ (λ (x y : ℤ). x +ℤ y)
-        (dot-plus (scaled s.first.times a) (scaled s.second.times b) w (wa ∙ sym wb) ∙ ap₂ (λ (x y : ℤ). x +ℤ y) (dot-times s.first.times a w) (dot-times s.second.times b w)) (dot-times s.third.times d w)
+        (dot-plus (scaled s.first.times a) (scaled s.second.times b) w (wa ∙ sym wb) ∙ ap₂ (λ (x y : ℤ). x +ℤ y) (dot-times s.first.times a w)
+        (dot-times s.second.times b w)) (dot-times s.third.times d w)
 
     long : length (vector_sum two (scaled s.third.times d)) ≡ c.variables
     long = length-plus two (scaled s.third.times d) (w2 ∙ sym wd) ∙ w2
@@ -97,12 +114,13 @@ balanced_on c i s w r l m n o q h = sym sums ∙ ap (λ (z : List ℤ). dot z w)
     same : vector_sum two (scaled s.third.times d) ≡ scaled s.normal normal
     same = ext_get_or (pos 0) (vector_sum two (scaled s.third.times d)) (scaled s.normal normal) (long ∙ sym (length-times s.normal normal ∙ q)) (λ j k.
         entry_plus two (scaled s.third.times d) j (w2 ∙ sym wd) ∙ ap₂ (λ (x y : ℤ). x +ℤ y)
-        (entry_plus (scaled s.first.times a) (scaled s.second.times b) j (wa ∙ sym wb) ∙ ap₂ (λ (x y : ℤ). x +ℤ y) (entry_times s.first.times a j) (entry_times s.second.times b j)) (entry_times s.third.times d j)
+        (entry_plus (scaled s.first.times a) (scaled s.second.times b) j (wa ∙ sym wb) ∙ ap₂ (λ (x y : ℤ). x +ℤ y) (entry_times s.first.times a j)
+        (entry_times s.second.times b j)) (entry_times s.third.times d j)
         ∙ h j (omega (arith, k, long)) ∙ sym (entry_times s.normal normal j))
 
 -- no flip crosses the facet of a normal that is a multiple of shares, some of which are positive
-pub not_crossable_spanned : (c : ConeRows) (i : ℕ) (s : Span) → AreRows c.variables (all_rows c) → i < length c.normals → IsShare c i s.first → IsShare c i s.second → IsShare c i s.third →
-    IsSomePositive s → ((j : ℕ) → j < c.variables → IsBalancedAt c i s j) → IsCrossable c i → ⊥
+pub not_crossable_spanned : (c : ConeRows) (i : ℕ) (s : Span) → AreRows c.variables (all_rows c) → i < length c.normals → IsShare c i s.first →
+    IsShare c i s.second → IsShare c i s.third → IsSomePositive s → ((j : ℕ) → j < c.variables → IsBalancedAt c i s j) → IsCrossable c i → ⊥
 not_crossable_spanned c i s r l f g h some b x = against some
   where
     w : List ℤ

@@ -41,7 +41,11 @@ impl Model for Cone {
 
     ghost Value = { ConeRows };
 
-    ghost view = { λ c. record { variables = c.variables; normals = take c.count c.vectors.items; beside = drop c.count c.vectors.items ++ units c.variables c.variables } };
+    ghost view = { λ c. record {
+      variables = c.variables;
+      normals = take c.count c.vectors.items;
+      beside = drop c.count c.vectors.items ++ units c.variables c.variables;
+    } };
 
     ghost invariant = { λ c. AreVectorsKept c.variables c.vectors.items c.count };
 }

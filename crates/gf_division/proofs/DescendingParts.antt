@@ -66,7 +66,8 @@ contains-midst [] t g = (0, omega arith, refl)
 contains-midst (s ∷ f) t g = let c = contains-midst f t g in (suc c.0, omega (arith, c.1), c.2)
 
 -- its coefficient
-pub coefficient-midst : (n : ℕ) (f : Terms) (t : Term) (g : Terms) → HasVariables n (f ++ t ∷ g) → IsDescending (f ++ t ∷ g) → coefficient (f ++ t ∷ g) t.mono ≡ t.coef
+pub coefficient-midst : (n : ℕ) (f : Terms) (t : Term) (g : Terms) → HasVariables n (f ++ t ∷ g) → IsDescending (f ++ t ∷ g) →
+    coefficient (f ++ t ∷ g) t.mono ≡ t.coef
 coefficient-midst n f t g v d = coefficient-contains n (f ++ t ∷ g) t v d (contains-midst f t g) (variables-back n f (t ∷ g) v).0
 
 -- ---- over a monomial

@@ -16,7 +16,8 @@ use Rattle.gf_division.specs.Dividends.{Split, joined_terms, IsSound, IsTermInFr
 
 -- ---- one term over the place
 
-pub moved : (a b c d : Terms) (t : Term) → b ≡ d ++ t ∷ [] → c ≡ a ++ t ∷ [] → PassesOne (record { above = a; below = reverse b }) (record { above = c; below = reverse d })
+pub moved : (a b c d : Terms) (t : Term) → b ≡ d ++ t ∷ [] → c ≡ a ++ t ∷ [] →
+    PassesOne (record { above = a; below = reverse b }) (record { above = c; below = reverse d })
 moved a b c d t e k = record { term = t; below = ap reverse e ∙ reverse-append d (t ∷ []); above = k }
 
 -- ---- the last term above the place
@@ -30,7 +31,8 @@ at_last x (s ∷ u ∷ f) (suc k) t l e g d =
     let r = at_last x (u ∷ f) k t (omega arith) e g d.2 in
     (greater_trans s.mono u.mono x d.1.0 r.0, r)
 
-pub over_last : (x : Exponents) (f : Terms) (n : ℕ) (t : Term) → n ≡ length f → n ≢ 0 → t ≡ get_or f (n - 1) t → deglex t.mono x ≡ Greater → IsDescending f → AreOver x f
+pub over_last : (x : Exponents) (f : Terms) (n : ℕ) (t : Term) → n ≡ length f → n ≢ 0 → t ≡ get_or f (n - 1) t → deglex t.mono x ≡ Greater → IsDescending f →
+    AreOver x f
 over_last x f zero t l z e g d = absurd (z refl)
 over_last x f (suc n) t l z e g d =
     let q : suc n - 1 ≡ n = omega arith in
@@ -52,17 +54,20 @@ shorter old new b d e k a = omega (arith, ap length a.below, ap length e, ap len
 
 -- moves keep the terms
 pub terms_up : (old new : Split) → MovesUp old new → joined_terms new ≡ joined_terms old
-terms_up old new m = ap (λ (z : Terms). new.above ++ z) m.below ∙ sym (append_assoc new.above m.passed old.below) ∙ ap (λ (z : Terms). z ++ old.below) (sym m.above)
+terms_up old new m = ap (λ (z : Terms). new.above ++ z) m.below ∙ sym (append_assoc new.above m.passed old.below) ∙
+    ap (λ (z : Terms). z ++ old.below) (sym m.above)
 
 pub terms_down : (old new : Split) → PassesOne old new → joined_terms new ≡ joined_terms old
-terms_down old new a = ap (λ (z : Terms). z ++ new.below) a.above ∙ append_assoc old.above (a.term ∷ []) new.below ∙ ap (λ (z : Terms). old.above ++ z) (sym a.below)
+terms_down old new a = ap (λ (z : Terms). z ++ new.below) a.above ∙ append_assoc old.above (a.term ∷ []) new.below ∙
+    ap (λ (z : Terms). old.above ++ z) (sym a.below)
 
 -- ---- the first term below the place
 
 pub first_coefficient : (n : ℕ) (s : Split) (t : Term) → IsSound n s → IsTermInFront s.below t → coefficient (joined_terms s) (head_of s.below zero) ≡ t.coef
 first_coefficient n s t h f =
     subst (λ (z : Terms). coefficient (s.above ++ z) (head_of z zero) ≡ t.coef) (sym f.is)
-    (coefficient-midst n s.above t f.rest (subst (λ (z : Terms). HasVariables n (s.above ++ z)) f.is h.variables) (subst (λ (z : Terms). IsDescending (s.above ++ z)) f.is h.descending))
+    (coefficient-midst n s.above t f.rest (subst (λ (z : Terms). HasVariables n (s.above ++ z)) f.is h.variables)
+    (subst (λ (z : Terms). IsDescending (s.above ++ z)) f.is h.descending))
 
 pub first_nonzero : (n : ℕ) (s : Split) (t : Term) → IsSound n s → IsTermInFront s.below t → t.coef ≢ zero_ℚ
 first_nonzero n s t h f = (subst IsDescending f.is (descending-back s.above s.below h.descending)).0

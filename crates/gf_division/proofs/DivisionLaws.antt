@@ -18,7 +18,8 @@ use Rattle.gf_ideal_theory.specs.Settled.{IsAt}
 use Rattle.gf_ideal_theory.proofs.StepLaws.{step-back}
 use Rattle.gf_ideal_theory.proofs.ProductLaws.{poly_product, poly_product-turned, poly_product-equal}
 use Rattle.gf_division.specs.NormalForms.{HaveSameVariables}
-use Rattle.gf_division.specs.Divisions.{product_of, cofactor_sum, no_quotients, with_quotient, IsDivisionByRule, AreForms, AreSums, KeepForms, HaveVariablesOf, IsSumRefusal, IsDivisionRefusal}
+use Rattle.gf_division.specs.Divisions.{product_of, cofactor_sum, no_quotients, with_quotient, IsDivisionByRule, AreForms, AreSums, KeepForms, HaveVariablesOf}
+use Rattle.gf_division.specs.Divisions.{IsSumRefusal, IsDivisionRefusal}
 use Rattle.gf_division.specs.Dividends.{Split, joined_terms, TakesStep}
 use Rattle.gf_division.proofs.DividendLaws.{first_head, first_length}
 use Rattle.gf_division.proofs.RuleLaws.{RuleFacts, rule_step}
@@ -58,7 +59,8 @@ pub record Dividing (bs : List MarkedPolynomial) (f : Terms) (s : Split) (qs : L
   pub places : length qs ≡ length bs
   pub variables : HaveVariablesOf f qs
 
-pub dividing-none : (bs : List MarkedPolynomial) (f : Terms) (s : Split) (qs : List Terms) (n : ℕ) → HaveSameVariables f bs → IsDescending f → s ≡ record { above = []; below = f } → n ≡ length bs → qs ≡ replicate n [] → Dividing bs f s qs
+pub dividing-none : (bs : List MarkedPolynomial) (f : Terms) (s : Split) (qs : List Terms) (n : ℕ) → HaveSameVariables f bs → IsDescending f →
+    s ≡ record { above = []; below = f } → n ≡ length bs → qs ≡ replicate n [] → Dividing bs f s qs
 dividing-none bs f s qs n v d e l q = subst (Dividing bs f s) (sym (q ∙ ap (λ (m : ℕ). replicate m []) l ∙ sym (no_quotients-replicate bs))) (record {
   form = normal_forming-none bs f s v d e;
   divided = subst (IsDivisionByRule bs f (no_quotients bs)) (sym (ap joined_terms e)) IsDivisionByRule.here;
@@ -66,12 +68,17 @@ dividing-none bs f s qs n v d e l q = subst (Dividing bs f s) (sym (q ∙ ap (λ
   variables = record { at = λ m h. none-variables m bs };
 })
 
-pub dividing-more : (bs : List MarkedPolynomial) (f : Terms) (old s t : Split) (qs rs : List Terms) (j : ℕ) (b : MarkedPolynomial) (q : Term) → joined_terms s ≡ joined_terms old → RuleFacts bs None s j b → TakesStep b s q t → rs ≡ with_quotient qs j q → Dividing bs f old qs → Dividing bs f t rs
+pub dividing-more : (bs : List MarkedPolynomial) (f : Terms) (old s t : Split) (qs rs : List Terms) (j : ℕ) (b : MarkedPolynomial) (q : Term) →
+    joined_terms s ≡ joined_terms old → RuleFacts bs None s j b → TakesStep b s q t → rs ≡ with_quotient qs j q → Dividing bs f old qs → Dividing bs f t rs
 dividing-more bs f old s t qs rs j b q e k w r h = subst (Dividing bs f t) (sym r) (record {
   form = normal_forming-more bs f old s t j b q e k w h.form;
-  divided = subst (λ (z : Term). IsDivisionByRule bs f (with_quotient qs j z) (joined_terms t)) quotient (IsDivisionByRule.next qs (joined_terms s) (joined_terms t) (subst (IsDivisionByRule bs f qs) (sym e) h.divided) (rule_step bs s t j b q k w));
+  divided = subst (λ (z : Term). IsDivisionByRule bs f (with_quotient qs j z) (joined_terms t)) quotient
+      (IsDivisionByRule.next qs (joined_terms s) (joined_terms t) (subst (IsDivisionByRule bs f qs) (sym e) h.divided) (rule_step bs s t j b q k w));
   places = length-with_quotient qs j q ∙ h.places;
-  variables = record { at = λ n v. with-variables n qs j q (h.variables.at n v) (w.variables ∙ k.found.head ∙ first_length n s k.found.term (record { descending = k.found.variables.sound.descending; variables = subst (HasVariables n) (sym e) (h.form.kept.at n v) }) k.found.is) };
+  variables = record {
+    at = λ n v. with-variables n qs j q (h.variables.at n v) (w.variables ∙ k.found.head ∙ first_length n s k.found.term
+        (record { descending = k.found.variables.sound.descending; variables = subst (HasVariables n) (sym e) (h.form.kept.at n v) }) k.found.is);
+  };
 })
   where
     quotient : record { coef = coefficient (joined_terms s) k.found.term.mono; mono = q.mono } ≡ q
@@ -90,7 +97,8 @@ product-equal h k g s y =
     ∙ ap (λ (z : Terms). coefficient z y) (sym (product-is k g))
 
 -- one term more
-product-push : (q : Terms) (t : Term) (g : Terms) (y : Exponents) → coefficient (product_of (q ++ t ∷ []) g) y ≡ coefficient (product_of q g) y +ℚ coefficient (times t.coef t.mono g) y
+product-push : (q : Terms) (t : Term) (g : Terms) (y : Exponents) →
+    coefficient (product_of (q ++ t ∷ []) g) y ≡ coefficient (product_of q g) y +ℚ coefficient (times t.coef t.mono g) y
 product-push [] t g y = coefficient-++ (times t.coef t.mono g) [] y ∙ +ℚ-zero _ ∙ sym (zero-+ℚ _)
 product-push (s ∷ q) t g y =
     coefficient-++ (times s.coef s.mono g) (product_of (q ++ t ∷ []) g) y
@@ -98,7 +106,8 @@ product-push (s ∷ q) t g y =
     ∙ ap (λ z. z +ℚ coefficient (times t.coef t.mono g) y) (sym (coefficient-++ (times s.coef s.mono g) (product_of q g) y))
 
 -- one quotient more of the member at k
-sum-more : (qs : List Terms) (bs : List MarkedPolynomial) (k : ℕ) (b : MarkedPolynomial) (t : Term) (y : Exponents) → length qs ≡ length bs → IsAt bs k b → coefficient (cofactor_sum (with_quotient qs k t) bs) y ≡ coefficient (cofactor_sum qs bs) y +ℚ coefficient (times t.coef t.mono b.poly) y
+sum-more : (qs : List Terms) (bs : List MarkedPolynomial) (k : ℕ) (b : MarkedPolynomial) (t : Term) (y : Exponents) → length qs ≡ length bs → IsAt bs k b →
+    coefficient (cofactor_sum (with_quotient qs k t) bs) y ≡ coefficient (cofactor_sum qs bs) y +ℚ coefficient (times t.coef t.mono b.poly) y
 sum-more [] [] k b t y l a = absurd (omega (arith, a.within))
 sum-more [] (c ∷ bs) k b t y l a = absurd (omega arith)
 sum-more (q ∷ qs) [] k b t y l a = absurd (omega arith)
@@ -120,15 +129,26 @@ sum-none (b ∷ bs) y = sum-none bs y
 
 divided-places : (bs : List MarkedPolynomial) (f : Terms) (qs : List Terms) (g : Terms) → IsDivisionByRule bs f qs g → length qs ≡ length bs
 divided-places bs f qs g IsDivisionByRule.here = length-no_quotients bs
-divided-places bs f qs g (IsDivisionByRule.next rs k l d s) = length-with_quotient rs s.place (record { coef = coefficient k s.at; mono = s.rest }) ∙ divided-places bs f rs k d
+divided-places bs f qs g (IsDivisionByRule.next rs k l d s) =
+    length-with_quotient rs s.place (record { coef = coefficient k s.at; mono = s.rest }) ∙ divided-places bs f rs k d
 
 -- f is what is left and the sum of the quotients times the members
-pub divided-sum : (bs : List MarkedPolynomial) (f : Terms) (qs : List Terms) (g : Terms) → IsDivisionByRule bs f qs g → SamePolynomial f (g ++ cofactor_sum qs bs)
-divided-sum bs f qs g IsDivisionByRule.here y = sym (coefficient-++ f (cofactor_sum (no_quotients bs) bs) y ∙ ap (λ z. coefficient f y +ℚ z) (sum-none bs y) ∙ +ℚ-zero _)
+pub divided-sum : (bs : List MarkedPolynomial) (f : Terms) (qs : List Terms) (g : Terms) → IsDivisionByRule bs f qs g →
+    SamePolynomial f (g ++ cofactor_sum qs bs)
+divided-sum bs f qs g IsDivisionByRule.here y = sym (coefficient-++ f (cofactor_sum (no_quotients bs) bs) y ∙ ap (λ z. coefficient f y +ℚ z) (sum-none bs y) ∙
+    +ℚ-zero _)
 divided-sum bs f qs g (IsDivisionByRule.next rs k l d s) y =
     let t : Term = record { coef = coefficient k s.at; mono = s.rest } in
     divided-sum bs f rs k d y ∙ coefficient-++ k (cofactor_sum rs bs) y
-    ∙ ap (λ z. z +ℚ coefficient (cofactor_sum rs bs) y) (step-back (Contains bs) k g (record { at = s.at; member = s.member; rest = s.rest; contained = (s.place, s.contained.within, s.contained.is); there = s.there; divides = s.divides; equal = s.equal }) y ∙ coefficient-++ g (times t.coef t.mono s.member.poly) y)
+    ∙ ap (λ z. z +ℚ coefficient (cofactor_sum rs bs) y) (step-back (Contains bs) k g (record {
+      at = s.at;
+      member = s.member;
+      rest = s.rest;
+      contained = (s.place, s.contained.within, s.contained.is);
+      there = s.there;
+      divides = s.divides;
+      equal = s.equal;
+    }) y ∙ coefficient-++ g (times t.coef t.mono s.member.poly) y)
     ∙ +ℚ_assoc _ _ _
     ∙ ap (λ z. coefficient g y +ℚ z) (+ℚ_comm _ _ ∙ sym (sum-more rs bs s.place s.member t y (divided-places bs f rs k d) s.contained))
     ∙ sym (coefficient-++ g (cofactor_sum (with_quotient rs s.place t) bs) y)
@@ -145,7 +165,8 @@ sum-equal (q ∷ qs) (h ∷ hs) (b ∷ bs) a y =
     ∙ ap (λ z. coefficient (product_of h b.poly) y +ℚ z) (sum-equal qs hs bs a.1 y)
     ∙ sym (coefficient-++ (product_of h b.poly) (cofactor_sum hs bs) y)
 
-cofactor_sum_is : (bs : List MarkedPolynomial) (f r : Terms) (qs hs : List Terms) → IsDivisionByRule bs f qs r → AreSums qs hs → SamePolynomial f (r ++ cofactor_sum hs bs)
+cofactor_sum_is : (bs : List MarkedPolynomial) (f r : Terms) (qs hs : List Terms) → IsDivisionByRule bs f qs r → AreSums qs hs →
+    SamePolynomial f (r ++ cofactor_sum hs bs)
 cofactor_sum_is bs f r qs hs d a y =
     divided-sum bs f qs r d y ∙ coefficient-++ r (cofactor_sum qs bs) y ∙ ap (λ z. coefficient r y +ℚ z) (sum-equal qs hs bs a y)
     ∙ sym (coefficient-++ r (cofactor_sum hs bs) y)
@@ -158,7 +179,8 @@ sums-length (q ∷ qs) (h ∷ hs) a = ap suc (sums-length qs hs a.1)
 
 -- ---- refusals
 
-sum_division_refused : (bs : List MarkedPolynomial) (f r : Terms) (qs : List Terms) (e : PolyError) → IsDivisionByRule bs f qs r → IsSumRefusal qs e → IsDivisionRefusal bs f e
+sum_division_refused : (bs : List MarkedPolynomial) (f r : Terms) (qs : List Terms) (e : PolyError) → IsDivisionByRule bs f qs r → IsSumRefusal qs e →
+    IsDivisionRefusal bs f e
 sum_division_refused bs f r qs (errors.Overflow o) d h =
     let k = h.2 in (
       inr (record {
@@ -185,18 +207,22 @@ sum_division_refused bs f r qs errors.Memory d h = tt
 -- ---- the members of a set
 
 divided_along : (bs cs : List MarkedPolynomial) (f g r : Terms) (qs : List Terms) → cs ≡ bs → g ≡ f → IsDivisionByRule cs g qs r → IsDivisionByRule bs f qs r
-divided_along bs cs f g r qs e q d = subst (λ (h : Terms). IsDivisionByRule bs h qs r) q (subst (λ (ds : List MarkedPolynomial). IsDivisionByRule ds g qs r) e d)
+divided_along bs cs f g r qs e q d = subst (λ (h : Terms). IsDivisionByRule bs h qs r) q (subst (λ (ds : List MarkedPolynomial). IsDivisionByRule ds g qs r)
+    e d)
 
-pub sum_at : (bs cs : List MarkedPolynomial) (f g r : Terms) (qs hs ks : List Terms) → cs ≡ bs → g ≡ f → ks ≡ hs → IsDivisionByRule cs g qs r → AreSums qs hs → SamePolynomial f (r ++ cofactor_sum ks bs)
+pub sum_at : (bs cs : List MarkedPolynomial) (f g r : Terms) (qs hs ks : List Terms) → cs ≡ bs → g ≡ f → ks ≡ hs → IsDivisionByRule cs g qs r → AreSums qs hs →
+    SamePolynomial f (r ++ cofactor_sum ks bs)
 sum_at bs cs f g r qs hs ks e q l d a = cofactor_sum_is bs f r qs ks (divided_along bs cs f g r qs e q d) (subst (AreSums qs) (sym l) a)
 
-pub sums_refused : (bs cs : List MarkedPolynomial) (f g r : Terms) (qs : List Terms) (x : PolyError) → cs ≡ bs → g ≡ f → IsDivisionByRule cs g qs r → IsSumRefusal qs x → IsDivisionRefusal bs f x
+pub sums_refused : (bs cs : List MarkedPolynomial) (f g r : Terms) (qs : List Terms) (x : PolyError) → cs ≡ bs → g ≡ f → IsDivisionByRule cs g qs r →
+    IsSumRefusal qs x → IsDivisionRefusal bs f x
 sums_refused bs cs f g r qs x e q d h = sum_division_refused bs f r qs x (divided_along bs cs f g r qs e q d) h
 
 pub variables_at : (n : ℕ) (f g r : Terms) → g ≡ f → HasVariables n f → KeepsVariables g r → HasVariables n r
 variables_at n f g r q v k = k.at n (subst (HasVariables n) (sym q) v)
 
-pub places_at : (bs cs : List MarkedPolynomial) (f g r : Terms) (qs hs ks : List Terms) → cs ≡ bs → g ≡ f → ks ≡ hs → IsDivisionByRule cs g qs r → AreSums qs hs → length ks ≡ length bs
+pub places_at : (bs cs : List MarkedPolynomial) (f g r : Terms) (qs hs ks : List Terms) → cs ≡ bs → g ≡ f → ks ≡ hs → IsDivisionByRule cs g qs r →
+    AreSums qs hs → length ks ≡ length bs
 places_at bs cs f g r qs hs ks e q l d a = ap length l ∙ sums-length qs hs a ∙ divided-places cs g qs r d ∙ ap length e
 
 pub forms_at : (n : ℕ) (f g : Terms) (qs hs ks : List Terms) → g ≡ f → ks ≡ hs → HasVariables n f → HaveVariablesOf g qs → KeepForms qs hs → AreForms n ks

@@ -42,7 +42,15 @@ pub data IsFirstReached (bs : List MarkedPolynomial) (f : Terms) : Terms → Typ
 pub first_of_rule : (bs : List MarkedPolynomial) (f g : Terms) → IsRuleReached bs f g → IsFirstReached bs f g
 first_of_rule bs f g (IsRuleReached.here k e) = IsFirstReached.here k e
 first_of_rule bs f g (IsRuleReached.next k l r s) = IsFirstReached.next k l (first_of_rule bs f k r) (record {
-  step = record { at = s.at; member = s.member; rest = s.rest; contained = (s.place, s.contained.within, s.contained.is); there = s.there; divides = s.divides; equal = s.equal };
+  step = record {
+    at = s.at;
+    member = s.member;
+    rest = s.rest;
+    contained = (s.place, s.contained.within, s.contained.is);
+    there = s.there;
+    divides = s.divides;
+    equal = s.equal;
+  };
   first = record { place = s.place; at = s.contained; before = s.first };
 })
 
@@ -80,7 +88,8 @@ same_multiple bs p q e k l s =
     member = members_equal bs l.place p.of q.of (subst (λ (i : ℕ). IsAt bs i p.of) place k.at) l.at
 
     shift : same q.shift p.shift ≡ true
-    shift = cancel p.of.head q.shift p.shift (subst (λ (b : MarkedPolynomial). same (plus q.shift b.head) (level p) ≡ true) (sym member) (same_flip (level p) (level q) s))
+    shift = cancel p.of.head q.shift p.shift (subst (λ (b : MarkedPolynomial). same (plus q.shift b.head) (level p) ≡ true) (sym member)
+        (same_flip (level p) (level q) s))
 
 -- a multiple whose mark comes to a monomial of the greatest weight, and the rest
 record Heaviest (bs : List MarkedPolynomial) (w : List ℕ) (ps : List Piece) : Type 0 where
@@ -115,7 +124,8 @@ heaviest bs w p (q ∷ ps) h k = at (heaviest bs w q ps k.0 k.1)
     at r = elim (cases_lt (weight w (level r.piece)) (weight w (level p))) [
       | inl l ↦
           let up : Each (IsPieceWithin (Contains bs) w (weight w (level p))) (q ∷ ps) =
-          Each-weaker (IsPieceWithin (Contains bs) w (weight w (level r.piece))) (IsPieceWithin (Contains bs) w (weight w (level p))) (λ x m. record { member = m.member; within = omega (arith, m.within, l) }) (q ∷ ps) r.all in
+          Each-weaker (IsPieceWithin (Contains bs) w (weight w (level r.piece))) (IsPieceWithin (Contains bs) w (weight w (level p)))
+          (λ x m. record { member = m.member; within = omega (arith, m.within, l) }) (q ∷ ps) r.all in
           record {
             piece = p;
             rest = q ∷ ps;
@@ -138,7 +148,8 @@ heaviest bs w p (q ∷ ps) h k = at (heaviest bs w q ps k.0 k.1)
             coefficient-++ (times p.factor p.shift p.of.poly) (value (q ∷ ps)) e
             ∙ ap (λ z. coefficient (times p.factor p.shift p.of.poly) e +ℚ z) (r.equal e)
             ∙ swap_first _ _ _
-            ∙ ap (λ z. coefficient (times r.piece.factor r.piece.shift r.piece.of.poly) e +ℚ z) (sym (coefficient-++ (times p.factor p.shift p.of.poly) (value r.rest) e));
+            ∙ ap (λ z. coefficient (times r.piece.factor r.piece.shift r.piece.of.poly) e +ℚ z) (sym (coefficient-++ (times p.factor p.shift p.of.poly)
+            (value r.rest) e));
       }
     ]
 
@@ -166,25 +177,36 @@ first_zero bs w m (suc n) (p ∷ ps) l h i = at (heaviest bs w p ps h.0 h.1) (fi
         alone : NoneAt (level t) r.rest → coefficient (value (p ∷ ps)) (level t) ≡ t.factor
         alone none =
             r.equal (level t)
-            ∙ ap (λ z. z +ℚ coefficient (value r.rest) (level t)) (coefficient-mark t.factor t.shift (level t) t.of (m t.of (first_contained bs (level t) t.of r.first)).monic (same-refl (level t)))
+            ∙ ap (λ z. z +ℚ coefficient (value r.rest) (level t))
+            (coefficient-mark t.factor t.shift (level t) t.of (m t.of (first_contained bs (level t) t.of r.first)).monic (same-refl (level t)))
             ∙ ap (λ z. t.factor +ℚ z) (nothing_at (Contains bs) w (level t) r.rest m r.rest_within none)
             ∙ +ℚ-zero t.factor
 
         onto : Found (IsFirstPiece bs) (level t) r.rest ⊎ NoneAt (level t) r.rest → SamePolynomial (value (p ∷ ps)) []
-        onto (inl f) = fewer (record { factor = t.factor +ℚ f.piece.factor; shift = t.shift; of = t.of } ∷ f.rest) (omega (arith, r.shorter, f.shorter)) (r.first, f.rest_holds) (λ e.
+        onto (inl f) = fewer (record { factor = t.factor +ℚ f.piece.factor; shift = t.shift; of = t.of } ∷ f.rest) (omega (arith, r.shorter, f.shorter))
+            (r.first, f.rest_holds) (λ e.
             r.equal e
             ∙ ap (λ z. coefficient (times t.factor t.shift t.of.poly) e +ℚ z) (f.equal e)
-            ∙ ap (λ z. z +ℚ (coefficient (times f.piece.factor f.piece.shift f.piece.of.poly) e +ℚ coefficient (value f.rest) e)) (coefficient-factor t.factor t.shift t.of.poly e)
-            ∙ ap (λ z. t.factor *ℚ coefficient (times one_ℚ t.shift t.of.poly) e +ℚ (z +ℚ coefficient (value f.rest) e)) (coefficient-factor f.piece.factor f.piece.shift f.piece.of.poly e ∙ ap (λ z. f.piece.factor *ℚ z) (same_multiple bs t f.piece e r.first f.holds f.like))
+            ∙ ap (λ z. z +ℚ (coefficient (times f.piece.factor f.piece.shift f.piece.of.poly) e +ℚ coefficient (value f.rest) e))
+            (coefficient-factor t.factor t.shift t.of.poly e)
+            ∙ ap (λ z. t.factor *ℚ coefficient (times one_ℚ t.shift t.of.poly) e +ℚ (z +ℚ coefficient (value f.rest) e))
+            (coefficient-factor f.piece.factor f.piece.shift f.piece.of.poly e ∙
+            ap (λ z. f.piece.factor *ℚ z) (same_multiple bs t f.piece e r.first f.holds f.like))
             ∙ joined t.factor f.piece.factor (coefficient (times one_ℚ t.shift t.of.poly) e) (coefficient (value f.rest) e)
             ∙ ap (λ z. z +ℚ coefficient (value f.rest) e) (sym (coefficient-factor (t.factor +ℚ f.piece.factor) t.shift t.of.poly e))
             ∙ sym (coefficient-++ (times (t.factor +ℚ f.piece.factor) t.shift t.of.poly) (value f.rest) e))
         onto (inr none) = elim (zero_or_not t.factor) [
           | inl z ↦ fewer r.rest (omega (arith, r.shorter)) r.rest_first (λ e.
               r.equal e
-              ∙ ap (λ y. y +ℚ coefficient (value r.rest) e) (coefficient-factor t.factor t.shift t.of.poly e ∙ ap (λ y. y *ℚ coefficient (times one_ℚ t.shift t.of.poly) e) z ∙ zero-*ℚ _)
+              ∙ ap (λ y. y +ℚ coefficient (value r.rest) e) (coefficient-factor t.factor t.shift t.of.poly e ∙
+              ap (λ y. y *ℚ coefficient (times one_ℚ t.shift t.of.poly) e) z ∙ zero-*ℚ _)
               ∙ zero-+ℚ _)
-          | inr z ↦ absurd (i (level t) (λ y. z (sym (alone none) ∙ y)) (record { member = t.of; contained = first_contained bs (level t) t.of r.first; rest = t.shift; divides = same-refl (level t) }))
+          | inr z ↦ absurd (i (level t) (λ y. z (sym (alone none) ∙ y)) (record {
+            member = t.of;
+            contained = first_contained bs (level t) t.of r.first;
+            rest = t.shift;
+            divides = same-refl (level t);
+          }))
         ]
 
 -- ---- what such steps take away
@@ -207,7 +229,8 @@ first_taken bs f g (IsFirstReached.next k l r s) = more (first_taken bs f k r)
           first = (first_along bs s.step.at (plus s.step.rest s.step.member.head) s.step.member s.step.divides s.first, t.first);
           equal = λ e.
               t.equal e
-              ∙ ap (λ z. z +ℚ coefficient (value t.pieces) e) (step-back (Contains bs) k g s.step e ∙ coefficient-++ g (times c s.step.rest s.step.member.poly) e)
+              ∙ ap (λ z. z +ℚ coefficient (value t.pieces) e) (step-back (Contains bs) k g s.step e ∙ coefficient-++ g (times c s.step.rest s.step.member.poly)
+              e)
               ∙ +ℚ_assoc _ _ _
               ∙ ap (λ z. coefficient g e +ℚ z) (sym (coefficient-++ (times c s.step.rest s.step.member.poly) (value t.pieces) e));
         }
@@ -226,15 +249,18 @@ first_unique bs w f r t m p q i j = at (first_taken bs f r p) (first_taken bs f 
         pieces = b.pieces ++ scale (neg_ℚ one_ℚ) [] a.pieces
 
         firsts : Each (IsFirstPiece bs) pieces
-        firsts = Each-++ (IsFirstPiece bs) b.pieces (scale (neg_ℚ one_ℚ) [] a.pieces) b.first (Each-scale (IsFirstPiece bs) (IsFirstPiece bs) (neg_ℚ one_ℚ) [] (λ x k. k) a.pieces a.first)
+        firsts = Each-++ (IsFirstPiece bs) b.pieces (scale (neg_ℚ one_ℚ) [] a.pieces) b.first (Each-scale (IsFirstPiece bs) (IsFirstPiece bs) (neg_ℚ one_ℚ)
+            [] (λ x k. k) a.pieces a.first)
 
         negated : (e : Exponents) → coefficient (value (scale (neg_ℚ one_ℚ) [] a.pieces)) e ≡ neg_ℚ (coefficient (value a.pieces) e)
-        negated e = ap (λ z. coefficient z e) (value-scale (neg_ℚ one_ℚ) [] a.pieces) ∙ coefficient-factor (neg_ℚ one_ℚ) [] (value a.pieces) e ∙ ap (λ z. neg_ℚ one_ℚ *ℚ coefficient z e) (times-plain (value a.pieces)) ∙ neg_one _
+        negated e = ap (λ z. coefficient z e) (value-scale (neg_ℚ one_ℚ) [] a.pieces) ∙ coefficient-factor (neg_ℚ one_ℚ) [] (value a.pieces) e ∙
+            ap (λ z. neg_ℚ one_ℚ *ℚ coefficient z e) (times-plain (value a.pieces)) ∙ neg_one _
 
         difference : (e : Exponents) → coefficient r e ≡ coefficient t e +ℚ coefficient (value pieces) e
         difference e =
             crossed_over (coefficient r e) (coefficient (value a.pieces) e) (coefficient t e) (coefficient (value b.pieces) e) (sym (a.equal e) ∙ b.equal e)
-            ∙ ap (λ z. coefficient t e +ℚ z) (ap (λ z. coefficient (value b.pieces) e +ℚ z) (sym (negated e)) ∙ sym (coefficient-value-++ b.pieces (scale (neg_ℚ one_ℚ) [] a.pieces) e))
+            ∙ ap (λ z. coefficient t e +ℚ z) (ap (λ z. coefficient (value b.pieces) e +ℚ z) (sym (negated e)) ∙
+            sym (coefficient-value-++ b.pieces (scale (neg_ℚ one_ℚ) [] a.pieces) e))
 
         irreducible : IsIrreducible (Contains bs) (value pieces)
         irreducible x c d = elim (zero_or_not (coefficient r x)) [

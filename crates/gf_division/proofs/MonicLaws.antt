@@ -29,7 +29,8 @@ mark-there : (b : MarkedPolynomial) (k : Fraction) → HasSomeVariables b → Ha
 mark-there b k v m h = term_there v.n b.poly (record { coef = k; mono = b.head }) v.each m.descending h
 
 -- a mark that isn't 1
-pub mark_not_one : (b : MarkedPolynomial) (k l : Fraction) (r : Bool) → HasSomeVariables b → HasMarkedTerm b → HasMark b k → l ≡ one_ℚ → r ≡ fraction_eq k l → r ≡ false → coefficient b.poly b.head ≢ one_ℚ
+pub mark_not_one : (b : MarkedPolynomial) (k l : Fraction) (r : Bool) → HasSomeVariables b → HasMarkedTerm b → HasMark b k → l ≡ one_ℚ → r ≡ fraction_eq k l →
+    r ≡ false → coefficient b.poly b.head ≢ one_ℚ
 mark_not_one b k l r v m h o e t z = let d : fraction_eq k l ≡ true = (Decides-fraction_eq k l).1 (sym (mark-coefficient b k v m h) ∙ z ∙ sym o) in absurd (cc)
 
 -- a monic polynomial is its own monic form
@@ -46,7 +47,8 @@ monic_already b v m h = record {
 pub monic_made : (f g : MarkedPolynomial) → HasSomeVariables f → HasMarkedTerm f → coefficient f.poly f.head ≢ one_ℚ → IsMonicOf f g → IsMadeMonic f g
 monic_made f g v m n h = record { form = monic_form v.n f g v.each m.descending h; head = h.head; kept = λ o. absurd (n o) }
 
-refused : (f : MarkedPolynomial) (e : PolyError) → HasSomeVariables f → HasMarkedTerm f → coefficient f.poly f.head ≢ one_ℚ → IsMonicCause f e → IsMonicRefusal f e
+refused : (f : MarkedPolynomial) (e : PolyError) → HasSomeVariables f → HasMarkedTerm f → coefficient f.poly f.head ≢ one_ℚ → IsMonicCause f e →
+    IsMonicRefusal f e
 refused f (errors.Overflow o) v m n h = at h.cause
   where
     at : IsScaleOverflow Over h.mark f.poly o → IsMonicRefusal f (errors.Overflow o)
@@ -67,11 +69,13 @@ refused f (errors.Exponent o) v m n h = absurd h.cause
 refused f errors.Memory v m n h = tt
 
 -- the same of results
-pub if_monic_made : (f : MarkedPolynomial) (r : Result MarkedPolynomial PolyError) → HasSomeVariables f → HasMarkedTerm f → coefficient f.poly f.head ≢ one_ℚ → IfOk r (IsMonicOf f) → IfOk r (IsMadeMonic f)
+pub if_monic_made : (f : MarkedPolynomial) (r : Result MarkedPolynomial PolyError) → HasSomeVariables f → HasMarkedTerm f → coefficient f.poly f.head ≢ one_ℚ →
+    IfOk r (IsMonicOf f) → IfOk r (IsMadeMonic f)
 if_monic_made f (Ok g) v m n h = monic_made f g v m n h
 if_monic_made f (Err e) v m n h = tt
 
-pub if_monic_refused : (f : MarkedPolynomial) (r : Result MarkedPolynomial PolyError) → HasSomeVariables f → HasMarkedTerm f → coefficient f.poly f.head ≢ one_ℚ → IfErr r (IsMonicCause f) → IfErr r (IsMonicRefusal f)
+pub if_monic_refused : (f : MarkedPolynomial) (r : Result MarkedPolynomial PolyError) → HasSomeVariables f → HasMarkedTerm f →
+    coefficient f.poly f.head ≢ one_ℚ → IfErr r (IsMonicCause f) → IfErr r (IsMonicRefusal f)
 if_monic_refused f (Ok g) v m n h = tt
 if_monic_refused f (Err e) v m n h = refused f e v m n h
 

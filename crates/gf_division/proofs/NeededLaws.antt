@@ -29,7 +29,13 @@ use Rattle.gf_division.proofs.RuleLaws.{no_multiple}
 -- ---- divisors
 
 both_divide : (x y : Exponents) → Divides x y → Divides y x → same x y ≡ true
-both_divide x y h k = same_by_entries x y (λ i. omega (arith, entries_same y (plus h.rest x) h.product i, entry-plus h.rest x i, entries_same x (plus k.rest y) k.product i, entry-plus k.rest y i))
+both_divide x y h k = same_by_entries x y (λ i. omega (
+  arith,
+  entries_same y (plus h.rest x) h.product i,
+  entry-plus h.rest x i,
+  entries_same x (plus k.rest y) k.product i,
+  entry-plus k.rest y i,
+))
 
 divides_same : (x y : Exponents) → same x y ≡ true → Divides x y
 divides_same x y s = record { rest = []; product = same_flip x y s }
@@ -38,7 +44,15 @@ divides_same x y s = record { rest = []; product = same_flip x y s }
 pub divides_trans : (x y z : Exponents) → Divides x y → Divides y z → Divides x z
 divides_trans x y z h k = record {
   rest = plus k.rest h.rest;
-  product = same_by_entries z (plus (plus k.rest h.rest) x) (λ i. omega (arith, entries_same y (plus h.rest x) h.product i, entry-plus h.rest x i, entries_same z (plus k.rest y) k.product i, entry-plus k.rest y i, entry-plus (plus k.rest h.rest) x i, entry-plus k.rest h.rest i));
+  product = same_by_entries z (plus (plus k.rest h.rest) x) (λ i. omega (
+    arith,
+    entries_same y (plus h.rest x) h.product i,
+    entry-plus h.rest x i,
+    entries_same z (plus k.rest y) k.product i,
+    entry-plus k.rest y i,
+    entry-plus (plus k.rest h.rest) x i,
+    entry-plus k.rest h.rest i,
+  ));
 }
 
 divides_or_not : (x y : Exponents) → Divides x y ⊎ ¬ (Divides x y)
@@ -50,7 +64,8 @@ divides_or_not x y = elim (multiple_or_not x y) [
     not_both : Divides x y → NoMultiple x y → ⊥
     not_both d n =
         let f : same y (plus x d.rest) ≡ false = n d.rest in
-        let t : same y (plus x d.rest) ≡ true = same_trans y (plus d.rest x) (plus x d.rest) d.product (same_of (plus d.rest x) (plus x d.rest) (plus_comm d.rest x)) in
+        let t : same y (plus x d.rest) ≡ true =
+        same_trans y (plus d.rest x) (plus x d.rest) d.product (same_of (plus d.rest x) (plus x d.rest) (plus_comm d.rest x)) in
         cc
 
 -- a divisor of the same degree is the same monomial
@@ -90,7 +105,8 @@ needless_or_not x y false = elim (divides_or_not x y) [
 not_before : (i j : ℕ) (r : Bool) → ((j < i → r ≡ true)) → r ≡ false → i ≤ j
 not_before i j r y e = elim (cases_lt j i) [ inl l ↦ let t = y l in absurd (cc) | inr g ↦ g ]
 
-needed_more : (bs : List MarkedPolynomial) (i j : ℕ) (x : Exponents) (c : MarkedPolynomial) (r : Bool) → IsAt bs j c → (j < i → r ≡ true) → (MakesNeedless c.head x r → ⊥) → NeededSoFar bs i j x → NeededSoFar bs i (j + 1) x
+needed_more : (bs : List MarkedPolynomial) (i j : ℕ) (x : Exponents) (c : MarkedPolynomial) (r : Bool) → IsAt bs j c → (j < i → r ≡ true) →
+    (MakesNeedless c.head x r → ⊥) → NeededSoFar bs i j x → NeededSoFar bs i (j + 1) x
 needed_more bs i j x c r a y n h = record { least = λ k d l m v. at k d (cases_lt k j) l m v }
   where
     at : (k : ℕ) (d : MarkedPolynomial) → (k < j) ⊎ (j ≤ k) → k < j + 1 → IsAt bs k d → Divides d.head x → (same d.head x ≡ true) × (i ≤ k)
@@ -108,8 +124,10 @@ needed_end bs i j b a l h = record { at = a; least = λ k c m d. h.least k c (om
 before_test : (j i : ℕ) → j < i → nat_lt j i ≡ true
 before_test j i l = grind (arith, nat_tests)
 
-pub needed_by_test : (bs : List MarkedPolynomial) (i j : ℕ) (b c : MarkedPolynomial) (x y : Exponents) → IsAt bs j c → x ≡ c.head → y ≡ b.head → (MakesNeedless x y (nat_lt j i) → ⊥) → NeededSoFar bs i j b.head → NeededSoFar bs i (j + 1) b.head
-needed_by_test bs i j b c x y a ex ey n h = needed_more bs i j b.head c (nat_lt j i) a (before_test j i) (λ m. n (subst (λ (z : Exponents). MakesNeedless z y (nat_lt j i)) (sym ex) (subst (λ (z : Exponents). MakesNeedless c.head z (nat_lt j i)) (sym ey) m))) h
+pub needed_by_test : (bs : List MarkedPolynomial) (i j : ℕ) (b c : MarkedPolynomial) (x y : Exponents) → IsAt bs j c → x ≡ c.head → y ≡ b.head →
+    (MakesNeedless x y (nat_lt j i) → ⊥) → NeededSoFar bs i j b.head → NeededSoFar bs i (j + 1) b.head
+needed_by_test bs i j b c x y a ex ey n h = needed_more bs i j b.head c (nat_lt j i) a (before_test j i)
+    (λ m. n (subst (λ (z : Exponents). MakesNeedless z y (nat_lt j i)) (sym ex) (subst (λ (z : Exponents). MakesNeedless c.head z (nat_lt j i)) (sym ey) m))) h
 
 -- ---- the marks of needed members divide each mark
 
@@ -173,19 +191,28 @@ search bs i (suc m) b a l = elim (search bs i m b a (omega arith)) [
 abbrev CoveredBelow : List MarkedPolynomial → ℕ → Type 0
 CoveredBelow bs d = (i : ℕ) (b : MarkedPolynomial) → IsAt bs i b → degree b.head < d → IsCovered bs b.head
 
-covered_places : (bs : List MarkedPolynomial) (d p i : ℕ) (b : MarkedPolynomial) → CoveredBelow bs d → IsAt bs i b → degree b.head < suc d → i < p → IsCovered bs b.head
+covered_places : (bs : List MarkedPolynomial) (d p i : ℕ) (b : MarkedPolynomial) → CoveredBelow bs d → IsAt bs i b → degree b.head < suc d → i < p →
+    IsCovered bs b.head
 covered_places bs d zero i b w a l m = absurd (omega arith)
-covered_places bs d (suc p) i b w a l m = at (search bs i (length bs) b a (omega arith)) (λ h e k. covered_places bs d p h.place h.member w h.at (omega (arith, e)) (omega (arith, k)))
+covered_places bs d (suc p) i b w a l m =
+    at (search bs i (length bs) b a (omega arith)) (λ h e k. covered_places bs d p h.place h.member w h.at (omega (arith, e)) (omega (arith, k)))
   where
     through : (c : MarkedPolynomial) → Divides c.head b.head → IsCovered bs c.head → IsCovered bs b.head
     through c v h = record { place = h.place; member = h.member; needed = h.needed; divides = divides_trans h.member.head c.head b.head h.divides v }
 
-    less : (h : IsMadeNeedless bs i b.head) → ((h : IsMadeNeedless bs i b.head) → degree h.member.head ≡ degree b.head → h.place < i → IsCovered bs h.member.head) → (degree h.member.head < degree b.head) ⊎ ((degree h.member.head ≡ degree b.head) × (h.place < i)) → IsCovered bs b.head
+    less : (h : IsMadeNeedless bs i b.head) → ((h : IsMadeNeedless bs i b.head) → degree h.member.head ≡ degree b.head → h.place < i →
+        IsCovered bs h.member.head) → (degree h.member.head < degree b.head) ⊎ ((degree h.member.head ≡ degree b.head) × (h.place < i)) → IsCovered bs b.head
     less h e (inl k) = through h.member h.divides (w h.place h.member h.at (omega arith))
     less h e (inr k) = through h.member h.divides (e h k.0 k.1)
 
-    at : NeededSoFar bs i (length bs) b.head ⊎ IsMadeNeedless bs i b.head → ((h : IsMadeNeedless bs i b.head) → degree h.member.head ≡ degree b.head → h.place < i → IsCovered bs h.member.head) → IsCovered bs b.head
-    at (inl h) e = record { place = i; member = b; needed = needed_end bs i (length bs) b a (omega arith) h; divides = divides_same b.head b.head (same-refl b.head) }
+    at : NeededSoFar bs i (length bs) b.head ⊎ IsMadeNeedless bs i b.head → ((h : IsMadeNeedless bs i b.head) → degree h.member.head ≡ degree b.head →
+        h.place < i → IsCovered bs h.member.head) → IsCovered bs b.head
+    at (inl h) e = record {
+      place = i;
+      member = b;
+      needed = needed_end bs i (length bs) b a (omega arith) h;
+      divides = divides_same b.head b.head (same-refl b.head);
+    }
     at (inr h) e = less h e h.less
 
 covered_below : (bs : List MarkedPolynomial) (d : ℕ) → CoveredBelow bs d
@@ -234,7 +261,8 @@ forming-skipped bs i ks n h = record {
     at j b (inr q) l m = absurd (n (b, subst (λ (i : ℕ). IsNeeded bs i b) (omega arith) m))
 
 -- a list that is apart, and one more
-apart-push : (ks : List MarkedPolynomial) (b : MarkedPolynomial) → AreApart ks → ((c : MarkedPolynomial) → Contains ks c → NoMultiple c.head b.head × NoMultiple b.head c.head) → AreApart (ks ++ b ∷ [])
+apart-push : (ks : List MarkedPolynomial) (b : MarkedPolynomial) → AreApart ks →
+    ((c : MarkedPolynomial) → Contains ks c → NoMultiple c.head b.head × NoMultiple b.head c.head) → AreApart (ks ++ b ∷ [])
 apart-push [] b h n = (tt, tt)
 apart-push (a ∷ ks) b h n = (
   each_contained (λ (c : MarkedPolynomial). NoMultiple a.head c.head × NoMultiple c.head a.head) (ks ++ b ∷ []) (λ c k. at c (Contains-push_cases ks b c k)),
@@ -246,7 +274,8 @@ apart-push (a ∷ ks) b h n = (
     at c (inr e) = subst (λ (d : MarkedPolynomial). NoMultiple a.head d.head × NoMultiple d.head a.head) e (n a (Contains-here a ks))
 
 -- the marks of needed members at two places are apart
-needed_apart : (bs : List MarkedPolynomial) (i j : ℕ) (b c : MarkedPolynomial) → IsNeeded bs i b → IsNeeded bs j c → j < i → NoMultiple c.head b.head × NoMultiple b.head c.head
+needed_apart : (bs : List MarkedPolynomial) (i j : ℕ) (b c : MarkedPolynomial) → IsNeeded bs i b → IsNeeded bs j c → j < i →
+    NoMultiple c.head b.head × NoMultiple b.head c.head
 needed_apart bs i j b c m n l = (
   no_multiple c.head b.head (λ d. absurd (omega (arith, (m.least j c n.at d).1))),
   no_multiple b.head c.head (λ d. absurd (omega (arith, (m.least j c n.at (divides_same c.head b.head (same_flip b.head c.head (n.least i b m.at d).0))).1))),
@@ -257,12 +286,15 @@ needed_here : (bs : List MarkedPolynomial) (i : ℕ) (b : MarkedPolynomial) → 
 needed_here bs i b a m = subst (IsNeeded bs i) (members_equal bs i m.0 b m.1.at a) m.1
 
 -- the form of the needed member at i
-pub forming-more : (bs : List MarkedPolynomial) (i : ℕ) (ks ls : List MarkedPolynomial) (b k : MarkedPolynomial) → IsAt bs i b → IsNeededAt bs i → IsMadeMonic b k → KeepsVariables b.poly k.poly → ls ≡ ks ++ k ∷ [] → Forming bs i ks → Forming bs (i + 1) ls
+pub forming-more : (bs : List MarkedPolynomial) (i : ℕ) (ks ls : List MarkedPolynomial) (b k : MarkedPolynomial) → IsAt bs i b → IsNeededAt bs i →
+    IsMadeMonic b k → KeepsVariables b.poly k.poly → ls ≡ ks ++ k ∷ [] → Forming bs i ks → Forming bs (i + 1) ls
 forming-more bs i ks ls b k a m f v e h = subst (Forming bs (i + 1)) (sym e) (record {
   inside = λ c l. within c (Contains-push_cases ks k c l);
   all = λ j c l n. at j c (cases_lt j i) l n;
   apart = apart-push ks k h.apart (λ c l. beside c (h.inside c l));
-  variables = record { at = λ n w. each_contained (λ (c : MarkedPolynomial). HasVariables n c.poly) (ks ++ k ∷ []) (λ c l. kept n w c (Contains-push_cases ks k c l)) };
+  variables = record {
+    at = λ n w. each_contained (λ (c : MarkedPolynomial). HasVariables n c.poly) (ks ++ k ∷ []) (λ c l. kept n w c (Contains-push_cases ks k c l));
+  };
 })
   where
     here : IsNeeded bs i b
@@ -281,7 +313,8 @@ forming-more bs i ks ls b k a m f v e h = subst (Forming bs (i + 1)) (sym e) (re
     beside : (c : MarkedPolynomial) → IsFormBefore bs i c → NoMultiple c.head k.head × NoMultiple k.head c.head
     beside c g =
         let p = needed_apart bs i g.form.place b g.form.member here g.form.needed g.earlier in
-        subst (λ (x : Exponents). NoMultiple x k.head × NoMultiple k.head x) (sym g.form.form.head) (subst (λ (x : Exponents). NoMultiple g.form.member.head x × NoMultiple x g.form.member.head) (sym f.head) p)
+        subst (λ (x : Exponents). NoMultiple x k.head × NoMultiple k.head x) (sym g.form.form.head)
+        (subst (λ (x : Exponents). NoMultiple g.form.member.head x × NoMultiple x g.form.member.head) (sym f.head) p)
 
     kept : (n : ℕ) → HaveVariables n bs → (c : MarkedPolynomial) → Contains ks c ⊎ (k ≡ c) → HasVariables n c.poly
     kept n w c (inl l) = contained_each (λ (c : MarkedPolynomial). HasVariables n c.poly) ks (h.variables.at n w) c l
@@ -312,7 +345,8 @@ needed_divisible bs ks h b c =
 -- ---- refusals
 
 -- the member at the place i is needed, and isn't made monic
-pub needed_refused : (bs : List MarkedPolynomial) (i : ℕ) (b : MarkedPolynomial) (e : PolyError) → IsAt bs i b → IsNeededAt bs i → IsMonicRefusal b e → IsNeededRefusal bs e
+pub needed_refused : (bs : List MarkedPolynomial) (i : ℕ) (b : MarkedPolynomial) (e : PolyError) → IsAt bs i b → IsNeededAt bs i → IsMonicRefusal b e →
+    IsNeededRefusal bs e
 needed_refused bs i b (errors.Overflow o) a m h = (record { place = i; member = b; needed = needed_here bs i b a m; operation = h.0 }, h.1)
 needed_refused bs i b (errors.Exponent o) a m h = h
 needed_refused bs i b errors.Memory a m h = tt

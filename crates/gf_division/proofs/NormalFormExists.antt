@@ -161,7 +161,16 @@ bound_of f = at (collect (λ (t : Term) (k : ℕ). IsSmallBy k t.mono) (λ (t : 
   where
     each : (f : Terms) → Each (λ (t : Term). (k : ℕ) × IsSmallBy k t.mono) f
     each [] = tt
-    each (t ∷ f) = ((degree t.mono + length t.mono, record { entries = λ i. omega (arith, entry-degree t.mono i); ring = λ i m. entry-past t.mono i (omega arith) }), each f)
+    each (t ∷ f) = (
+      (
+        degree t.mono + length t.mono,
+        record {
+          entries = λ i. omega (arith, entry-degree t.mono i);
+          ring = λ i m. entry-past t.mono i (omega arith);
+        },
+      ),
+      each f,
+    )
 
     at : ((k : ℕ) × Each (λ (t : Term). IsSmallBy k t.mono) f) → (k : ℕ) × AreSmallBy k f
     at r = (r.0, by_terms (IsSmallBy r.0) f (small-along r.0) r.1)
@@ -186,7 +195,8 @@ record IsLimited (limit k : ℕ) (w : List ℕ) (x : Exponents) : Type 0 where
 limited-along : (limit k : ℕ) (w : List ℕ) (x y : Exponents) → same x y ≡ true → IsLimited limit k w x → IsLimited limit k w y
 limited-along limit k w x y s h = record {
   ring = ring-along k x y s h.ring;
-  entries = λ i. subst (λ (v : ℕ). entry y i + v * k ≤ limit) (weight-same w x y s) (subst (λ (v : ℕ). v + weight w x * k ≤ limit) (entries_same x y s i) (h.entries i));
+  entries = λ i. subst (λ (v : ℕ). entry y i + v * k ≤ limit) (weight-same w x y s) (subst (λ (v : ℕ). v + weight w x * k ≤ limit) (entries_same x y s i)
+      (h.entries i));
 }
 
 -- a lighter monomial whose exponents are greater by k at most
@@ -212,7 +222,8 @@ limited-closed limit k w bs m h = record { along = limited-along limit k w; lowe
 
 -- the monomials of f are up to some limit
 limit_of : (k : ℕ) (w : List ℕ) (f : Terms) → AreSmallBy k f → (limit : ℕ) × IsWithin (IsLimited limit k w) f
-limit_of k w f b = at (collect (λ (t : Term) (l : ℕ). (i : ℕ) → entry t.mono i + weight w t.mono * k ≤ l) (λ (t : Term) (l m : ℕ) h p i. omega (arith, h, p i)) f (each f))
+limit_of k w f b = at (collect (λ (t : Term) (l : ℕ). (i : ℕ) → entry t.mono i + weight w t.mono * k ≤ l) (λ (t : Term) (l m : ℕ) h p i. omega (arith, h, p i))
+    f (each f))
   where
     each : (f : Terms) → Each (λ (t : Term). (l : ℕ) × ((i : ℕ) → entry t.mono i + weight w t.mono * k ≤ l)) f
     each [] = tt
@@ -222,7 +233,8 @@ limit_of k w f b = at (collect (λ (t : Term) (l : ℕ). (i : ℕ) → entry t.m
     at r = (r.0, λ x n. record { ring = (b x n).ring; entries = by_terms (λ (x : Exponents). (i : ℕ) → entry x i + weight w x * k ≤ r.0) f along r.1 x n })
       where
         along : (x y : Exponents) → same x y ≡ true → ((i : ℕ) → entry x i + weight w x * k ≤ r.0) → (i : ℕ) → entry y i + weight w y * k ≤ r.0
-        along x y s h i = subst (λ (v : ℕ). entry y i + v * k ≤ r.0) (weight-same w x y s) (subst (λ (v : ℕ). v + weight w x * k ≤ r.0) (entries_same x y s i) (h i))
+        along x y s h i = subst (λ (v : ℕ). entry y i + v * k ≤ r.0) (weight-same w x y s) (subst (λ (v : ℕ). v + weight w x * k ≤ r.0) (entries_same x y s i)
+            (h i))
 
 in_box : (limit k : ℕ) (w : List ℕ) (x : Exponents) → IsLimited limit k w x → IsInBox (suc limit) k x
 in_box limit k w x h = record { below = λ i. omega (arith, h.entries i); beyond = h.ring }
@@ -248,8 +260,10 @@ ends bs w limit k f m c (suc n) g l i r = at (step_or_end bs g) (ends bs w limit
     at (inl d) rec = (g, record { reached = r; irreducible = d })
     at (inr s) rec =
         let q : IsStep (Contains bs) g s.0 = step-of_rule bs g s.0 s.1 in
-        let less : work_left (suc limit) k bs s.0 < work_left (suc limit) k bs g = work_left-at (suc limit) k w bs g s.0 m q (in_box limit k w q.at (i q.at q.there)) in
-        rec s.0 (smaller (work_left (suc limit) k bs s.0) (work_left (suc limit) k bs g) n less l) (taken (Contains bs) (IsLimited limit k w) g s.0 c i (reached-one (Contains bs) g s.0 q)).within (IsRuleReached.next g s.0 r s.1)
+        let less : work_left (suc limit) k bs s.0 < work_left (suc limit) k bs g =
+        work_left-at (suc limit) k w bs g s.0 m q (in_box limit k w q.at (i q.at q.there)) in
+        rec s.0 (smaller (work_left (suc limit) k bs s.0) (work_left (suc limit) k bs g) n less l) (taken (Contains bs) (IsLimited limit k w) g s.0 c i
+        (reached-one (Contains bs) g s.0 q)).within (IsRuleReached.next g s.0 r s.1)
 
 -- each polynomial has one
 pub normal_form-exists : (bs : List MarkedPolynomial) (w : List ℕ) (f : Terms) → AreMarked (lighter w) bs → (r : Terms) × IsNormalForm bs f r
@@ -262,15 +276,28 @@ normal_form-exists bs w f m = at (bound_of f) (bound_of_members bs)
         k = max a.0 b.0
 
         members : Each (λ (b : MarkedPolynomial). AreSmallBy k b.poly) bs
-        members = Each-weaker (λ (c : MarkedPolynomial). AreSmallBy b.0 c.poly) (λ (c : MarkedPolynomial). AreSmallBy k c.poly) (λ c. are_small-more c.poly b.0 k (omega arith)) bs b.1
+        members = Each-weaker (λ (c : MarkedPolynomial). AreSmallBy b.0 c.poly) (λ (c : MarkedPolynomial). AreSmallBy k c.poly)
+            (λ c. are_small-more c.poly b.0 k (omega arith)) bs b.1
 
         onto : ((limit : ℕ) × IsWithin (IsLimited limit k w) f) → (r : Terms) × IsNormalForm bs f r
-        onto l = ends bs w l.0 k f m (limited-closed l.0 k w bs m members) (suc (work_left (suc l.0) k bs f)) f (below_next (work_left (suc l.0) k bs f)) l.1 (IsRuleReached.here f (λ x. refl))
+        onto l = ends bs w l.0 k f m (limited-closed l.0 k w bs m members) (suc (work_left (suc l.0) k bs f)) f (below_next (work_left (suc l.0) k bs f)) l.1
+            (IsRuleReached.here f (λ x. refl))
 
 -- an equal polynomial is reached as well
 reached-equal : (bs : List MarkedPolynomial) (f g h : Terms) → SamePolynomial g h → IsRuleReached bs f g → IsRuleReached bs f h
 reached-equal bs f g h e (IsRuleReached.here k d) = IsRuleReached.here h (λ x. d x ∙ e x)
-reached-equal bs f g h e (IsRuleReached.next k l r s) = IsRuleReached.next k h r (record { at = s.at; place = s.place; member = s.member; rest = s.rest; contained = s.contained; there = s.there; divides = s.divides; first = s.first; greatest = s.greatest; equal = λ x. sym (e x) ∙ s.equal x })
+reached-equal bs f g h e (IsRuleReached.next k l r s) = IsRuleReached.next k h r (record {
+  at = s.at;
+  place = s.place;
+  member = s.member;
+  rest = s.rest;
+  contained = s.contained;
+  there = s.there;
+  divides = s.divides;
+  first = s.first;
+  greatest = s.greatest;
+  equal = λ x. sym (e x) ∙ s.equal x;
+})
 
 -- what steps by first divisors lead to, at whichever monomials, is the normal form where no mark divides a monomial of it
 pub normal_form-of_first : (bs : List MarkedPolynomial) (w : List ℕ) (f r : Terms) → AreMarked (lighter w) bs →

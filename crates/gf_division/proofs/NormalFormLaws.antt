@@ -19,7 +19,8 @@ use Rattle.gf_division.specs.NormalForms.{HasSomeWeight, HaveSameVariables}
 use Rattle.gf_division.specs.Dividends.{Split, joined_terms, TakesStep}
 use Rattle.gf_division.specs.Reducers.{AreIrreducible, ShareVariables, IsSought}
 use Rattle.gf_division.proofs.ReducerLaws.{member_contained}
-use Rattle.gf_division.proofs.RuleLaws.{RuleFacts, rule_facts, less_work, rule_step, share_step, keeps_step, keeps_along, front_irreducible, irreducible_whole, all_above, reduction_refused}
+use Rattle.gf_division.proofs.RuleLaws.{RuleFacts, rule_facts, less_work, rule_step, share_step, keeps_step, keeps_along, front_irreducible, irreducible_whole}
+use Rattle.gf_division.proofs.RuleLaws.{all_above, reduction_refused}
 
 -- what holds after some steps of the rule
 pub record NormalForming (bs : List MarkedPolynomial) (f : Terms) (s : Split) : Type 0 where
@@ -29,7 +30,8 @@ pub record NormalForming (bs : List MarkedPolynomial) (f : Terms) (s : Split) : 
   pub kept : KeepsVariables f (joined_terms s)
 
 -- at the start the place is above all terms
-pub normal_forming-none : (bs : List MarkedPolynomial) (f : Terms) (s : Split) → HaveSameVariables f bs → IsDescending f → s ≡ record { above = []; below = f } → NormalForming bs f s
+pub normal_forming-none : (bs : List MarkedPolynomial) (f : Terms) (s : Split) → HaveSameVariables f bs → IsDescending f →
+    s ≡ record { above = []; below = f } → NormalForming bs f s
 normal_forming-none bs f s v d e = subst (NormalForming bs f) (sym e) (record {
   reached = IsRuleReached.here f (λ x. refl);
   variables = record { n = v.n; sound = record { descending = d; variables = v.poly }; members = v.members; spare = tt };
@@ -38,13 +40,19 @@ normal_forming-none bs f s v d e = subst (NormalForming bs f) (sym e) (record {
 })
 
 -- what the search has found
-pub found_facts : (bs : List MarkedPolynomial) (spared : Option Exponents) (old s : Split) (o : Option ℕ) (j : ℕ) (b : MarkedPolynomial) → o ≡ Some j → b ≡ get_or bs j b → ShareVariables old bs spared → joined_terms s ≡ joined_terms old → AreIrreducible bs spared s.above → IsSought bs spared s o → RuleFacts bs spared s j b
+pub found_facts : (bs : List MarkedPolynomial) (spared : Option Exponents) (old s : Split) (o : Option ℕ) (j : ℕ) (b : MarkedPolynomial) → o ≡ Some j →
+    b ≡ get_or bs j b → ShareVariables old bs spared → joined_terms s ≡ joined_terms old → AreIrreducible bs spared s.above → IsSought bs spared s o →
+    RuleFacts bs spared s j b
 found_facts bs spared old s o j b i e v t a h = rule_facts bs spared old s j b e v t a (subst (IsSought bs spared s) i h)
 
-pub less_left : (bs : List MarkedPolynomial) (spared : Option Exponents) (w : List ℕ) (old s t : Split) (j : ℕ) (b : MarkedPolynomial) (q : Term) → joined_terms s ≡ joined_terms old → AreMarked (lighter w) bs → RuleFacts bs spared s j b → TakesStep b s q t → work_left (2 ^ 31) ROOM bs (joined_terms t) < work_left (2 ^ 31) ROOM bs (joined_terms old)
-less_left bs spared w old s t j b q e m k h = subst (λ (f : Terms). work_left (2 ^ 31) ROOM bs (joined_terms t) < work_left (2 ^ 31) ROOM bs f) e (less_work bs spared w s t j b q m k.found h)
+pub less_left : (bs : List MarkedPolynomial) (spared : Option Exponents) (w : List ℕ) (old s t : Split) (j : ℕ) (b : MarkedPolynomial) (q : Term) →
+    joined_terms s ≡ joined_terms old → AreMarked (lighter w) bs → RuleFacts bs spared s j b → TakesStep b s q t → work_left (2 ^ 31) ROOM bs (joined_terms t) <
+    work_left (2 ^ 31) ROOM bs (joined_terms old)
+less_left bs spared w old s t j b q e m k h = subst (λ (f : Terms). work_left (2 ^ 31) ROOM bs (joined_terms t) < work_left (2 ^ 31) ROOM bs f) e
+    (less_work bs spared w s t j b q m k.found h)
 
-pub normal_forming-more : (bs : List MarkedPolynomial) (f : Terms) (old s t : Split) (j : ℕ) (b : MarkedPolynomial) (q : Term) → joined_terms s ≡ joined_terms old → RuleFacts bs None s j b → TakesStep b s q t → NormalForming bs f old → NormalForming bs f t
+pub normal_forming-more : (bs : List MarkedPolynomial) (f : Terms) (old s t : Split) (j : ℕ) (b : MarkedPolynomial) (q : Term) →
+    joined_terms s ≡ joined_terms old → RuleFacts bs None s j b → TakesStep b s q t → NormalForming bs f old → NormalForming bs f t
 normal_forming-more bs f old s t j b q e k w h = record {
   reached = IsRuleReached.next (joined_terms s) (joined_terms t) (subst (IsRuleReached bs f) (sym e) h.reached) (rule_step bs s t j b q k w);
   variables = share_step bs None s t j b q k.found w;
@@ -53,11 +61,14 @@ normal_forming-more bs f old s t j b q e k w h = record {
 }
 
 -- a refusal of the step is one of the reduction
-pub rule_refused : (bs : List MarkedPolynomial) (f : Terms) (old s : Split) (j : ℕ) (b : MarkedPolynomial) (e : PolyError) → joined_terms s ≡ joined_terms old → RuleFacts bs None s j b → NormalForming bs f old → IsStepRefusal (joined_terms s) b (head_of s.below 0) e → IsReductionRefusal bs f e
-rule_refused bs f old s j b e q k h r = reduction_refused bs f (joined_terms s) b (head_of s.below 0) e (normal_form-reached bs f (joined_terms s) (subst (IsRuleReached bs f) (sym q) h.reached)) (member_contained bs j b k.found.at) r
+pub rule_refused : (bs : List MarkedPolynomial) (f : Terms) (old s : Split) (j : ℕ) (b : MarkedPolynomial) (e : PolyError) → joined_terms s ≡ joined_terms old →
+    RuleFacts bs None s j b → NormalForming bs f old → IsStepRefusal (joined_terms s) b (head_of s.below 0) e → IsReductionRefusal bs f e
+rule_refused bs f old s j b e q k h r = reduction_refused bs f (joined_terms s) b (head_of s.below 0) e
+    (normal_form-reached bs f (joined_terms s) (subst (IsRuleReached bs f) (sym q) h.reached)) (member_contained bs j b k.found.at) r
 
 -- at the end
-pub normal_form_at : (bs : List MarkedPolynomial) (f r : Terms) (old s : Split) → joined_terms s ≡ joined_terms old → s.below ≡ [] → r ≡ joined_terms s → AreIrreducible bs None s.above → NormalForming bs f old → IsNormalForm bs f r
+pub normal_form_at : (bs : List MarkedPolynomial) (f r : Terms) (old s : Split) → joined_terms s ≡ joined_terms old → s.below ≡ [] → r ≡ joined_terms s →
+    AreIrreducible bs None s.above → NormalForming bs f old → IsNormalForm bs f r
 normal_form_at bs f r old s e b q a h = record {
   reached = subst (IsRuleReached bs f) (sym (q ∙ e)) h.reached;
   irreducible = irreducible_whole bs r (subst (AreIrreducible bs None) (sym (q ∙ all_above s b)) a);

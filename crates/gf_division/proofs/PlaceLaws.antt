@@ -39,7 +39,8 @@ nothing n x f g v l o a =
     ∙ coefficient-above n g x (variables-back n f g v) l a
 
 -- a descent from above all terms ends there
-pub placed : (f g : Terms) (x : Exponents) (old s : Split) (o : Ordering) → g ≡ f → old ≡ record { above = []; below = g } → IsDescending g → HasVariables (length x) f → HasMonomial f x → Descends x old s o → IsPlaced f x s
+pub placed : (f g : Terms) (x : Exponents) (old s : Split) (o : Ordering) → g ≡ f → old ≡ record { above = []; below = g } → IsDescending g →
+    HasVariables (length x) f → HasMonomial f x → Descends x old s o → IsPlaced f x s
 placed f g x old s o e q d v m w = at s.below refl w.first
   where
     whole : joined_terms s ≡ f
@@ -53,10 +54,12 @@ placed f g x old s o e q d v m w = at s.below refl w.first
 
     -- it isn't past x
     never : IsAbove x s.below → ⊥
-    never a = m (ap (λ (z : Terms). coefficient z x) (sym whole) ∙ nothing (length x) x s.above s.below h.variables refl (subst (AreOver x) (sym front) w.over) a)
+    never a = m (ap (λ (z : Terms). coefficient z x) (sym whole) ∙ nothing (length x) x s.above s.below h.variables refl (subst (AreOver x) (sym front) w.over)
+        a)
 
     here : (t : Term) (k : Terms) (r : Ordering) → r ≡ deglex t.mono x → r ≢ Greater → s.below ≡ t ∷ k → t.mono ≡ x
-    here t k Less i n b = let l = less_greater t.mono x (sym i) in absurd (never (subst (IsAbove x) (sym b) (l, IsAbove-from x t.mono k l (subst IsDescending b (descending-back s.above s.below h.descending)).1)))
+    here t k Less i n b = let l = less_greater t.mono x (sym i) in
+        absurd (never (subst (IsAbove x) (sym b) (l, IsAbove-from x t.mono k l (subst IsDescending b (descending-back s.above s.below h.descending)).1)))
     here t k Equal i n b = equal_same t.mono x (sym i)
     here t k Greater i n b = absurd (n refl)
 
@@ -73,9 +76,11 @@ placed_divides f x s h k d = record { term = k.term; first = k.is; divides = sub
 head_at : (f : Terms) (x : Exponents) (s : Split) → IsPlaced f x s → head_of s.below zero ≡ x
 head_at f x s k = sym (first_head s.below k.term k.is) ∙ k.at
 
-pub placed_step : (f : Terms) (x : Exponents) (s t : Split) (b : MarkedPolynomial) (q : Term) (g : Terms) → IsPlaced f x s → TakesStep b s q t → g ≡ joined_terms t → StepsTo f b x g
+pub placed_step : (f : Terms) (x : Exponents) (s t : Split) (b : MarkedPolynomial) (q : Term) (g : Terms) → IsPlaced f x s → TakesStep b s q t →
+    g ≡ joined_terms t → StepsTo f b x g
 placed_step f x s t b q g k w e =
-    let c : coefficient f x ≡ q.coef = ap (λ (z : Terms). coefficient z x) (sym k.same) ∙ ap (coefficient (joined_terms s)) (sym (head_at f x s k)) ∙ w.coefficient_is in
+    let c : coefficient f x ≡ q.coef = ap (λ (z : Terms). coefficient z x) (sym k.same) ∙ ap (coefficient (joined_terms s)) (sym (head_at f x s k)) ∙
+    w.coefficient_is in
     record {
       rest = q.mono;
       divides = same_of x (plus q.mono b.head) (sym (w.product ∙ head_at f x s k));
@@ -88,13 +93,25 @@ placed_step f x s t b q g k w e =
 
 -- by a monic member the term is gone
 pub placed_gone : (f g : Terms) (x : Exponents) (b : MarkedPolynomial) → coefficient b.poly b.head ≡ one_ℚ → StepsTo f b x g → coefficient g x ≡ zero_ℚ
-placed_gone f g x b one w = step-gone (λ (c : MarkedPolynomial). c ≡ b) f g (record { at = x; member = b; rest = w.rest; contained = refl; there = w.there; divides = w.divides; equal = w.equal }) one
+placed_gone f g x b one w = step-gone (λ (c : MarkedPolynomial). c ≡ b) f g (record {
+  at = x;
+  member = b;
+  rest = w.rest;
+  contained = refl;
+  there = w.there;
+  divides = w.divides;
+  equal = w.equal;
+}) one
 
-pub placed_variables : (f : Terms) (x : Exponents) (s t : Split) (b : MarkedPolynomial) (q : Term) (g : Terms) → IsPlaced f x s → TakesStep b s q t → g ≡ joined_terms t → HasVariables (length x) g
+pub placed_variables : (f : Terms) (x : Exponents) (s t : Split) (b : MarkedPolynomial) (q : Term) (g : Terms) → IsPlaced f x s → TakesStep b s q t →
+    g ≡ joined_terms t → HasVariables (length x) g
 placed_variables f x s t b q g k w e = subst (HasVariables (length x)) (sym e) (w.sound (length x) k.sound).variables
 
-pub placed_descends : (f : Terms) (x : Exponents) (s t : Split) (b : MarkedPolynomial) (q : Term) → IsPlaced f x s → TakesStep b s q t → IsDescending (joined_terms t)
+pub placed_descends : (f : Terms) (x : Exponents) (s t : Split) (b : MarkedPolynomial) (q : Term) → IsPlaced f x s → TakesStep b s q t →
+    IsDescending (joined_terms t)
 placed_descends f x s t b q k w = (w.sound (length x) k.sound).descending
 
-pub placed_refused : (f : Terms) (x : Exponents) (s : Split) (b : MarkedPolynomial) (e : PolyError) → IsPlaced f x s → IsStepRefusal (joined_terms s) b (head_of s.below zero) e → IsStepRefusal f b x e
-placed_refused f x s b e k r = subst (λ (y : Exponents). IsStepRefusal f b y e) (head_at f x s k) (subst (λ (z : Terms). IsStepRefusal z b (head_of s.below zero) e) k.same r)
+pub placed_refused : (f : Terms) (x : Exponents) (s : Split) (b : MarkedPolynomial) (e : PolyError) → IsPlaced f x s →
+    IsStepRefusal (joined_terms s) b (head_of s.below zero) e → IsStepRefusal f b x e
+placed_refused f x s b e k r = subst (λ (y : Exponents). IsStepRefusal f b y e) (head_at f x s k)
+    (subst (λ (z : Terms). IsStepRefusal z b (head_of s.below zero) e) k.same r)

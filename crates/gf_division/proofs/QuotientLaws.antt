@@ -14,7 +14,8 @@ use Rattle.gf_ideal_theory.proofs.ListLaws.{Each-++}
 use Rattle.gf_division.proofs.DescendingParts.{contains-midst}
 use Rattle.gf_division.specs.Divisions.{with_quotient, lists_of, AreForms, AreSums, KeepForms, IsSumRefusal}
 
-pub quotient_added : (vs : List (Vec Term)) (k : ℕ) (v w : Vec Term) (t : Term) → k < length vs → v ≡ get_or vs k v → w.items ≡ v.items ++ t ∷ [] → lists_of (slice_set vs k w) ≡ with_quotient (lists_of vs) k t
+pub quotient_added : (vs : List (Vec Term)) (k : ℕ) (v w : Vec Term) (t : Term) → k < length vs → v ≡ get_or vs k v → w.items ≡ v.items ++ t ∷ [] →
+    lists_of (slice_set vs k w) ≡ with_quotient (lists_of vs) k t
 quotient_added [] k v w t l e q = absurd (omega arith)
 quotient_added (u ∷ vs) zero v w t l e q = ap (λ (z : Terms). z ∷ lists_of vs) (q ∙ ap (λ (z : Vec Term). z.items ++ t ∷ []) e)
 quotient_added (u ∷ vs) (suc k) v w t l e q = ap (λ (z : List Terms). u.items ∷ z) (quotient_added vs k v w t (omega arith) e q)
@@ -43,22 +44,29 @@ each-back : {A : Type 0} (P : A → Type 0) (xs ys : List A) → Each P (xs ++ y
 each-back P [] ys h = h
 each-back P (x ∷ xs) ys h = each-back P xs ys h.1
 
-pub summing-more : (vs : List (Vec Term)) (v : Vec Term) (hs ks : List Terms) (h : Terms) → SamePolynomial h v.items → IsDescending h → KeepsVariables v.items h → ks ≡ hs ++ h ∷ [] → Summing (lists_of vs) hs → Summing (lists_of (vs ++ v ∷ [])) ks
+pub summing-more : (vs : List (Vec Term)) (v : Vec Term) (hs ks : List Terms) (h : Terms) → SamePolynomial h v.items → IsDescending h →
+    KeepsVariables v.items h → ks ≡ hs ++ h ∷ [] → Summing (lists_of vs) hs → Summing (lists_of (vs ++ v ∷ [])) ks
 summing-more vs v hs ks h s d k e m =
     let q : lists_of (vs ++ v ∷ []) ≡ lists_of vs ++ v.items ∷ [] = map_push (λ (v : Vec Term). v.items) vs v in
     subst (λ (z : List Terms). Summing z ks) (sym q) (subst (λ (z : List Terms). Summing (lists_of vs ++ v.items ∷ []) z) (sym e) (record {
       sums = sums-push (lists_of vs) hs v.items h m.sums s;
-      forms = record { at = λ n w. forms-push n hs h (m.forms.at n (each-front (HasVariables n) (lists_of vs) (v.items ∷ []) w)) d (k.at n (each-back (HasVariables n) (lists_of vs) (v.items ∷ []) w).0) };
+      forms = record {
+        at = λ n w. forms-push n hs h (m.forms.at n (each-front (HasVariables n) (lists_of vs) (v.items ∷ []) w)) d
+            (k.at n (each-back (HasVariables n) (lists_of vs) (v.items ∷ []) w).0);
+      };
     }))
 
 -- the list that comes next is one of all
 pub next_whole : (vs rest new all : List (Vec Term)) (v : Vec Term) → rest ≡ v ∷ new → vs ++ rest ≡ all → (vs ++ v ∷ []) ++ new ≡ all
 next_whole vs rest new all v e h = append_assoc vs (v ∷ []) new ∙ ap (λ (z : List (Vec Term)). vs ++ z) (sym e) ∙ h
 
-pub sum_refused : (vs rest new all : List (Vec Term)) (v : Vec Term) (e : PolyError) → rest ≡ v ∷ new → vs ++ rest ≡ all → IsLikeSumCause v.items e → IsSumRefusal (lists_of all) e
+pub sum_refused : (vs rest new all : List (Vec Term)) (v : Vec Term) (e : PolyError) → rest ≡ v ∷ new → vs ++ rest ≡ all → IsLikeSumCause v.items e →
+    IsSumRefusal (lists_of all) e
 sum_refused vs rest new all v (errors.Overflow o) e h k = (
   v.items,
-  subst (λ (z : List (Vec Term)). Contains (lists_of z) v.items) (ap (λ (z : List (Vec Term)). vs ++ z) (sym e) ∙ h) (subst (λ (z : List Terms). Contains z v.items) (sym (map-append (λ (v : Vec Term). v.items) vs (v ∷ new))) (contains-midst (lists_of vs) v.items (lists_of new))),
+  subst (λ (z : List (Vec Term)). Contains (lists_of z) v.items)
+      (ap (λ (z : List (Vec Term)). vs ++ z) (sym e) ∙ h) (subst (λ (z : List Terms). Contains z v.items)
+      (sym (map-append (λ (v : Vec Term). v.items) vs (v ∷ new))) (contains-midst (lists_of vs) v.items (lists_of new))),
   k,
 )
 sum_refused vs rest new all v (errors.Exponent o) e h k = k

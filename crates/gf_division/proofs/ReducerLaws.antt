@@ -43,13 +43,18 @@ pub member_variables : (n : ℕ) (bs : List MarkedPolynomial) (b : MarkedPolynom
 member_variables n bs b v c = contained_each (λ (b : MarkedPolynomial). HasVariables n b.poly) bs v b c
 
 -- it has some, as one of a list that is read
-pub some_variables : (n : ℕ) (bs items : List MarkedPolynomial) (i : ℕ) (b : MarkedPolynomial) → items ≡ bs → HaveVariables n bs → i < length items → b ≡ get_or items i b → HasSomeVariables b
-some_variables n bs items i b e v l q = record { n = n; each = member_variables n items b (subst (HaveVariables n) (sym e) v) (member_contained items i b (record { within = l; is = sym q })) }
+pub some_variables : (n : ℕ) (bs items : List MarkedPolynomial) (i : ℕ) (b : MarkedPolynomial) → items ≡ bs → HaveVariables n bs → i < length items →
+    b ≡ get_or items i b → HasSomeVariables b
+some_variables n bs items i b e v l q = record {
+  n = n;
+  each = member_variables n items b (subst (HaveVariables n) (sym e) v) (member_contained items i b (record { within = l; is = sym q }));
+}
 
 pub member_length : (n j : ℕ) (bs : List MarkedPolynomial) (b : MarkedPolynomial) → HaveVariables n bs → IsAt bs j b → HasMarkedTerm b → length b.head ≡ n
 member_length n j bs b v h m = head_length n b (member_variables n bs b v (member_contained bs j b h)) m
 
-pub divisor_at : (bs : List MarkedPolynomial) (x h : Exponents) (j : ℕ) (b : MarkedPolynomial) → HaveVariables (length x) bs → IsAt bs j b → HasMarkedTerm b → h ≡ b.head → Divides h x → NoneDivides bs j x → IsDivisorAt bs x j
+pub divisor_at : (bs : List MarkedPolynomial) (x h : Exponents) (j : ℕ) (b : MarkedPolynomial) → HaveVariables (length x) bs → IsAt bs j b → HasMarkedTerm b →
+    h ≡ b.head → Divides h x → NoneDivides bs j x → IsDivisorAt bs x j
 divisor_at bs x h j b v a m e d k = record {
   member = b;
   at = a;
@@ -65,15 +70,18 @@ divides-degree h x d = omega (arith, degree-same x (plus d.rest h) d.product, de
 
 -- ---- the spared monomial, by a test of lists
 
-pub beside_by_test : (spared : Option Exponents) (x y a b : Exponents) (r : Bool) → spared ≡ Some y → IsSpareIn (length x) spared → a ≡ y → b ≡ x → r ≡ not (pointwise eqb a b) → IsTrue r → IsBeside spared x
+pub beside_by_test : (spared : Option Exponents) (x y a b : Exponents) (r : Bool) → spared ≡ Some y → IsSpareIn (length x) spared → a ≡ y → b ≡ x →
+    r ≡ not (pointwise eqb a b) → IsTrue r → IsBeside spared x
 beside_by_test spared x y a b r e l ea eb er t =
     let m : length y ≡ length x = subst (IsSpareIn (length x)) e l in
-    subst (λ z. IsBeside z x) (sym e) (apart x y (sym m) (λ q. differ (sym er ∙ t) (slice_eq-Decides Decides-eqb a b (pointwise eqb a b) refl) (ea ∙ sym q ∙ sym eb)))
+    subst (λ z. IsBeside z x) (sym e) (apart x y (sym m) (λ q. differ (sym er ∙ t) (slice_eq-Decides Decides-eqb a b (pointwise eqb a b) refl)
+    (ea ∙ sym q ∙ sym eb)))
   where
     differ : not (pointwise eqb a b) ≡ true → Decides (pointwise eqb a b) (a ≡ b) → a ≡ b → ⊥
     differ n d q = let m : not (pointwise eqb a b) ≡ false = ap not (d.1 q) in cc
 
-pub not_beside_by_test : (spared : Option Exponents) (x y a b : Exponents) (r : Bool) → spared ≡ Some y → a ≡ y → b ≡ x → r ≡ not (pointwise eqb a b) → r ≡ false → IsBeside spared x → ⊥
+pub not_beside_by_test : (spared : Option Exponents) (x y a b : Exponents) (r : Bool) → spared ≡ Some y → a ≡ y → b ≡ x → r ≡ not (pointwise eqb a b) →
+    r ≡ false → IsBeside spared x → ⊥
 not_beside_by_test spared x y a b r e ea eb er f h = differ (here (pointwise eqb a b) refl (sym er ∙ f)) (subst (λ z. IsBeside z x) e h)
   where
     here : (p : Bool) → pointwise eqb a b ≡ p → not p ≡ false → a ≡ b
@@ -91,7 +99,8 @@ pub record Seeking (bs : List MarkedPolynomial) (spared : Option Exponents) (old
   pub variables : ShareVariables new bs spared
   pub above : AreIrreducible bs spared new.above
 
-pub seeking-more : (bs : List MarkedPolynomial) (spared : Option Exponents) (old now new : Split) (t : Term) → IsTermInFront now.below t → (IsBeside spared t.mono → IsDivisible (Contains bs) t.mono → ⊥) → PassesOne now new → Seeking bs spared old now → Seeking bs spared old new
+pub seeking-more : (bs : List MarkedPolynomial) (spared : Option Exponents) (old now new : Split) (t : Term) → IsTermInFront now.below t →
+    (IsBeside spared t.mono → IsDivisible (Contains bs) t.mono → ⊥) → PassesOne now new → Seeking bs spared old now → Seeking bs spared old new
 seeking-more bs spared old now new t f n a k =
     let e : joined_terms new ≡ joined_terms now = terms_down now new a in
     let q : t ≡ a.term = first_equal (sym f.is ∙ a.below) in
@@ -99,19 +108,25 @@ seeking-more bs spared old now new t f n a k =
       same = e ∙ k.same;
       variables = record {
         n = k.variables.n;
-        sound = record { descending = subst IsDescending (sym e) k.variables.sound.descending; variables = subst (HasVariables k.variables.n) (sym e) k.variables.sound.variables };
+        sound = record {
+          descending = subst IsDescending (sym e) k.variables.sound.descending;
+          variables = subst (HasVariables k.variables.n) (sym e) k.variables.sound.variables;
+        };
         members = k.variables.members;
         spare = k.variables.spare;
       };
-      above = subst (AreIrreducible bs spared) (sym a.above) (Each-++ (λ (t : Term). IsBeside spared t.mono → IsDivisible (Contains bs) t.mono → ⊥) now.above (a.term ∷ []) k.above (subst (λ (s : Term). IsBeside spared s.mono → IsDivisible (Contains bs) s.mono → ⊥) q n, tt));
+      above = subst (AreIrreducible bs spared) (sym a.above) (Each-++ (λ (t : Term). IsBeside spared t.mono → IsDivisible (Contains bs) t.mono → ⊥) now.above
+          (a.term ∷ []) k.above (subst (λ (s : Term). IsBeside spared s.mono → IsDivisible (Contains bs) s.mono → ⊥) q n, tt));
     }
   where
     first_equal : {f g : Terms} {s t : Term} → ◌≡◌ {A = Terms} (s ∷ f) (t ∷ g) → s ≡ t
     first_equal e = cc
 
 -- the first term below the place has the variables of the members and of the spared monomial
-pub first_members : (s : Split) (bs : List MarkedPolynomial) (spared : Option Exponents) (t : Term) → ShareVariables s bs spared → IsTermInFront s.below t → HaveVariables (length t.mono) bs
+pub first_members : (s : Split) (bs : List MarkedPolynomial) (spared : Option Exponents) (t : Term) → ShareVariables s bs spared → IsTermInFront s.below t →
+    HaveVariables (length t.mono) bs
 first_members s bs spared t v f = subst (λ (n : ℕ). HaveVariables n bs) (sym (first_length v.n s t v.sound f)) v.members
 
-pub first_spare : (s : Split) (bs : List MarkedPolynomial) (spared : Option Exponents) (t : Term) → ShareVariables s bs spared → IsTermInFront s.below t → IsSpareIn (length t.mono) spared
+pub first_spare : (s : Split) (bs : List MarkedPolynomial) (spared : Option Exponents) (t : Term) → ShareVariables s bs spared → IsTermInFront s.below t →
+    IsSpareIn (length t.mono) spared
 first_spare s bs spared t v f = subst (λ (n : ℕ). IsSpareIn n spared) (sym (first_length v.n s t v.sound f)) v.spare

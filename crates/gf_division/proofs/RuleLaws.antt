@@ -45,7 +45,8 @@ pub use Rattle.gf_ideal_theory.proofs.DividingLaws.{divisible_along}
 pub sound_same : (n : ℕ) (s t : Split) → joined_terms t ≡ joined_terms s → IsSound n s → IsSound n t
 sound_same n s t e h = record { descending = subst IsDescending (sym e) h.descending; variables = subst (HasVariables n) (sym e) h.variables }
 
-pub share_along : (s t : Split) (bs : List MarkedPolynomial) (spared : Option Exponents) → joined_terms t ≡ joined_terms s → ShareVariables s bs spared → ShareVariables t bs spared
+pub share_along : (s t : Split) (bs : List MarkedPolynomial) (spared : Option Exponents) → joined_terms t ≡ joined_terms s → ShareVariables s bs spared →
+    ShareVariables t bs spared
 share_along s t bs spared e v = record { n = v.n; sound = sound_same v.n s t e v.sound; members = v.members; spare = v.spare }
 
 -- the step at the first term below the place, by the member b at the place j
@@ -61,7 +62,8 @@ pub record Found (bs : List MarkedPolynomial) (spared : Option Exponents) (s : S
   pub monomial : IsMonomial term.mono
   pub variables : ShareVariables s bs spared
 
-pub found_at : (bs : List MarkedPolynomial) (spared : Option Exponents) (s : Split) (j : ℕ) (b : MarkedPolynomial) → b ≡ get_or bs j b → ShareVariables s bs spared → IsReducibleFirst bs spared s j → Found bs spared s j b
+pub found_at : (bs : List MarkedPolynomial) (spared : Option Exponents) (s : Split) (j : ℕ) (b : MarkedPolynomial) → b ≡ get_or bs j b →
+    ShareVariables s bs spared → IsReducibleFirst bs spared s j → Found bs spared s j b
 found_at bs spared s j b e v r =
     let d = r.divisor in
     let q : IsAt bs j b = record { within = d.at.within; is = sym e } in
@@ -81,10 +83,16 @@ found_at bs spared s j b e v r =
     }
 
 -- so the step may be taken
-pub found_shares : (bs : List MarkedPolynomial) (spared : Option Exponents) (s : Split) (j : ℕ) (b : MarkedPolynomial) → Found bs spared s j b → SharesVariables b s
-found_shares bs spared s j b k = record { n = k.variables.n; sound = k.variables.sound; poly = subst (λ (n : ℕ). HasVariables n b.poly) (k.head ∙ first_length k.variables.n s k.term k.variables.sound k.is) k.poly }
+pub found_shares : (bs : List MarkedPolynomial) (spared : Option Exponents) (s : Split) (j : ℕ) (b : MarkedPolynomial) → Found bs spared s j b →
+    SharesVariables b s
+found_shares bs spared s j b k = record {
+  n = k.variables.n;
+  sound = k.variables.sound;
+  poly = subst (λ (n : ℕ). HasVariables n b.poly) (k.head ∙ first_length k.variables.n s k.term k.variables.sound k.is) k.poly;
+}
 
-pub found_divides : (bs : List MarkedPolynomial) (spared : Option Exponents) (s : Split) (j : ℕ) (b : MarkedPolynomial) → Found bs spared s j b → DividesFirst b.head s.below
+pub found_divides : (bs : List MarkedPolynomial) (spared : Option Exponents) (s : Split) (j : ℕ) (b : MarkedPolynomial) → Found bs spared s j b →
+    DividesFirst b.head s.below
 found_divides bs spared s j b k = record { term = k.term; first = k.is; divides = k.divides }
 
 -- the same, and no term above the place can be divided
@@ -92,7 +100,9 @@ pub record RuleFacts (bs : List MarkedPolynomial) (spared : Option Exponents) (s
   pub found : Found bs spared s j b
   pub above : AreIrreducible bs spared s.above
 
-pub rule_facts : (bs : List MarkedPolynomial) (spared : Option Exponents) (old s : Split) (j : ℕ) (b : MarkedPolynomial) → b ≡ get_or bs j b → ShareVariables old bs spared → joined_terms s ≡ joined_terms old → AreIrreducible bs spared s.above → IsReducibleFirst bs spared s j → RuleFacts bs spared s j b
+pub rule_facts : (bs : List MarkedPolynomial) (spared : Option Exponents) (old s : Split) (j : ℕ) (b : MarkedPolynomial) → b ≡ get_or bs j b →
+    ShareVariables old bs spared → joined_terms s ≡ joined_terms old → AreIrreducible bs spared s.above → IsReducibleFirst bs spared s j →
+    RuleFacts bs spared s j b
 rule_facts bs spared old s j b e v t a r = record { found = found_at bs spared s j b e (share_along old s bs spared t v) r; above = a }
 
 -- ---- the step is one of the rule
@@ -115,7 +125,8 @@ no_multiple h x n rest = at (same x (plus h rest)) refl
     at true e = absurd (n (record { rest = rest; product = ap (same x) (plus_comm rest h) ∙ e }))
 
 -- where a listed term can be divided, it is that at x or one below it
-pub greatest_divisible : (bs : List MarkedPolynomial) (s : Split) (n : ℕ) (t : Term) → IsSound n s → IsTermInFront s.below t → AreIrreducible bs None s.above → (x : Exponents) → HasMonomial (joined_terms s) x → IsDivisible (Contains bs) x → (same x t.mono ≡ true) ⊎ IsDeglexBelow x t.mono
+pub greatest_divisible : (bs : List MarkedPolynomial) (s : Split) (n : ℕ) (t : Term) → IsSound n s → IsTermInFront s.below t → AreIrreducible bs None s.above →
+    (x : Exponents) → HasMonomial (joined_terms s) x → IsDivisible (Contains bs) x → (same x t.mono ≡ true) ⊎ IsDeglexBelow x t.mono
 greatest_divisible bs s n t h f a x m d = onto (listed Q (joined_terms s) x (Each-++ Q s.above s.below (above s.above a) below) m)
   where
     Q : Term → Type 0
@@ -130,7 +141,11 @@ greatest_divisible bs s n t h f a x m d = onto (listed Q (joined_terms s) x (Eac
     later (r ∷ g) v b = (λ q. inr (below_first n t.mono r.mono (first_length n s t h f) v.0 b.0), later g v.1 b.1)
 
     below : Each Q s.below
-    below = subst (Each Q) (sym f.is) (λ q. inl (same_of t.mono t.mono refl), later f.rest (subst (HasVariables n) f.is (variables-back n s.above s.below h.variables)).1 (subst IsDescending f.is (descending-back s.above s.below h.descending)).1)
+    below = subst (Each Q) (sym f.is) (
+      λ q. inl (same_of t.mono t.mono refl),
+      later f.rest (subst (HasVariables n) f.is (variables-back n s.above s.below h.variables)).1
+          (subst IsDescending f.is (descending-back s.above s.below h.descending)).1,
+    )
 
     onto : (r : Term) × Q r × (same x r.mono ≡ true) → (same x t.mono ≡ true) ⊎ IsDeglexBelow x t.mono
     onto r = along (r.1 (divisible_along (Contains bs) x r.0.mono r.2 d))
@@ -140,7 +155,8 @@ greatest_divisible bs s n t h f a x m d = onto (listed Q (joined_terms s) x (Eac
         along (inr l) = inr (deglex-order.strict.along_left r.0.mono x t.mono (same_flip x r.0.mono r.2) l)
 
 -- the step that was taken, as one by the list
-abbrev pub step_by : (bs : List MarkedPolynomial) (spared : Option Exponents) (s t : Split) (j : ℕ) (b : MarkedPolynomial) (q : Term) → Found bs spared s j b → TakesStep b s q t → IsStep (Contains bs) (joined_terms s) (joined_terms t)
+abbrev pub step_by : (bs : List MarkedPolynomial) (spared : Option Exponents) (s t : Split) (j : ℕ) (b : MarkedPolynomial) (q : Term) → Found bs spared s j b →
+    TakesStep b s q t → IsStep (Contains bs) (joined_terms s) (joined_terms t)
 step_by bs spared s t j b q k w =
     let e = first_head s.below k.term k.is in
     record {
@@ -150,10 +166,12 @@ step_by bs spared s t j b q k w =
       contained = member_contained bs j b k.at;
       there = λ z. w.there (sym w.coefficient_is ∙ ap (coefficient (joined_terms s)) (sym e) ∙ z);
       divides = same_of k.term.mono (plus q.mono b.head) (e ∙ sym w.product);
-      equal = λ y. w.same y ∙ ap (λ c. coefficient (joined_terms s ++ times (neg_ℚ c) q.mono b.poly) y) (sym (ap (coefficient (joined_terms s)) e ∙ w.coefficient_is));
+      equal = λ y. w.same y ∙ ap (λ c. coefficient (joined_terms s ++ times (neg_ℚ c) q.mono b.poly) y)
+          (sym (ap (coefficient (joined_terms s)) e ∙ w.coefficient_is));
     }
 
-abbrev pub rule_step : (bs : List MarkedPolynomial) (s t : Split) (j : ℕ) (b : MarkedPolynomial) (q : Term) → RuleFacts bs None s j b → TakesStep b s q t → IsRuleStep bs (joined_terms s) (joined_terms t)
+abbrev pub rule_step : (bs : List MarkedPolynomial) (s t : Split) (j : ℕ) (b : MarkedPolynomial) (q : Term) → RuleFacts bs None s j b → TakesStep b s q t →
+    IsRuleStep bs (joined_terms s) (joined_terms t)
 rule_step bs s t j b q r w =
     let k = r.found in
     let p = step_by bs None s t j b q k w in
@@ -173,14 +191,16 @@ rule_step bs s t j b q r w =
 -- ---- what is kept
 
 -- the irreducible terms above the place that stay
-pub front_irreducible : (bs : List MarkedPolynomial) (spared : Option Exponents) (f g h : Terms) → h ≡ f ++ g → AreIrreducible bs spared h → AreIrreducible bs spared f
+pub front_irreducible : (bs : List MarkedPolynomial) (spared : Option Exponents) (f g h : Terms) → h ≡ f ++ g → AreIrreducible bs spared h →
+    AreIrreducible bs spared f
 front_irreducible bs spared f g h e a = front f (subst (AreIrreducible bs spared) e a)
   where
     front : (f : Terms) → AreIrreducible bs spared (f ++ g) → AreIrreducible bs spared f
     front [] a = tt
     front (t ∷ f) a = (a.0, front f a.1)
 
-pub share_step : (bs : List MarkedPolynomial) (spared : Option Exponents) (s t : Split) (j : ℕ) (b : MarkedPolynomial) (q : Term) → Found bs spared s j b → TakesStep b s q t → ShareVariables t bs spared
+pub share_step : (bs : List MarkedPolynomial) (spared : Option Exponents) (s t : Split) (j : ℕ) (b : MarkedPolynomial) (q : Term) → Found bs spared s j b →
+    TakesStep b s q t → ShareVariables t bs spared
 share_step bs spared s t j b q k w = record {
   n = k.variables.n;
   sound = w.sound k.variables.n k.variables.sound;
@@ -188,7 +208,8 @@ share_step bs spared s t j b q k w = record {
   spare = k.variables.spare;
 }
 
-pub keeps_step : (bs : List MarkedPolynomial) (spared : Option Exponents) (f : Terms) (s t : Split) (j : ℕ) (b : MarkedPolynomial) (q : Term) → Found bs spared s j b → TakesStep b s q t → KeepsVariables f (joined_terms s) → KeepsVariables f (joined_terms t)
+pub keeps_step : (bs : List MarkedPolynomial) (spared : Option Exponents) (f : Terms) (s t : Split) (j : ℕ) (b : MarkedPolynomial) (q : Term) →
+    Found bs spared s j b → TakesStep b s q t → KeepsVariables f (joined_terms s) → KeepsVariables f (joined_terms t)
 keeps_step bs spared f s t j b q k w v = record {
   at = λ n h. (w.sound n (record { descending = k.variables.sound.descending; variables = v.at n h })).variables;
 }
@@ -209,26 +230,66 @@ all_above s e = ap (λ (z : Terms). s.above ++ z) e ∙ append-nil s.above
 
 -- ---- less work
 
-pub less_work : (bs : List MarkedPolynomial) (spared : Option Exponents) (w : List ℕ) (s t : Split) (j : ℕ) (b : MarkedPolynomial) (q : Term) → AreMarked (lighter w) bs → Found bs spared s j b → TakesStep b s q t → work_left (2 ^ 31) ROOM bs (joined_terms t) < work_left (2 ^ 31) ROOM bs (joined_terms s)
-less_work bs spared w s t j b q m k h = work_left-at (2 ^ 31) ROOM w bs (joined_terms s) (joined_terms t) m (step_by bs spared s t j b q k h) (box_of_monomial k.term.mono k.monomial)
+pub less_work : (bs : List MarkedPolynomial) (spared : Option Exponents) (w : List ℕ) (s t : Split) (j : ℕ) (b : MarkedPolynomial) (q : Term) →
+    AreMarked (lighter w) bs → Found bs spared s j b → TakesStep b s q t → work_left (2 ^ 31) ROOM bs (joined_terms t) < work_left (2 ^ 31) ROOM bs
+    (joined_terms s)
+less_work bs spared w s t j b q m k h = work_left-at (2 ^ 31) ROOM w bs (joined_terms s) (joined_terms t) m (step_by bs spared s t j b q k h)
+    (box_of_monomial k.term.mono k.monomial)
 
 -- ---- refusals
 
 -- the operations of steps by some members are those by more
-pub operation_more : (by kept : MarkedPolynomial → Type 0) → ((b : MarkedPolynomial) → by b → kept b) → (f : Terms) (x : Exponents) (op : Op) (left right : Fraction) → IsStepOperation by f x op left right → IsStepOperation kept f x op left right
+pub operation_more : (by kept : MarkedPolynomial → Type 0) → ((b : MarkedPolynomial) → by b → kept b) →
+    (f : Terms) (x : Exponents) (op : Op) (left right : Fraction) → IsStepOperation by f x op left right → IsStepOperation kept f x op left right
 operation_more by kept w f x Add left right h = absurd h
-operation_more by kept w f x Sub left right h = record { member = h.member; rest = h.rest; place = record { contained = w h.member h.place.contained; there = h.place.there; divides = h.place.divides }; exponents = h.exponents; is_left = h.is_left; is_right = h.is_right }
-operation_more by kept w f x Mul left right h = record { member = h.member; rest = h.rest; place = record { contained = w h.member h.place.contained; there = h.place.there; divides = h.place.divides }; exponents = h.exponents; operands = h.operands }
+operation_more by kept w f x Sub left right h = record {
+  member = h.member;
+  rest = h.rest;
+  place = record { contained = w h.member h.place.contained; there = h.place.there; divides = h.place.divides };
+  exponents = h.exponents;
+  is_left = h.is_left;
+  is_right = h.is_right;
+}
+operation_more by kept w f x Mul left right h = record {
+  member = h.member;
+  rest = h.rest;
+  place = record { contained = w h.member h.place.contained; there = h.place.there; divides = h.place.divides };
+  exponents = h.exponents;
+  operands = h.operands;
+}
 operation_more by kept w f x Div left right h = absurd h
 
-pub exponents_more : (by kept : MarkedPolynomial → Type 0) → ((b : MarkedPolynomial) → by b → kept b) → (f : Terms) (x : Exponents) (left right : ℕ) → IsStepExponents by f x left right → IsStepExponents kept f x left right
-exponents_more by kept w f x left right h = record { member = h.member; rest = h.rest; place = record { contained = w h.member h.place.contained; there = h.place.there; divides = h.place.divides }; sum = h.sum }
+pub exponents_more : (by kept : MarkedPolynomial → Type 0) → ((b : MarkedPolynomial) → by b → kept b) → (f : Terms) (x : Exponents) (left right : ℕ) →
+    IsStepExponents by f x left right → IsStepExponents kept f x left right
+exponents_more by kept w f x left right h = record {
+  member = h.member;
+  rest = h.rest;
+  place = record { contained = w h.member h.place.contained; there = h.place.there; divides = h.place.divides };
+  sum = h.sum;
+}
 
 -- the one member is in the list
 pub only : (bs : List MarkedPolynomial) (b : MarkedPolynomial) → Contains bs b → (c : MarkedPolynomial) → c ≡ b → Contains bs c
 only bs b h c e = subst (λ (d : MarkedPolynomial). Contains bs d) (sym e) h
 
-pub reduction_refused : (bs : List MarkedPolynomial) (f g : Terms) (b : MarkedPolynomial) (x : Exponents) (e : PolyError) → Reached (Contains bs) f g → Contains bs b → IsStepRefusal g b x e → IsReductionRefusal bs f e
-reduction_refused bs f g b x (errors.Overflow o) r c h = (record { from = g; reached = r; at = x; operation = operation_more (λ (d : MarkedPolynomial). d ≡ b) (Contains bs) (only bs b c) g x o.op o.left o.right h.0 }, h.1)
-reduction_refused bs f g b x (errors.Exponent o) r c h = (record { from = g; reached = r; at = x; sum = exponents_more (λ (d : MarkedPolynomial). d ≡ b) (Contains bs) (only bs b c) g x o.left o.right h.0 }, h.1)
+pub reduction_refused : (bs : List MarkedPolynomial) (f g : Terms) (b : MarkedPolynomial) (x : Exponents) (e : PolyError) → Reached (Contains bs) f g →
+    Contains bs b → IsStepRefusal g b x e → IsReductionRefusal bs f e
+reduction_refused bs f g b x (errors.Overflow o) r c h = (
+  record {
+    from = g;
+    reached = r;
+    at = x;
+    operation = operation_more (λ (d : MarkedPolynomial). d ≡ b) (Contains bs) (only bs b c) g x o.op o.left o.right h.0;
+  },
+  h.1,
+)
+reduction_refused bs f g b x (errors.Exponent o) r c h = (
+  record {
+    from = g;
+    reached = r;
+    at = x;
+    sum = exponents_more (λ (d : MarkedPolynomial). d ≡ b) (Contains bs) (only bs b c) g x o.left o.right h.0;
+  },
+  h.1,
+)
 reduction_refused bs f g b x errors.Memory r c h = tt

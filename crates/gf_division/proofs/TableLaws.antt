@@ -23,7 +23,8 @@ use Rattle.gf_ideal_theory.specs.Marks.{AreMarked}
 use Rattle.gf_ideal_theory.specs.Measure.{work_left}
 use Rattle.gf_division.specs.declared.table.Key.{Key}
 use Rattle.gf_division.specs.Steps.{IsStepRefusal}
-use Rattle.gf_division.specs.Dividends.{Split, joined_terms, IsSound, IsTermInFront, AreOver, FirstIs, Descends, TakesFromFirst, TakesAway, IsDifferenceRefusal, Subtracts, IsSubtractionRefusal, TakesStep}
+use Rattle.gf_division.specs.Dividends.{Split, joined_terms, IsSound, IsTermInFront, AreOver, FirstIs, Descends, TakesFromFirst, TakesAway, IsDifferenceRefusal}
+use Rattle.gf_division.specs.Dividends.{Subtracts, IsSubtractionRefusal, TakesStep}
 use Rattle.gf_division.specs.Reducers.{IsReducibleFirst, ShareVariables}
 use Rattle.gf_division.specs.Remainders.{IsWorkedOn}
 use Rattle.gf_division.specs.Tables.{key_order, terms_in, coefficient_in, Puts, IsCutBefore, StepsFrom, IsReducibleAt}
@@ -71,10 +72,12 @@ present k (e ∷ es) c d h = at (λ q. present k es c d.2 q) (key_order k e.0) r
     look : (o : Ordering) → key_order k e.0 ≡ o → cond (is_eq o) (Some e.1) (coefficient_in k es) ≡ Some c
     look o q = ap (λ (p : Ordering). cond (is_eq p) (Some e.1) (coefficient_in k es)) (sym q) ∙ h
 
-    into : (v : Fraction) (o : Ordering) → key_order k e.0 ≡ o → terms_in (insert_entry key_order (e ∷ es) k v) ≡ terms_in (match_ordering o ((k, v) ∷ e ∷ es) ((e.0, v) ∷ es) (e ∷ insert_entry key_order es k v))
+    into : (v : Fraction) (o : Ordering) → key_order k e.0 ≡ o →
+        terms_in (insert_entry key_order (e ∷ es) k v) ≡ terms_in (match_ordering o ((k, v) ∷ e ∷ es) ((e.0, v) ∷ es) (e ∷ insert_entry key_order es k v))
     into v o q = ap (λ (p : Ordering). terms_in (match_ordering p ((k, v) ∷ e ∷ es) ((e.0, v) ∷ es) (e ∷ insert_entry key_order es k v))) q
 
-    out : (o : Ordering) → key_order k e.0 ≡ o → terms_in (remove_entry (is_at (key_order k)) (e ∷ es)) ≡ terms_in (cond (is_eq o) es (e ∷ remove_entry (is_at (key_order k)) es))
+    out : (o : Ordering) → key_order k e.0 ≡ o → terms_in (remove_entry (is_at (key_order k)) (e ∷ es)) ≡ terms_in (cond (is_eq o) es
+        (e ∷ remove_entry (is_at (key_order k)) es))
     out o q = ap (λ (p : Ordering). terms_in (cond (is_eq p) es (e ∷ remove_entry (is_at (key_order k)) es))) q
 
     t : Term
@@ -117,7 +120,8 @@ absent k (e ∷ es) h = at (λ q. absent k es q) (key_order k e.0) refl
     look : (o : Ordering) → key_order k e.0 ≡ o → cond (is_eq o) (Some e.1) (coefficient_in k es) ≡ None
     look o q = ap (λ (p : Ordering). cond (is_eq p) (Some e.1) (coefficient_in k es)) (sym q) ∙ h
 
-    into : (v : Fraction) (o : Ordering) → key_order k e.0 ≡ o → terms_in (insert_entry key_order (e ∷ es) k v) ≡ terms_in (match_ordering o ((k, v) ∷ e ∷ es) ((e.0, v) ∷ es) (e ∷ insert_entry key_order es k v))
+    into : (v : Fraction) (o : Ordering) → key_order k e.0 ≡ o →
+        terms_in (insert_entry key_order (e ∷ es) k v) ≡ terms_in (match_ordering o ((k, v) ∷ e ∷ es) ((e.0, v) ∷ es) (e ∷ insert_entry key_order es k v))
     into v o q = ap (λ (p : Ordering). terms_in (match_ordering p ((k, v) ∷ e ∷ es) ((e.0, v) ∷ es) (e ∷ insert_entry key_order es k v))) q
 
     t : Term
@@ -140,14 +144,18 @@ absent k (e ∷ es) h = at (λ q. absent k es q) (key_order k e.0) refl
 -- ---- the first entry
 
 -- a key above all goes before all
-put_first : (k : Key) (c : Fraction) (es : List (Key × Fraction)) → IsAbove k.mono (terms_in es) → terms_in (insert_entry key_order es k c) ≡ record { coef = c; mono = k.mono } ∷ terms_in es
+put_first : (k : Key) (c : Fraction) (es : List (Key × Fraction)) → IsAbove k.mono (terms_in es) → terms_in (insert_entry key_order es k c) ≡ record {
+  coef = c;
+  mono = k.mono;
+} ∷ terms_in es
 put_first k c [] a = refl
 put_first k c (e ∷ es) a = ap (λ (o : Ordering). terms_in (match_ordering o ((k, c) ∷ e ∷ es) ((e.0, c) ∷ es) (e ∷ insert_entry key_order es k c))) less
   where
     less : key_order k e.0 ≡ Less
     less = deglex-total.antisymm e.0.mono k.mono ∙ ap ordering_reverse a.0
 
-pub new_more : (f r g : Terms) (t : Term) (es new : List (Key × Fraction)) → IsDescending f → g ≡ r ++ t ∷ [] → g ++ terms_in es ≡ f → new ≡ insert_entry key_order es (record { mono = t.mono }) t.coef → r ++ terms_in new ≡ f
+pub new_more : (f r g : Terms) (t : Term) (es new : List (Key × Fraction)) → IsDescending f → g ≡ r ++ t ∷ [] → g ++ terms_in es ≡ f →
+    new ≡ insert_entry key_order es (record { mono = t.mono }) t.coef → r ++ terms_in new ≡ f
 new_more f r g t es new d q e n =
     let w : r ++ t ∷ terms_in es ≡ f = sym (append_assoc r (t ∷ []) (terms_in es)) ∙ ap (λ (z : Terms). z ++ terms_in es) (sym q) ∙ e in
     let a = (descending-back r (t ∷ terms_in es) (subst IsDescending (sym w) d)).1 in
@@ -169,13 +177,17 @@ relay c x f g w e t = record {
 }
 
 -- the place at the key
-down : (k : Key) (f g h : Terms) (o : Ordering) → f ≡ g ++ h → AreOver k.mono g → FirstIs h k.mono o → o ≢ Greater → Descends k.mono (whole f) (record { above = g; below = h }) o
+down : (k : Key) (f g h : Terms) (o : Ordering) → f ≡ g ++ h → AreOver k.mono g → FirstIs h k.mono o → o ≢ Greater →
+    Descends k.mono (whole f) (record { above = g; below = h }) o
 down k f g h o e a i n = record { passed = g; above = refl; below = e; over = a; first = i; ends = n }
 
-down_there : (k : Key) (es : List (Key × Fraction)) (c : Fraction) (p : Present k es c) → Descends k.mono (whole (terms_in es)) (record { above = p.before; below = record { coef = c; mono = k.mono } ∷ p.after }) Equal
-down_there k es c p = down k (terms_in es) p.before (record { coef = c; mono = k.mono } ∷ p.after) Equal p.is p.over (sym (tied_itself deglex-total k.mono)) (λ z. absurd (cc))
+down_there : (k : Key) (es : List (Key × Fraction)) (c : Fraction) (p : Present k es c) →
+    Descends k.mono (whole (terms_in es)) (record { above = p.before; below = record { coef = c; mono = k.mono } ∷ p.after }) Equal
+down_there k es c p = down k (terms_in es) p.before (record { coef = c; mono = k.mono } ∷ p.after) Equal p.is p.over (sym (tied_itself deglex-total k.mono))
+    (λ z. absurd (cc))
 
-pub taken_there : (k : Key) (es new : List (Key × Fraction)) (a c v : Fraction) → IsSound (length k.mono) (whole (terms_in es)) → coefficient_in k es ≡ Some a → v ≡ a -ℚ c → Puts k v es new → TakesAway c k.mono (whole (terms_in es)) (whole (terms_in new))
+pub taken_there : (k : Key) (es new : List (Key × Fraction)) (a c v : Fraction) → IsSound (length k.mono) (whole (terms_in es)) → coefficient_in k es ≡ Some a →
+    v ≡ a -ℚ c → Puts k v es new → TakesAway c k.mono (whole (terms_in es)) (whole (terms_in new))
 taken_there k es new a c v s h e p = at p
   where
     r : Present k es a
@@ -187,16 +199,21 @@ taken_there k es new a c v s h e p = at p
     u : Term
     u = record { coef = a -ℚ c; mono = k.mono }
 
-    go : (w : Split) → terms_in new ≡ joined_terms w → TakesFromFirst c (record { above = r.before; below = t ∷ r.after }) w → TakesAway c k.mono (whole (terms_in es)) (whole (terms_in new))
-    go w q f = relay c k.mono (terms_in es) (terms_in new) w q (taken_at {E = Unit {0}} c k.mono (whole (terms_in es)) (record { above = r.before; below = t ∷ r.after }) w Equal (Ok tt) refl s tt (down_there k es a r) f)
+    go : (w : Split) → terms_in new ≡ joined_terms w → TakesFromFirst c (record { above = r.before; below = t ∷ r.after }) w →
+        TakesAway c k.mono (whole (terms_in es)) (whole (terms_in new))
+    go w q f = relay c k.mono (terms_in es) (terms_in new) w q
+        (taken_at {E = Unit {0}} c k.mono (whole (terms_in es)) (record { above = r.before; below = t ∷ r.after }) w Equal (Ok tt) refl s tt
+        (down_there k es a r) f)
 
     at : Puts k v es new → TakesAway c k.mono (whole (terms_in es)) (whole (terms_in new))
-    at (inl z) = go (record { above = r.before; below = r.after }) (ap terms_in z.1 ∙ r.gone) (record { term = t; below = refl; above = inl (sym e ∙ z.0, refl) })
+    at (inl z) =
+        go (record { above = r.before; below = r.after }) (ap terms_in z.1 ∙ r.gone) (record { term = t; below = refl; above = inl (sym e ∙ z.0, refl) })
     at (inr z) = go (record { above = r.before ++ u ∷ []; below = r.after })
         (ap terms_in z.1 ∙ r.put v ∙ ap (λ b. r.before ++ record { coef = b; mono = k.mono } ∷ r.after) e ∙ sym (append_assoc r.before (u ∷ []) r.after))
         (record { term = t; below = refl; above = inr (subst (λ b. b ≢ zero_ℚ) e z.0, refl) })
 
-pub taken_new : (k : Key) (es new : List (Key × Fraction)) (c v : Fraction) → IsSound (length k.mono) (whole (terms_in es)) → coefficient_in k es ≡ None → c ≢ zero_ℚ → v ≡ neg_ℚ c → Puts k v es new → TakesAway c k.mono (whole (terms_in es)) (whole (terms_in new))
+pub taken_new : (k : Key) (es new : List (Key × Fraction)) (c v : Fraction) → IsSound (length k.mono) (whole (terms_in es)) → coefficient_in k es ≡ None →
+    c ≢ zero_ℚ → v ≡ neg_ℚ c → Puts k v es new → TakesAway c k.mono (whole (terms_in es)) (whole (terms_in new))
 taken_new k es new c v s h n e p = at p
   where
     r : Absent k es
@@ -217,16 +234,23 @@ taken_new k es new c v s h n e p = at p
         (ap terms_in z.1 ∙ r.put v ∙ ap (λ b. r.before ++ record { coef = b; mono = k.mono } ∷ r.after) e ∙ sym (append_assoc r.before (u ∷ []) r.after))
         (taken_beside c k.mono (whole (terms_in es)) (record { above = r.before; below = r.after }) w Less u (λ z. absurd (cc)) n refl s tt d refl refl)
 
-pub refused_there : (k : Key) (es : List (Key × Fraction)) (a c : Fraction) (e : PolyError) → IsSound (length k.mono) (whole (terms_in es)) → coefficient_in k es ≡ Some a → IsDifferenceRefusal a c e → IsDifferenceRefusal (coefficient (terms_in es) k.mono) c e
+pub refused_there : (k : Key) (es : List (Key × Fraction)) (a c : Fraction) (e : PolyError) → IsSound (length k.mono) (whole (terms_in es)) →
+    coefficient_in k es ≡ Some a → IsDifferenceRefusal a c e → IsDifferenceRefusal (coefficient (terms_in es) k.mono) c e
 refused_there k es a c e s h w =
     let r = present k es a s.descending h in
-    refused_at {T = Unit {0}} c k.mono (whole (terms_in es)) (record { above = r.before; below = record { coef = a; mono = k.mono } ∷ r.after }) Equal (Err e) refl s tt (down_there k es a r) w
+    refused_at {T = Unit {0}} c k.mono (whole (terms_in es)) (record { above = r.before; below = record { coef = a; mono = k.mono } ∷ r.after }) Equal (Err e)
+    refl s tt (down_there k es a r) w
 
 -- the term at a key
-pub cut_at : (k : Key) (es : List (Key × Fraction)) (a : Fraction) → IsDescending (terms_in es) → coefficient_in k es ≡ Some a → IsCutBefore (terms_in es) (record { coef = a; mono = k.mono })
+pub cut_at : (k : Key) (es : List (Key × Fraction)) (a : Fraction) → IsDescending (terms_in es) → coefficient_in k es ≡ Some a →
+    IsCutBefore (terms_in es) (record { coef = a; mono = k.mono })
 cut_at k es a d h =
     let r = present k es a d h in
-    record { cut = record { above = r.before; below = record { coef = a; mono = k.mono } ∷ r.after }; same = sym r.is; first = record { rest = r.after; is = refl } }
+    record {
+      cut = record { above = r.before; below = record { coef = a; mono = k.mono } ∷ r.after };
+      same = sym r.is;
+      first = record { rest = r.after; is = refl };
+    }
 
 cut_sound : (n : ℕ) (f : Terms) (t : Term) → IsSound n (whole f) → (c : IsCutBefore f t) → IsSound n c.cut
 cut_sound n f t v c = record { descending = subst IsDescending (sym c.same) v.descending; variables = subst (HasVariables n) (sym c.same) v.variables }
@@ -240,56 +264,81 @@ cut_nonzero n f t v c = first_nonzero n c.cut t (cut_sound n f t v c) c.first
 -- ---- a multiple
 
 pub subtracting-none : (c : Fraction) (u : Exponents) (g f : Terms) → IsSound (length u) (whole f) → Subtracting c u g (whole f) (whole f) 0
-subtracting-none c u g f s = record { same = λ y. ap (λ (z : Terms). coefficient z y) (sym (append-nil f)); sound = s; passed = []; above = refl; over = over_nothing u (drop 0 g) }
+subtracting-none c u g f s = record {
+  same = λ y. ap (λ (z : Terms). coefficient z y) (sym (append-nil f));
+  sound = s;
+  passed = [];
+  above = refl;
+  over = over_nothing u (drop 0 g);
+}
 
 -- ---- a step
 
-pub table_step : (b : MarkedPolynomial) (f g : Terms) (t : Term) (shift : Exponents) (new : Split) → new.above ≡ [] → g ≡ b.poly → IsSound (length b.head) (whole f) → Divides b.head t.mono → length t.mono ≡ length b.head → plus shift b.head ≡ t.mono → length shift ≡ length b.head → Subtracts t.coef shift g (whole f) new → StepsFrom b f t new
+pub table_step : (b : MarkedPolynomial) (f g : Terms) (t : Term) (shift : Exponents) (new : Split) → new.above ≡ [] → g ≡ b.poly →
+    IsSound (length b.head) (whole f) → Divides b.head t.mono → length t.mono ≡ length b.head → plus shift b.head ≡ t.mono → length shift ≡ length b.head →
+    Subtracts t.coef shift g (whole f) new → StepsFrom b f t new
 table_step b f g t shift new none eg v d l p e sub = record { step = at }
   where
     at : (s : Split) → joined_terms s ≡ f → IsTermInFront s.below t → (q : Term) × TakesStep b s q new
     at s q i =
-        let n : IsSound (length b.head) s = record { descending = subst IsDescending (sym q) v.descending; variables = subst (HasVariables (length b.head)) (sym q) v.variables } in (
+        let n : IsSound (length b.head) s = record {
+          descending = subst IsDescending (sym q) v.descending;
+          variables = subst (HasVariables (length b.head)) (sym q) v.variables;
+        } in (
           record { coef = t.coef; mono = shift },
           record {
             there = first_nonzero (length b.head) s t n i;
             coefficient_is = first_coefficient (length b.head) s t n i;
             product = p ∙ first_head s.below t i;
             variables = e;
-            same = λ y. sub.same y ∙ ap (λ (z : Terms). coefficient z y) (ap (λ (z : Terms). z ++ times (neg_ℚ t.coef) shift g) (sym q) ∙ ap (λ (z : Terms). joined_terms s ++ times (neg_ℚ t.coef) shift z) eg);
+            same = λ y. sub.same y ∙ ap (λ (z : Terms). coefficient z y) (ap (λ (z : Terms). z ++ times (neg_ℚ t.coef) shift g) (sym q) ∙
+                ap (λ (z : Terms). joined_terms s ++ times (neg_ℚ t.coef) shift z) eg);
             sound = λ m k. sound_along (length shift) m new (e ∙ sym l ∙ first_length m s t k i) sub.sound;
             passed = s.above;
             above = ap (λ (z : Terms). z ++ s.above) (sym none);
           },
         )
 
-pub table_refused : (b : MarkedPolynomial) (f g : Terms) (t : Term) (shift : Exponents) (e : PolyError) → g ≡ b.poly → IsDescending g → HasVariables (length b.head) b.poly → IsSound (length b.head) (whole f) → IsCutBefore f t → plus shift b.head ≡ t.mono → IsSubtractionRefusal f t.coef shift g e → IsStepRefusal f b t.mono e
+pub table_refused : (b : MarkedPolynomial) (f g : Terms) (t : Term) (shift : Exponents) (e : PolyError) → g ≡ b.poly → IsDescending g →
+    HasVariables (length b.head) b.poly → IsSound (length b.head) (whole f) → IsCutBefore f t → plus shift b.head ≡ t.mono →
+    IsSubtractionRefusal f t.coef shift g e → IsStepRefusal f b t.mono e
 table_refused b f g t shift e eg d w v c p r =
     let s = c.cut in
-    let n : IsSound (length b.head) s = record { descending = subst IsDescending (sym c.same) v.descending; variables = subst (HasVariables (length b.head)) (sym c.same) v.variables } in
-    let q : coefficient f t.mono ≡ t.coef = ap (λ (z : Terms). coefficient z t.mono) (sym c.same) ∙ ap (coefficient (joined_terms s)) (first_head s.below t c.first) ∙ first_coefficient (length b.head) s t n c.first in
+    let n : IsSound (length b.head) s = record {
+      descending = subst IsDescending (sym c.same) v.descending;
+      variables = subst (HasVariables (length b.head)) (sym c.same) v.variables;
+    } in
+    let q : coefficient f t.mono ≡ t.coef = ap (λ (z : Terms). coefficient z t.mono) (sym c.same) ∙ ap (coefficient (joined_terms s))
+    (first_head s.below t c.first) ∙ first_coefficient (length b.head) s t n c.first in
     let k = step_facts (length b.head) f b t.mono (record { coef = t.coef; mono = shift }) g q (first_nonzero (length b.head) s t n c.first) p w eg d in
     step_refused f f b t.mono (record { coef = t.coef; mono = shift }) g e k refl eg r
 
 -- ---- the search
 
-abbrev pub reducible_first_in : (bs : List MarkedPolynomial) (spared : Option Exponents) (f : Terms) (t : Term) (j : ℕ) (r : IsReducibleAt bs spared f t j) → IsReducibleFirst bs spared r.there.cut j
+abbrev pub reducible_first_in : (bs : List MarkedPolynomial) (spared : Option Exponents) (f : Terms) (t : Term) (j : ℕ) (r : IsReducibleAt bs spared f t j) →
+    IsReducibleFirst bs spared r.there.cut j
 reducible_first_in bs spared f t j r = record { term = t; is = r.there.first; divisor = r.divisor; beside = r.beside; monomial = r.monomial }
 
-abbrev pub found_there : (bs : List MarkedPolynomial) (spared : Option Exponents) (now : Split) (t : Term) (j : ℕ) (b : MarkedPolynomial) → b ≡ get_or bs j b → ShareVariables now bs spared → (r : IsReducibleAt bs spared (joined_terms now) t j) → Found bs spared r.there.cut j b
-found_there bs spared now t j b e v r = found_at bs spared r.there.cut j b e (share_along now r.there.cut bs spared r.there.same v) (reducible_first_in bs spared (joined_terms now) t j r)
+abbrev pub found_there : (bs : List MarkedPolynomial) (spared : Option Exponents) (now : Split) (t : Term) (j : ℕ) (b : MarkedPolynomial) → b ≡ get_or bs j b →
+    ShareVariables now bs spared → (r : IsReducibleAt bs spared (joined_terms now) t j) → Found bs spared r.there.cut j b
+found_there bs spared now t j b e v r = found_at bs spared r.there.cut j b e (share_along now r.there.cut bs spared r.there.same v)
+    (reducible_first_in bs spared (joined_terms now) t j r)
 
-pub stepped : (bs : List MarkedPolynomial) (spared : Option Exponents) (old now new : Split) (t : Term) (j : ℕ) (b : MarkedPolynomial) → b ≡ get_or bs j b → IsReducibleAt bs spared (joined_terms now) t j → StepsFrom b (joined_terms now) t new → IsWorkedOn bs spared old now → IsWorkedOn bs spared old new
+pub stepped : (bs : List MarkedPolynomial) (spared : Option Exponents) (old now new : Split) (t : Term) (j : ℕ) (b : MarkedPolynomial) → b ≡ get_or bs j b →
+    IsReducibleAt bs spared (joined_terms now) t j → StepsFrom b (joined_terms now) t new → IsWorkedOn bs spared old now → IsWorkedOn bs spared old new
 stepped bs spared old now new t j b e r h k =
     let s = h.step r.there.cut r.there.same r.there.first in
     worked-more bs spared old now r.there.cut new j b s.0 r.there.same (found_there bs spared now t j b e k.variables r) s.1 k
 
-pub less_stepped : (bs : List MarkedPolynomial) (spared : Option Exponents) (w : List ℕ) (now new : Split) (t : Term) (j : ℕ) (b : MarkedPolynomial) → b ≡ get_or bs j b → AreMarked (lighter w) bs → ShareVariables now bs spared → IsReducibleAt bs spared (joined_terms now) t j → StepsFrom b (joined_terms now) t new → work_left (2 ^ 31) ROOM bs (joined_terms new) < work_left (2 ^ 31) ROOM bs (joined_terms now)
+pub less_stepped : (bs : List MarkedPolynomial) (spared : Option Exponents) (w : List ℕ) (now new : Split) (t : Term) (j : ℕ) (b : MarkedPolynomial) →
+    b ≡ get_or bs j b → AreMarked (lighter w) bs → ShareVariables now bs spared → IsReducibleAt bs spared (joined_terms now) t j →
+    StepsFrom b (joined_terms now) t new → work_left (2 ^ 31) ROOM bs (joined_terms new) < work_left (2 ^ 31) ROOM bs (joined_terms now)
 less_stepped bs spared w now new t j b e m v r h =
     let s = h.step r.there.cut r.there.same r.there.first in
     less_found bs spared w now r.there.cut new j b s.0 r.there.same m (found_there bs spared now t j b e v r) s.1
 
 -- ---- from the lists to the table and back
 
-pub ended : (bs : List MarkedPolynomial) (spared : Option Exponents) (old start now new : Split) (g : Terms) → IsWorkedOn bs spared old start → IsWorkedOn bs spared start now → g ≡ joined_terms now → new ≡ whole g → IsWorkedOn bs spared old new
+pub ended : (bs : List MarkedPolynomial) (spared : Option Exponents) (old start now new : Split) (g : Terms) → IsWorkedOn bs spared old start →
+    IsWorkedOn bs spared start now → g ≡ joined_terms now → new ≡ whole g → IsWorkedOn bs spared old new
 ended bs spared old start now new g h k e q = worked-same bs spared old now new (ap joined_terms q ∙ e) (worked_along bs spared old start now h k)

@@ -46,7 +46,8 @@ IsMonicPairRefusal b c = IsRefusedBy (IsSPolynomialOperation b c) (IsSPolynomial
 
 -- the operation is one of making f or g monic, or of the S-polynomial of their monic forms
 abbrev pub IsPairOperation : MarkedPolynomial → MarkedPolynomial → Op → Fraction → Fraction → Type 0
-IsPairOperation f g op left right = IsDivisionByMark f op left right ⊎ IsDivisionByMark g op left right ⊎ ((b : MarkedPolynomial) × (c : MarkedPolynomial) × AreMadeMonic f g b c × IsSPolynomialOperation b c op left right)
+IsPairOperation f g op left right = IsDivisionByMark f op left right ⊎ IsDivisionByMark g op left right ⊎ ((b : MarkedPolynomial) × (c : MarkedPolynomial) ×
+    AreMadeMonic f g b c × IsSPolynomialOperation b c op left right)
 
 -- the exponents are added in the S-polynomial of the monic forms of f and g
 abbrev pub IsPairExponents : MarkedPolynomial → MarkedPolynomial → ℕ → ℕ → Type 0

@@ -8,7 +8,8 @@ ghost use Rattle.gf_ideal_theory.specs.Marks.{HasPositiveWeight, IsRealisable};
 ghost use Rattle.gf_ideal_theory.specs.Bases.{AreArranged};
 ghost use Rattle.gf_ideal_theory.specs.WorkLists.{IsReducedTail, AreReducedTails};
 ghost use Rattle.gf_division.specs.NormalForms.{HasSomeWeight};
-ghost use Rattle.gf_division.specs.Autoreduction.{AreNeededForms, IsAutoreduced, IsReducedOf, IsTailRefusal, IsNeededRefusal, IsAutoreductionRefusal, ShareSomeVariables, MakesNeedless, IsNeededAt, KeepVariables, IsKeptForm, AreKeptForms};
+ghost use Rattle.gf_division.specs.Autoreduction.{AreNeededForms, IsAutoreduced, IsReducedOf, IsTailRefusal, IsNeededRefusal, IsAutoreductionRefusal};
+ghost use Rattle.gf_division.specs.Autoreduction.{ShareSomeVariables, MakesNeedless, IsNeededAt, KeepVariables, IsKeptForm, AreKeptForms};
 ghost use Rattle.gf_division.specs.Remainders.{HasTailReached};
 
 use crate::dividend::Dividend;

@@ -7,7 +7,9 @@ ghost use Rattle.gf_poly.specs.Marking.{head_of};
 ghost use Rattle.gf_poly.specs.Polynomial.{coefficient as coefficient_at, IsDescending, HasVariables};
 ghost use Rattle.gf_poly.specs.Sums.{PushesNonzero};
 ghost use Rattle.gf_division.specs.Steps.{IsStepRefusal};
-ghost use Rattle.gf_division.specs.Dividends.{split_of, joined_terms, IsSound, IsTermInFront, DividesFirst, AreOver, AreOverProducts, PassesOne, FirstIs, Descends, MovesUp, TakesFromFirst, IsFirstRefusal, TakesAway, IsDifferenceRefusal, IsScalingOverflow, Subtracts, IsSubtractionRefusal, SharesVariables, TakesStep};
+ghost use Rattle.gf_division.specs.Dividends.{split_of, joined_terms, IsSound, IsTermInFront, DividesFirst, AreOver, AreOverProducts, PassesOne, FirstIs};
+ghost use Rattle.gf_division.specs.Dividends.{Descends, MovesUp, TakesFromFirst, IsFirstRefusal, TakesAway, IsDifferenceRefusal, IsScalingOverflow, Subtracts};
+ghost use Rattle.gf_division.specs.Dividends.{IsSubtractionRefusal, SharesVariables, TakesStep};
 
 use crate::front::{Front, Guide};
 use gf_frac::{Frac, Overflow};

@@ -6,7 +6,8 @@ ghost use Rattle.gf_ideal_theory.specs.Marks.{HasPositiveWeight};
 ghost use Rattle.gf_ideal_theory.specs.NormalForms.{IsNormalForm};
 ghost use Rattle.gf_division.specs.Steps.{IsReductionRefusal};
 ghost use Rattle.gf_division.specs.NormalForms.{HasSomeWeight, HaveSameVariables};
-ghost use Rattle.gf_division.specs.Divisions.{cofactor_sum, AreForms, HaveVariablesOf, IsDivisionByRule, AreCofactors, AreSums, KeepForms, IsDivisionRefusal, IsSumRefusal, with_quotient, lists_of};
+ghost use Rattle.gf_division.specs.Divisions.{cofactor_sum, AreForms, HaveVariablesOf, IsDivisionByRule, AreCofactors, AreSums, KeepForms, IsDivisionRefusal};
+ghost use Rattle.gf_division.specs.Divisions.{IsSumRefusal, with_quotient, lists_of};
 
 use crate::dividend::Dividend;
 use crate::reducers::seek;

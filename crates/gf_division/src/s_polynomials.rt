@@ -3,7 +3,8 @@
 ghost use Rattle.std.specs.Prelude.{◌≡◌, length, IfOk, IfErr};
 ghost use Rattle.gf_poly.specs.Polynomial.{IsDescending, HasVariables};
 ghost use Rattle.gf_ideal_theory.specs.Reduction.{IsSPolynomial};
-ghost use Rattle.gf_division.specs.SPolynomials.{SharePairVariables, KeepsPairVariables, IsSPolynomialOf, IsPairRefusal, IsMonicPairRefusal, AreLcmCofactors, IsRaised, IsRaisingRefusal};
+ghost use Rattle.gf_division.specs.SPolynomials.{SharePairVariables, KeepsPairVariables, IsSPolynomialOf, IsPairRefusal, IsMonicPairRefusal, AreLcmCofactors};
+ghost use Rattle.gf_division.specs.SPolynomials.{IsRaised, IsRaisingRefusal};
 
 use crate::dividend::Dividend;
 use crate::monic::{is_monic, made_monic, one};

@@ -5,7 +5,8 @@ ghost use Rattle.gf_frac.specs.Fraction.{◌-ℚ◌, zero_ℚ};
 ghost use Rattle.gf_exponents_theory.specs.Exponents.{Divides};
 ghost use Rattle.gf_poly.specs.Polynomial.{coefficient as coefficient_at, IsDescending, HasVariables};
 ghost use Rattle.gf_division.specs.Steps.{IsStepRefusal};
-ghost use Rattle.gf_division.specs.Dividends.{joined_terms, IsSound, TakesAway, IsDifferenceOverflow, IsDifferenceRefusal, Subtracts, IsSubtractionRefusal, SharesVariables};
+ghost use Rattle.gf_division.specs.Dividends.{joined_terms, IsSound, TakesAway, IsDifferenceOverflow, IsDifferenceRefusal, Subtracts, IsSubtractionRefusal};
+ghost use Rattle.gf_division.specs.Dividends.{SharesVariables};
 ghost use Rattle.gf_division.specs.Tables.{table_of, coefficient_in, Puts, IsCutBefore, StepsFrom};
 
 use crate::dividend::product;

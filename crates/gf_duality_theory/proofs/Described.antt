@@ -3,7 +3,8 @@ use Rattle.gf_duality_theory.proofs.ListLaws.{none_in, in_tail, in_cons, in_rest
 use Rattle.gf_duality_theory.specs.Straightening.{IsLeveled}
 use Rattle.gf_duality_theory.specs.Combining.{pair}
 use Rattle.gf_duality_theory.specs.Generators.{Made, nothing, ray, line, multiplied, AreValid, IsDescribed, divided}
-use Rattle.std.proofs.Common.{◌≡◌, ◌≢◌, ℕ, zero, ◌<◌, List, [], ◌∷◌, ◌++◌, length, ℤ, pos, negsuc, ◌+ℤ◌, ◌-ℤ◌, ◌*ℤ◌, neg_ℤ, ◌<ℤ◌, ◌≤ℤ◌, arith, sym, refl, ap, ◌∙◌, subst, Contains, ◌⊎◌, inl, inr, remove, get_or}
+use Rattle.std.proofs.Common.{◌≡◌, ◌≢◌, ℕ, zero, ◌<◌, List, [], ◌∷◌, ◌++◌, length, ℤ, pos, negsuc, ◌+ℤ◌, ◌-ℤ◌, ◌*ℤ◌, neg_ℤ, ◌<ℤ◌, ◌≤ℤ◌, arith, sym, refl, ap}
+use Rattle.std.proofs.Common.{◌∙◌, subst, Contains, ◌⊎◌, inl, inr, remove, get_or}
 use Rattle.std.proofs.lemmas.Int.{ints}
 use Rattle.std.proofs.lemmas.List.{get_or_default}
 use Rattle.std.proofs.lemmas.List.Elements.{Contains-append_left, Contains-push}
@@ -65,7 +66,8 @@ along n h l x y ll lx g (inl f) = record {
   is = ap (scaled (pos 1)) f.1 ∙ vsame (dn 1 ⊡ vv x lx) (dn 1 ⊡ vv x lx ⊞ dn 0 ⊡ vv l ll) (λ w. omega arith);
   d = dot h l;
   d_fits = omega (arith, ints);
-  pair_is = ap (λ t. vector_sum (scaled (dot h l) x) (scaled (neg_ℤ t) l)) f.0 ∙ vsame (by h (vv l ll) ⊡ vv x lx ⊞ dneg (dn 0) ⊡ vv l ll) (by h (vv l ll) ⊡ vv x lx) (λ w. omega arith) ∙ ap (scaled (dot h l)) (sym f.1);
+  pair_is = ap (λ t. vector_sum (scaled (dot h l) x) (scaled (neg_ℤ t) l)) f.0 ∙ vsame (by h (vv l ll) ⊡ vv x lx ⊞ dneg (dn 0) ⊡ vv l ll)
+      (by h (vv l ll) ⊡ vv x lx) (λ w. omega arith) ∙ ap (scaled (dot h l)) (sym f.1);
   zero = ap (dot h) f.1 ∙ f.0;
 }
 along n h l x y ll lx g (inr f) =
@@ -92,10 +94,12 @@ along_dot n h l x y k ll lx t z =
     ∙ ap (λ w. a *ℤ dot k x +ℤ b *ℤ w) z ∙ omega (arith, ints)
 
 along_fits : (n : ℕ) (h l x y k : List ℤ) → length l ≡ n → length x ≡ n → Along n h l x y → dot k l ≡ pos 0 → pos 0 ≤ℤ dot k x → pos 0 ≤ℤ dot k y
-along_fits n h l x y k ll lx t z f = 0≤-cancel t.c (dot k y) t.c_positive (subst (λ w. pos 0 ≤ℤ w) (sym (along_dot n h l x y k ll lx t z)) (0≤-*ℤ t.a (dot k x) (omega (arith, ints, t.a_positive)) f))
+along_fits n h l x y k ll lx t z f = 0≤-cancel t.c (dot k y) t.c_positive (subst (λ w. pos 0 ≤ℤ w) (sym (along_dot n h l x y k ll lx t z))
+    (0≤-*ℤ t.a (dot k x) (omega (arith, ints, t.a_positive)) f))
 
 along_positive : (n : ℕ) (h l x y k : List ℤ) → length l ≡ n → length x ≡ n → Along n h l x y → dot k l ≡ pos 0 → pos 0 <ℤ dot k x → pos 0 <ℤ dot k y
-along_positive n h l x y k ll lx t z f = 0<-cancel t.c (dot k y) t.c_positive (subst (λ w. pos 0 <ℤ w) (sym (along_dot n h l x y k ll lx t z)) (0<-*ℤ t.a (dot k x) t.a_positive f))
+along_positive n h l x y k ll lx t z f =
+    0<-cancel t.c (dot k y) t.c_positive (subst (λ w. pos 0 <ℤ w) (sym (along_dot n h l x y k ll lx t z)) (0<-*ℤ t.a (dot k x) t.a_positive f))
 
 pub along_zero : (n : ℕ) (h l x y k : List ℤ) → length l ≡ n → length x ≡ n → Along n h l x y → dot k l ≡ pos 0 → dot k x ≡ pos 0 → dot k y ≡ pos 0
 along_zero n h l x y k ll lx t z f = zero-cancel t.c (dot k y) t.c_positive (along_dot n h l x y k ll lx t z ∙ ap (λ w. t.a *ℤ w) f ∙ omega (arith, ints))
@@ -109,7 +113,8 @@ pub record IsLinedStep (n : ℕ) (h l : List ℤ) (lin rays lines next : List (L
   pub next_l : Contains next l
 
 pub lined : (n : ℕ) (hs es lin rays lines next : List (List ℤ)) (h l : List ℤ) → IsDescribed n hs es lin rays → length l ≡ n → pos 0 <ℤ dot h l →
-    ((k : List ℤ) → Contains hs k → dot k l ≡ pos 0) → ((e : List ℤ) → Contains es e → dot e l ≡ pos 0) → IsLinedStep n h l lin rays lines next → IsDescribed n (hs ++ h ∷ []) es lines next
+    ((k : List ℤ) → Contains hs k → dot k l ≡ pos 0) → ((e : List ℤ) → Contains es e → dot e l ≡ pos 0) → IsLinedStep n h l lin rays lines next →
+    IsDescribed n (hs ++ h ∷ []) es lines next
 lined n hs es lin rays lines next h l d ll g fl zl s =
     let of_line : (x y : List ℤ) → Contains lin x → IsLeveled h l x y → Along n h l x y = λ x y c f. along n h l x y ll (d.lin_width x c) g f in
     let of_ray : (x y : List ℤ) → Contains rays x → IsLeveled h l x y → Along n h l x y = λ x y c f. along n h l x y ll (d.rays_width x c) g f in
@@ -118,31 +123,43 @@ lined n hs es lin rays lines next h l d ll g fl zl s =
       rays_width = λ y c. elim (s.next_from y c) [ inl e ↦ ap length e ∙ ll | inr f ↦ (of_ray f.0 y f.1.0 f.1.1).long ];
       valid = record {
         up = λ k y ck cy. elim (s.next_from y cy) [
-          | inl e ↦ subst (λ t. pos 0 ≤ℤ dot k t) (sym e) (in_more (λ t. pos 0 ≤ℤ dot t l) hs h (λ t ct. let z : dot t l ≡ pos 0 = fl t ct in omega (arith, ints)) (omega (arith, ints)) k ck)
+          | inl e ↦ subst (λ t. pos 0 ≤ℤ dot k t) (sym e) (in_more (λ t. pos 0 ≤ℤ dot t l) hs h (λ t ct. let z : dot t l ≡ pos 0 = fl t ct in
+              omega (arith, ints)) (omega (arith, ints)) k ck)
           | inr f ↦ let t = of_ray f.0 y f.1.0 f.1.1 in
-              in_more (λ u. pos 0 ≤ℤ dot u y) hs h (λ u cu. along_fits n h l f.0 y u ll (d.rays_width f.0 f.1.0) t (fl u cu) (d.valid.up u f.0 cu f.1.0)) (let z : dot h y ≡ pos 0 = t.zero in omega (arith, ints)) k ck
+              in_more (λ u. pos 0 ≤ℤ dot u y) hs h (λ u cu. along_fits n h l f.0 y u ll (d.rays_width f.0 f.1.0) t (fl u cu) (d.valid.up u f.0 cu f.1.0))
+              (let z : dot h y ≡ pos 0 = t.zero in omega (arith, ints)) k ck
         ];
         flat = λ k y ck cy. let f = s.lines_from y cy in let t = of_line f.0 y f.1.0 f.1.1 in
-            in_more (λ u. dot u y ≡ pos 0) hs h (λ u cu. along_zero n h l f.0 y u ll (d.lin_width f.0 f.1.0) t (fl u cu) (d.valid.flat u f.0 cu f.1.0)) t.zero k ck;
+            in_more (λ u. dot u y ≡ pos 0) hs h (λ u cu. along_zero n h l f.0 y u ll (d.lin_width f.0 f.1.0) t (fl u cu) (d.valid.flat u f.0 cu f.1.0))
+            t.zero k ck;
       };
       solves = λ e y ce cy. elim (s.next_from y cy) [
         | inl q ↦ ap (dot e) q ∙ zl e ce
         | inr f ↦ along_zero n h l f.0 y e ll (d.rays_width f.0 f.1.0) (of_ray f.0 y f.1.0 f.1.1) (zl e ce) (d.solves e f.0 ce f.1.0)
       ];
-      lin_solves = λ e y ce cy. let f = s.lines_from y cy in along_zero n h l f.0 y e ll (d.lin_width f.0 f.1.0) (of_line f.0 y f.1.0 f.1.1) (zl e ce) (d.lin_solves e f.0 ce f.1.0);
+      lin_solves = λ e y ce cy. let f = s.lines_from y cy in along_zero n h l f.0 y e ll (d.lin_width f.0 f.1.0) (of_line f.0 y f.1.0 f.1.1) (zl e ce)
+          (d.lin_solves e f.0 ce f.1.0);
       complete = λ v lv up zero.
           step_line n rays lin next lines h l v ll g (ray n next lines l ll s.next_l)
-          (λ x lx c. let f = s.next_to x c in let t = of_ray x f.0 c f.1.1 in multiplied n next lines t.d f.0 _ t.d_fits t.pair_is (ray n next lines f.0 t.long f.1.0))
+          (λ x lx c. let f = s.next_to x c in let t = of_ray x f.0 c f.1.1 in multiplied n next lines t.d f.0 _ t.d_fits t.pair_is
+          (ray n next lines f.0 t.long f.1.0))
           (λ a x lx c. elim (s.lines_to x c) [
             | inl e ↦ subst (Made n next lines) (sym (ap (scaled a) e ∙ vsame (dv a ⊡ vz n) (vz n) (λ w. omega arith))) (nothing n next lines)
             | inr f ↦ let t = of_line x f.0 c f.1.1 in let k = t.d in
-                line n next lines (a *ℤ k) f.0 _ t.long f.1.0 (ap (scaled a) t.pair_is ∙ vsame (dv a ⊡ (dv k ⊡ vv f.0 t.long)) (dv a ⊗ dv k ⊡ vv f.0 t.long) (λ w. omega arith))
+                line n next lines (a *ℤ k) f.0 _ t.long f.1.0 (ap (scaled a) t.pair_is ∙ vsame (dv a ⊡ (dv k ⊡ vv f.0 t.long)) (dv a ⊗ dv k ⊡ vv f.0 t.long)
+                (λ w. omega arith))
           ])
           (d.complete v lv (λ k c. up k (Contains-append_left hs (h ∷ []) k c)) zero) (up h (Contains-push hs h));
       pointed = λ y cy. elim (s.next_from y cy) [
         | inl e ↦ (h, (Contains-push hs h, subst (λ t. pos 0 <ℤ dot h t) (sym e) g))
-        | inr f ↦ let p = d.pointed f.0 f.1.0 in
-            (p.0, (Contains-append_left hs (h ∷ []) p.0 p.1.0, along_positive n h l f.0 y p.0 ll (d.rays_width f.0 f.1.0) (of_ray f.0 y f.1.0 f.1.1) (fl p.0 p.1.0) p.1.1))
+        | inr f ↦ let p = d.pointed f.0 f.1.0 in (
+          p.0,
+          (
+            Contains-append_left hs (h ∷ []) p.0 p.1.0,
+            along_positive n h l f.0 y p.0 ll (d.rays_width f.0 f.1.0) (of_ray f.0 y f.1.0 f.1.1)
+                (fl p.0 p.1.0) p.1.1,
+          ),
+        )
       ];
     }
 
@@ -159,7 +176,8 @@ pub record IsPaired (h : List ℤ) (rays : List (List ℤ)) (y : List ℤ) : Typ
 pub record IsSplitStep (h : List ℤ) (rays next : List (List ℤ)) : Type 0 where
   pub from : (y : List ℤ) → Contains next y → (Contains rays y × (pos 0 ≤ℤ dot h y)) ⊎ IsPaired h rays y
   pub kept : (x : List ℤ) → Contains rays x → pos 0 ≤ℤ dot h x → Contains next x
-  pub paired : (p q : List ℤ) → Contains rays p → Contains rays q → pos 0 <ℤ dot h p → dot h q <ℤ pos 0 → (y : List ℤ) × (Contains next y × IsMultipleOf (pair h p q) y)
+  pub paired : (p q : List ℤ) → Contains rays p → Contains rays q → pos 0 <ℤ dot h p → dot h q <ℤ pos 0 →
+      (y : List ℤ) × (Contains next y × IsMultipleOf (pair h p q) y)
 
 -- the rays that are not negative at h, and the others
 record Parts (h : List ℤ) (rays : List (List ℤ)) : Type 0 where
@@ -223,11 +241,13 @@ sum_up a b h k = omega (arith, ints)
 sum_above : (a b : ℤ) → pos 0 ≤ℤ a → pos 0 <ℤ b → pos 0 <ℤ (a +ℤ b)
 sum_above a b h k = omega (arith, ints)
 
-pair_fits : (n : ℕ) (h p q k : List ℤ) → length p ≡ n → length q ≡ n → pos 0 <ℤ dot h p → dot h q <ℤ pos 0 → pos 0 ≤ℤ dot k p → pos 0 ≤ℤ dot k q → pos 0 ≤ℤ dot k (pair h p q)
+pair_fits : (n : ℕ) (h p q k : List ℤ) → length p ≡ n → length q ≡ n → pos 0 <ℤ dot h p → dot h q <ℤ pos 0 → pos 0 ≤ℤ dot k p → pos 0 ≤ℤ dot k q →
+    pos 0 ≤ℤ dot k (pair h p q)
 pair_fits n h p q k lp lq up down kp kq = subst (λ z. pos 0 ≤ℤ z) (sym (pair_dot n h p q k lp lq))
     (sum_up _ _ (0≤-*ℤ (dot h p) (dot k q) (omega (arith, ints)) kq) (0≤-*ℤ (neg_ℤ (dot h q)) (dot k p) (omega (arith, ints)) kp))
 
-pair_positive : (n : ℕ) (h p q k : List ℤ) → length p ≡ n → length q ≡ n → pos 0 <ℤ dot h p → dot h q <ℤ pos 0 → pos 0 <ℤ dot k p → pos 0 ≤ℤ dot k q → pos 0 <ℤ dot k (pair h p q)
+pair_positive : (n : ℕ) (h p q k : List ℤ) → length p ≡ n → length q ≡ n → pos 0 <ℤ dot h p → dot h q <ℤ pos 0 → pos 0 <ℤ dot k p → pos 0 ≤ℤ dot k q →
+    pos 0 <ℤ dot k (pair h p q)
 pair_positive n h p q k lp lq up down kp kq = subst (λ z. pos 0 <ℤ z) (sym (pair_dot n h p q k lp lq))
     (sum_above _ _ (0≤-*ℤ (dot h p) (dot k q) (omega (arith, ints)) kq) (0<-*ℤ (neg_ℤ (dot h q)) (dot k p) (minus_up (dot h q) down) kp))
 
@@ -235,10 +255,11 @@ pub divided_dot : (w y k : List ℤ) → (d : IsMultipleOf w y) → d.0 *ℤ dot
 divided_dot w y k d = sym (dot-times_right (d.0) k y) ∙ ap (dot k) d.1.multiple
 
 pub divided_made : (n : ℕ) (next lin : List (List ℤ)) (w y : List ℤ) → length w ≡ n → Contains next y → IsMultipleOf w y → Made n next lin w
-divided_made n next lin w y lw c d = multiplied n next lin (d.0) y w (omega (arith, ints, d.1.positive)) (sym d.1.multiple) (ray n next lin y (divided_long n w y lw d) c)
+divided_made n next lin w y lw c d = multiplied n next lin (d.0) y w (omega (arith, ints, d.1.positive)) (sym d.1.multiple)
+    (ray n next lin y (divided_long n w y lw d) c)
 
-pub split_step : (n : ℕ) (hs es lin rays next : List (List ℤ)) (h : List ℤ) → IsDescribed n hs es lin rays → ((x : List ℤ) → Contains lin x → dot h x ≡ pos 0) → IsSplitStep h rays next →
-    IsDescribed n (hs ++ h ∷ []) es lin next
+pub split_step : (n : ℕ) (hs es lin rays next : List (List ℤ)) (h : List ℤ) → IsDescribed n hs es lin rays → ((x : List ℤ) → Contains lin x → dot h x ≡ pos 0) →
+    IsSplitStep h rays next → IsDescribed n (hs ++ h ∷ []) es lin next
 split_step n hs es lin rays next h d flat s =
     let w = d.rays_width in
     let long : (y : List ℤ) (t : IsPaired h rays y) → length (pair h t.p t.q) ≡ n = λ y t. (vpair h (vv t.p (w t.p t.in_p)) (vv t.q (w t.q t.in_q))).long in
@@ -250,14 +271,16 @@ split_step n hs es lin rays next h d flat s =
         up = λ k y ck cy. elim (s.from y cy) [
           | inl a ↦ in_more (λ u. pos 0 ≤ℤ dot u y) hs h (λ u cu. d.valid.up u y cu a.0) a.1 k ck
           | inr t ↦ 0≤-cancel (t.divided.0) (dot k y) (up_of y t) (subst (λ z. pos 0 ≤ℤ z) (sym (divided_dot (pair h t.p t.q) y k t.divided))
-              (in_more (λ u. pos 0 ≤ℤ dot u (pair h t.p t.q)) hs h (λ u cu. pair_fits n h t.p t.q u (w t.p t.in_p) (w t.q t.in_q) t.up t.down (d.valid.up u t.p cu t.in_p) (d.valid.up u t.q cu t.in_q))
+              (in_more (λ u. pos 0 ≤ℤ dot u (pair h t.p t.q)) hs h (λ u cu. pair_fits n h t.p t.q u (w t.p t.in_p) (w t.q t.in_q) t.up t.down
+              (d.valid.up u t.p cu t.in_p) (d.valid.up u t.q cu t.in_q))
               (let z : dot h (pair h t.p t.q) ≡ pos 0 = pair_zero n h t.p t.q (w t.p t.in_p) (w t.q t.in_q) in omega (arith, ints)) k ck))
         ];
         flat = λ k y ck cy. in_more (λ u. dot u y ≡ pos 0) hs h (λ u cu. d.valid.flat u y cu cy) (flat y cy) k ck;
       };
       solves = λ e y ce cy. elim (s.from y cy) [
         | inl a ↦ d.solves e y ce a.0
-        | inr t ↦ zero-cancel (t.divided.0) (dot e y) (up_of y t) (divided_dot (pair h t.p t.q) y e t.divided ∙ pair_dot n h t.p t.q e (w t.p t.in_p) (w t.q t.in_q)
+        | inr t ↦ zero-cancel (t.divided.0) (dot e y) (up_of y t) (divided_dot (pair h t.p t.q) y e t.divided ∙ pair_dot n h t.p t.q e (w t.p t.in_p)
+            (w t.q t.in_q)
             ∙ rw (d.solves e t.p ce t.in_p, d.solves e t.q ce t.in_q) (omega (arith, ints)))
       ];
       lin_solves = d.lin_solves;
@@ -269,7 +292,8 @@ split_step n hs es lin rays next h d flat s =
             | negative g ↦ let u : pos 0 ≤ℤ dot h x = (t.of_p x cx).1 in absurd (omega (arith, ints))
             | none g ↦
                 let o : dot h y <ℤ pos 0 = (t.of_q y cy).1 in
-                multiplied n next lin (neg_ℤ (dot h y)) x _ (omega (arith, ints)) (ap (λ z. vector_sum (scaled z y) (scaled (neg_ℤ (dot h y)) x)) g ∙ vsame (dn 0 ⊡ vv y ly ⊞ dneg (by h (vv y ly)) ⊡ vv x lx) (dneg (by h (vv y ly)) ⊡ vv x lx) (λ u. omega arith))
+                multiplied n next lin (neg_ℤ (dot h y)) x _ (omega (arith, ints)) (ap (λ z. vector_sum (scaled z y) (scaled (neg_ℤ (dot h y)) x)) g ∙
+                vsame (dn 0 ⊡ vv y ly ⊞ dneg (by h (vv y ly)) ⊡ vv x lx) (dneg (by h (vv y ly)) ⊡ vv x lx) (λ u. omega arith))
                 (ray n next lin x lx (s.kept x (t.of_p x cx).0 (t.of_p x cx).1))
             | positive g ↦
                 let f = s.paired x y (t.of_p x cx).0 (t.of_q y cy).0 g (t.of_q y cy).1 in
@@ -303,10 +327,12 @@ pruned n hs es lin rays i j d hi hj ne z =
     let p = d.pointed y cy in
     let s = vector_sum (scaled big x) (scaled (neg_ℤ (pos 1)) y) in
     let vs : Vec n s = dv big ⊡ vv x lx ⊞ dneg (dn 1) ⊡ vv y ly in
-    let value : (h : List ℤ) → dot h s ≡ big *ℤ dot h x -ℤ dot h y = λ h. same (by h (dv big ⊡ vv x lx ⊞ dneg (dn 1) ⊡ vv y ly)) (dv big ⊗ by h (vv x lx) ⊖ by h (vv y ly)) (omega arith) in
+    let value : (h : List ℤ) → dot h s ≡ big *ℤ dot h x -ℤ dot h y =
+    λ h. same (by h (dv big ⊡ vv x lx ⊞ dneg (dn 1) ⊡ vv y ly)) (dv big ⊗ by h (vv x lx) ⊖ by h (vv y ly)) (omega arith) in
     let m : Made n rays lin s = d.complete s vs.long (λ h c. subst (λ w. pos 0 ≤ℤ w) (sym (value h)) (en.within h c))
     (λ e c. value e ∙ rw (d.solves e x c cx, d.solves e y c cy) (omega (arith, ints))) in
-    let made : Made n (remove rays i) lin x = take_away n hs rays (remove rays i) lin x y p.0 d.valid (λ u c. rest_cover rays i [] u hi c) sub lx ly cx (in_rest rays i j [] hi hj ne) p.1.0 p.1.1 en m in
+    let made : Made n (remove rays i) lin x = take_away n hs rays (remove rays i) lin x y p.0 d.valid (λ u c. rest_cover rays i [] u hi c) sub lx ly cx
+    (in_rest rays i j [] hi hj ne) p.1.0 p.1.1 en m in
     record {
       lin_width = d.lin_width;
       rays_width = λ u c. d.rays_width u (sub u c);
@@ -314,7 +340,10 @@ pruned n hs es lin rays i j d hi hj ne z =
       solves = λ e u ce cu. d.solves e u ce (sub u cu);
       lin_solves = d.lin_solves;
       complete = λ v lv up zero. Made-into n rays lin (remove rays i) lin v
-          (λ u lu c. elim (rest_cover rays i [] u hi c) [ inl a ↦ ray n (remove rays i) lin u lu a | inr a ↦ elim (in_cons x [] u a) [ inl e ↦ subst (Made n (remove rays i) lin) (sym e) made | inr b ↦ absurd (none_in u b) ] ])
+          (λ u lu c. elim (rest_cover rays i [] u hi c) [
+            | inl a ↦ ray n (remove rays i) lin u lu a
+            | inr a ↦ elim (in_cons x [] u a) [ inl e ↦ subst (Made n (remove rays i) lin) (sym e) made | inr b ↦ absurd (none_in u b) ]
+          ])
           (λ a u lu c. line n (remove rays i) lin a u _ lu c refl) (d.complete v lv up zero);
       pointed = λ u c. d.pointed u (sub u c);
     }

@@ -1,6 +1,7 @@
 -- Facet rows of a full-dimensional cone: a row is one exactly where it has a witness, a vector on which it is zero and all
 -- other rows are positive.
-use Rattle.std.proofs.Common.{◌≡◌, ℕ, List, [], ◌∷◌, length, ℤ, pos, ◌+ℤ◌, ◌-ℤ◌, ◌*ℤ◌, neg_ℤ, ◌<ℤ◌, ◌≤ℤ◌, arith, sym, refl, ap, ◌∙◌, subst, Contains, ◌⊎◌, inl, inr, All}
+use Rattle.std.proofs.Common.{◌≡◌, ℕ, List, [], ◌∷◌, length, ℤ, pos, ◌+ℤ◌, ◌-ℤ◌, ◌*ℤ◌, neg_ℤ, ◌<ℤ◌, ◌≤ℤ◌, arith, sym, refl, ap, ◌∙◌, subst, Contains, ◌⊎◌, inl}
+use Rattle.std.proofs.Common.{inr, All}
 use Rattle.std.proofs.lemmas.Int.{ints}
 use Rattle.std.proofs.lemmas.List.Elements.{All-contains}
 use Rattle.gf_int_theory.specs.Content.{scaled}
@@ -31,7 +32,10 @@ part_of (r ∷ rays) t =
           | inl e ↦ (subst (Contains (r ∷ rays)) (sym e) (Contains-here r rays), subst (λ (k : List ℤ). dot t k ≡ pos 0) (sym e) z)
           | inr d ↦ (in_tail r rays x (p.of_part x d).0, (p.of_part x d).1)
         ];
-        all = λ x c k. elim (in_cons r rays x c) [ inl e ↦ subst (Contains (r ∷ p.part)) (sym e) (Contains-here r p.part) | inr d ↦ in_tail r p.part x (p.all x d k) ];
+        all = λ x c k. elim (in_cons r rays x c) [
+          | inl e ↦ subst (Contains (r ∷ p.part)) (sym e) (Contains-here r p.part)
+          | inr d ↦ in_tail r p.part x (p.all x d k)
+        ];
       }
       | inr n ↦ record {
         part = p.part;
@@ -69,7 +73,8 @@ pub record Reached (rows : List (List ℤ)) (v x : List ℤ) : Type 0 where
   pub big_fits : pos 0 ≤ℤ big
   pub within : (h : List ℤ) → Contains rows h → pos 0 ≤ℤ (big *ℤ dot h v +ℤ dot h x)
 
-pub reached : (rows : List (List ℤ)) (v x : List ℤ) → ((h : List ℤ) → Contains rows h → (pos 0 <ℤ dot h v) ⊎ ((dot h v ≡ pos 0) × (pos 0 ≤ℤ dot h x))) → Reached rows v x
+pub reached : (rows : List (List ℤ)) (v x : List ℤ) → ((h : List ℤ) → Contains rows h → (pos 0 <ℤ dot h v) ⊎ ((dot h v ≡ pos 0) × (pos 0 ≤ℤ dot h x))) →
+    Reached rows v x
 reached [] v x f = record { big = pos 0; big_fits = omega (arith, ints); within = λ h c. absurd (none_in h c) }
 reached (t ∷ rows) v x f =
     let r = reached rows v x (λ h c. f h (in_tail t rows h c)) in
@@ -81,11 +86,13 @@ reached (t ∷ rows) v x f =
       within = λ h c. elim (in_cons t rows h c) [
         | inl e ↦ subst (λ (k : List ℤ). pos 0 ≤ℤ ((r.big +ℤ l.0) *ℤ dot k v +ℤ dot k x)) (sym e) (elim (f t (Contains-here t rows)) [
           | inl g ↦ reach r.big l.0 (dot t v) (dot t x) rb l.1.0 l.1.1 g
-          | inr z ↦ let w : (r.big +ℤ l.0) *ℤ dot t v ≡ pos 0 = ap (λ q. (r.big +ℤ l.0) *ℤ q) z.0 ∙ omega (arith, ints) in let u = z.1 in omega (arith, ints, w, u)
+          | inr z ↦ let w : (r.big +ℤ l.0) *ℤ dot t v ≡ pos 0 = ap (λ q. (r.big +ℤ l.0) *ℤ q) z.0 ∙ omega (arith, ints) in let u =
+              z.1 in omega (arith, ints, w, u)
         ])
         | inr d ↦ elim (f h c) [
           | inl g ↦ fits_more r.big l.0 (dot h v) (dot h x) rb l.1.0 (omega (arith, ints, g)) (r.within h d)
-          | inr z ↦ let w : (r.big +ℤ l.0) *ℤ dot h v ≡ pos 0 = ap (λ q. (r.big +ℤ l.0) *ℤ q) z.0 ∙ omega (arith, ints) in let u = z.1 in omega (arith, ints, w, u)
+          | inr z ↦ let w : (r.big +ℤ l.0) *ℤ dot h v ≡ pos 0 = ap (λ q. (r.big +ℤ l.0) *ℤ q) z.0 ∙ omega (arith, ints) in let u =
+              z.1 in omega (arith, ints, w, u)
         ]
       ];
     }
@@ -114,7 +121,8 @@ pub record Least (rows : List (List ℤ)) (v x r s : List ℤ) : Type 0 where
 turned_round : (a b c d : ℤ) → (c *ℤ b -ℤ a *ℤ d) <ℤ pos 0 → pos 0 ≤ℤ (a *ℤ d -ℤ c *ℤ b)
 turned_round a b c d h = omega (arith, ints, h)
 
-pub least_of : (rows : List (List ℤ)) (v x r s : List ℤ) → dot s v ≡ pos 0 → pos 0 <ℤ dot s r → ((h : List ℤ) → Contains rows h → dot h v ≡ pos 0 → pos 0 <ℤ dot h r) → Least rows v x r s
+pub least_of : (rows : List (List ℤ)) (v x r s : List ℤ) → dot s v ≡ pos 0 → pos 0 <ℤ dot s r → ((h : List ℤ) → Contains rows h → dot h v ≡ pos 0 →
+    pos 0 <ℤ dot h r) → Least rows v x r s
 least_of [] v x r s z g f = record { u = s; in_u = inl refl; zero = z; under = own_quotient (dot s x) (dot s r); least = λ h c. absurd (none_in h c) }
 least_of (t ∷ rows) v x r s z g f =
     let l = least_of rows v x r s z g (λ h c. f h (in_tail t rows h c)) in
@@ -141,7 +149,8 @@ least_of (t ∷ rows) v x r s z g f =
             under = follows (dot t x) (dot t r) (dot l.u x) (dot l.u r) (dot s x) (dot s r) up (omega (arith, ints, tr)) (omega (arith, ints, g)) k l.under;
             least = λ h c hz. elim (in_cons t rows h c) [
               | inl e ↦ subst (λ (q : List ℤ). pos 0 ≤ℤ (dot q x *ℤ dot t r -ℤ dot t x *ℤ dot q r)) (sym e) (own_quotient (dot t x) (dot t r))
-              | inr d ↦ let hr = f h c hz in follows (dot t x) (dot t r) (dot l.u x) (dot l.u r) (dot h x) (dot h r) up (omega (arith, ints, tr)) (omega (arith, ints, hr)) k (l.least h d hz)
+              | inr d ↦ let hr = f h c hz in follows (dot t x) (dot t r) (dot l.u x) (dot l.u r) (dot h x) (dot h r) up
+                  (omega (arith, ints, tr)) (omega (arith, ints, hr)) k (l.least h d hz)
             ];
           } in
           elim (sign_of test) [
@@ -162,11 +171,13 @@ in_cone rows v f = record { not_negative = all_by (λ h. pos 0 ≤ℤ dot h v) r
 pub full_in : (n : ℕ) (rows lin rays : List (List ℤ)) (w : List ℤ) → IsOfFullDimension n rows lin rays w → IsInCone (cone_of rows) w
 full_in n rows lin rays w f = in_cone rows w (λ h c. not_negative (dot h w) (f.inside h c))
 
-pub made_in : (n : ℕ) (rows lin rays : List (List ℤ)) (x : List ℤ) → IsDescribed n rows [] lin rays → length x ≡ n → IsInCone (cone_of rows) x → Made n rays lin x
+pub made_in : (n : ℕ) (rows lin rays : List (List ℤ)) (x : List ℤ) → IsDescribed n rows [] lin rays → length x ≡ n → IsInCone (cone_of rows) x →
+    Made n rays lin x
 made_in n rows lin rays x d l i = d.complete x l (λ h c. All-contains (λ k. pos 0 ≤ℤ dot k x) rows h i.not_negative c) (λ e c. absurd (none_in e c))
 
 -- a row with a witness is a facet row
-pub witness_facet : (n : ℕ) (rows lin rays : List (List ℤ)) (w a v : List ℤ) → IsOfFullDimension n rows lin rays w → Contains rows a → IsWitness n rows a v → IsFacetRow n (cone_of rows) a
+pub witness_facet : (n : ℕ) (rows lin rays : List (List ℤ)) (w a v : List ℤ) → IsOfFullDimension n rows lin rays w → Contains rows a → IsWitness n rows a v →
+    IsFacetRow n (cone_of rows) a
 witness_facet n rows lin rays w a v f c s =
     let v_in : IsInCone (cone_of rows) v = in_cone rows v (λ h k. elim (s.others h k) [
       | inl e ↦ let z : dot h v ≡ pos 0 = ap (λ (q : List ℤ). dot q v) e ∙ s.zero in omega (arith, ints, z)
@@ -189,7 +200,8 @@ pub record AreParallel (n : ℕ) (rows : List (List ℤ)) (t v r : List ℤ) : T
   pub t_zero : dot t v ≡ pos 0
   pub t_up : pos 0 <ℤ dot t r
   pub up : (h : List ℤ) → Contains rows h → dot h v ≡ pos 0 → pos 0 <ℤ dot h r
-  pub back : (h y : List ℤ) → Contains rows h → dot h v ≡ pos 0 → length y ≡ n → ((k : List ℤ) → Contains rows k → pos 0 ≤ℤ dot k y) → dot h y ≡ pos 0 → dot t y ≡ pos 0
+  pub back : (h y : List ℤ) → Contains rows h → dot h v ≡ pos 0 → length y ≡ n → ((k : List ℤ) → Contains rows k → pos 0 ≤ℤ dot k y) → dot h y ≡ pos 0 →
+      dot t y ≡ pos 0
 
 zero_sum_is : (a x y : ℤ) → x ≡ pos 0 → y ≡ pos 0 → a *ℤ x +ℤ y ≡ pos 0
 zero_sum_is a x y e f = rw (e, f) (omega (arith, ints))
@@ -211,7 +223,8 @@ below_zero sx ur ux sr a b c h = elim (sign_of ux) [
 ]
 
 -- no vector is zero at t and negative at another such row
-pub never_below : (n : ℕ) (rows : List (List ℤ)) (t v r s x : List ℤ) → AreParallel n rows t v r → Contains rows s → dot s v ≡ pos 0 → length x ≡ n → dot t x ≡ pos 0 → dot s x <ℤ pos 0 → ⊥
+pub never_below : (n : ℕ) (rows : List (List ℤ)) (t v r s x : List ℤ) → AreParallel n rows t v r → Contains rows s → dot s v ≡ pos 0 → length x ≡ n →
+    dot t x ≡ pos 0 → dot s x <ℤ pos 0 → ⊥
 never_below n rows t v r s x p cs zs lx zt neg =
     let sr = p.up s cs zs in
     let l = least_of rows v x r s zs sr p.up in
@@ -222,7 +235,8 @@ never_below n rows t v r s x p cs zs lx zt neg =
     let y : List ℤ = vector_sum (scaled (dot u r) x) (scaled (neg_ℤ (dot u x)) r) in
     let ly = (by u (vv r p.r_width) ⊡ vv x lx ⊞ dneg (by u (vv x lx)) ⊡ vv r p.r_width).long in
     let value : (h : List ℤ) → dot h y ≡ dot h x *ℤ dot u r -ℤ dot u x *ℤ dot h r = λ h.
-    same (by h (by u (vv r p.r_width) ⊡ vv x lx ⊞ dneg (by u (vv x lx)) ⊡ vv r p.r_width)) (by h (vv x lx) ⊗ by u (vv r p.r_width) ⊖ by u (vv x lx) ⊗ by h (vv r p.r_width)) (omega arith) in
+    same (by h (by u (vv r p.r_width) ⊡ vv x lx ⊞ dneg (by u (vv x lx)) ⊡ vv r p.r_width)) (by h (vv x lx) ⊗ by u (vv r p.r_width) ⊖ by u (vv x lx) ⊗ by h
+    (vv r p.r_width)) (omega arith) in
     let g = reached rows v y (λ h c. elim (sign_of (dot h v)) [
       | positive k ↦ inl k
       | none k ↦ inr (k, subst (λ z. pos 0 ≤ℤ z) (sym (value h)) (l.least h c k))
@@ -231,10 +245,13 @@ never_below n rows t v r s x p cs zs lx zt neg =
     let big : ℤ = g.big in
     let z : List ℤ = vector_sum (scaled big v) y in
     let lz = (dv big ⊡ vv v p.v_width ⊞ vv y ly).long in
-    let at : (h : List ℤ) → dot h z ≡ big *ℤ dot h v +ℤ dot h y = λ h. same (by h (dv big ⊡ vv v p.v_width ⊞ vv y ly)) (dv big ⊗ by h (vv v p.v_width) ⊕ by h (vv y ly)) (omega arith) in
-    let uz : dot u z ≡ pos 0 = at u ∙ zero_sum_is big (dot u v) (dot u y) l.zero (value u ∙ same (dv (dot u x) ⊗ dv (dot u r) ⊖ dv (dot u x) ⊗ dv (dot u r)) (dn 0) (omega arith)) in
+    let at : (h : List ℤ) → dot h z ≡ big *ℤ dot h v +ℤ dot h y =
+    λ h. same (by h (dv big ⊡ vv v p.v_width ⊞ vv y ly)) (dv big ⊗ by h (vv v p.v_width) ⊕ by h (vv y ly)) (omega arith) in
+    let uz : dot u z ≡ pos 0 = at u ∙ zero_sum_is big (dot u v) (dot u y) l.zero (value u ∙ same (dv (dot u x) ⊗ dv (dot u r) ⊖ dv (dot u x) ⊗ dv (dot u r))
+    (dn 0) (omega arith)) in
     let tz : dot t z ≡ pos 0 = p.back u z cu l.zero lz (λ k c. subst (λ q. pos 0 ≤ℤ q) (sym (at k)) (g.within k c)) uz in
-    let ty : dot t y ≡ neg_ℤ (dot u x) *ℤ dot t r = value t ∙ ap (λ q. q *ℤ dot u r -ℤ dot u x *ℤ dot t r) zt ∙ same (dn 0 ⊗ dv (dot u r) ⊖ dv (dot u x) ⊗ dv (dot t r)) (dneg (dv (dot u x)) ⊗ dv (dot t r)) (omega arith) in
+    let ty : dot t y ≡ neg_ℤ (dot u x) *ℤ dot t r = value t ∙ ap (λ q. q *ℤ dot u r -ℤ dot u x *ℤ dot t r) zt ∙
+    same (dn 0 ⊗ dv (dot u r) ⊖ dv (dot u x) ⊗ dv (dot t r)) (dneg (dv (dot u x)) ⊗ dv (dot t r)) (omega arith) in
     let up : pos 0 <ℤ dot t y = subst (λ q. pos 0 <ℤ q) (sym ty) (0<-*ℤ (neg_ℤ (dot u x)) (dot t r) (omega (arith, ints, ux)) p.t_up) in
     let pz : pos 0 <ℤ dot t z = subst (λ q. pos 0 <ℤ q) (sym (at t)) (up_sum big (dot t v) (dot t y) p.t_zero up) in
     omega (arith, ints, pz, tz)

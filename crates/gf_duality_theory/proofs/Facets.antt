@@ -26,7 +26,8 @@ all_zero_value (a ∷ h) [] z = refl
 all_zero_value (a ∷ h) (b ∷ x) z = rw (z.0, all_zero_value h x z.1) (omega (arith, ints))
 
 -- such rows are on one line
-parallel_same : (n : ℕ) (rows : List (List ℤ)) (t v r s : List ℤ) → AreParallel n rows t v r → Contains rows s → dot s v ≡ pos 0 → length t ≡ n → length s ≡ n → IsPrimitive t → IsPrimitive s → (AllZero t → ⊥) → s ≡ t
+parallel_same : (n : ℕ) (rows : List (List ℤ)) (t v r s : List ℤ) → AreParallel n rows t v r → Contains rows s → dot s v ≡ pos 0 → length t ≡ n → length s ≡ n →
+    IsPrimitive t → IsPrimitive s → (AllZero t → ⊥) → s ≡ t
 parallel_same n rows t v r s p cs zs lt ls pt ps nz =
     let a : ℤ = dot t r in let b : ℤ = dot s r in
     let sr = p.up s cs zs in
@@ -36,7 +37,8 @@ parallel_same n rows t v r s p cs zs lt ls pt ps nz =
     let tf : ℤ = dot t f in
     let x : List ℤ = vector_sum (scaled tf r) (scaled (neg_ℤ a) f) in
     let lx : length x ≡ n = (dv tf ⊡ vv r p.r_width ⊞ dneg (dv a) ⊡ vv f lf).long in
-    let tx : dot t x ≡ pos 0 = same (by t (dv tf ⊡ vv r p.r_width ⊞ dneg (dv a) ⊡ vv f lf)) (dv tf ⊗ by t (vv r p.r_width) ⊕ dneg (dv a ⊗ by t (vv f lf))) (omega arith) ∙ same (dv tf ⊗ dv a ⊕ dneg (dv a ⊗ dv tf)) (dn 0) (omega arith) in
+    let tx : dot t x ≡ pos 0 = same (by t (dv tf ⊡ vv r p.r_width ⊞ dneg (dv a) ⊡ vv f lf)) (dv tf ⊗ by t (vv r p.r_width) ⊕ dneg (dv a ⊗ by t (vv f lf)))
+    (omega arith) ∙ same (dv tf ⊗ dv a ⊕ dneg (dv a ⊗ dv tf)) (dn 0) (omega arith) in
     let sx : dot s x ≡ neg_ℤ (dot f f) =
     same (by s (dv tf ⊡ vv r p.r_width ⊞ dneg (dv a) ⊡ vv f lf)) (dv tf ⊗ by s (vv r p.r_width) ⊕ dneg (dv a ⊗ by s (vv f lf))) (omega arith)
     ∙ same (dv tf ⊗ dv b ⊕ dneg (dv a ⊗ dv (dot s f))) (dneg (dv a ⊗ dv (dot s f) ⊕ dneg (dv b) ⊗ dv tf)) (omega arith)
@@ -48,11 +50,13 @@ parallel_same n rows t v r s p cs zs lt ls pt ps nz =
       | none g ↦
           let fz : f ≡ zeros n = own_zero f g ∙ ap zeros lf in
           let crosswise : scaled a s ≡ scaled b t =
-          vsame (dv a ⊡ vv s ls) ((dv a ⊡ vv s ls ⊞ dneg (dv b) ⊡ vv t lt) ⊞ dv b ⊡ vv t lt) (λ w. omega arith) ∙ ap (λ z. vector_sum z (scaled b t)) fz ∙ vsame (vz n ⊞ dv b ⊡ vv t lt) (dv b ⊡ vv t lt) (λ w. omega arith) in
+          vsame (dv a ⊡ vv s ls) ((dv a ⊡ vv s ls ⊞ dneg (dv b) ⊡ vv t lt) ⊞ dv b ⊡ vv t lt) (λ w. omega arith) ∙ ap (λ z. vector_sum z (scaled b t)) fz ∙
+          vsame (vz n ⊞ dv b ⊡ vv t lt) (dv b ⊡ vv t lt) (λ w. omega arith) in
           primitive_same t s a b p.t_up sr crosswise pt ps nz
     ]
 
-pub facet_witness : (n : ℕ) (rows lin rays : List (List ℤ)) (w t : List ℤ) (p : Part rays t) → IsOfFullDimension n rows lin rays w → IsFacetRow n (cone_of rows) t → IsWitness n rows t (sum_of n p.part)
+pub facet_witness : (n : ℕ) (rows lin rays : List (List ℤ)) (w t : List ℤ) (p : Part rays t) → IsOfFullDimension n rows lin rays w →
+    IsFacetRow n (cone_of rows) t → IsWitness n rows t (sum_of n p.part)
 facet_witness n rows lin rays w t p f c =
     let ct : Contains rows t = c.listed in
     let d = described_of n rows [] lin rays f.are_rays in
@@ -60,7 +64,8 @@ facet_witness n rows lin rays w t p f c =
     let v : List ℤ = sum_of n part in
     let wp : (x : List ℤ) → Contains part x → length x ≡ n = λ x k. d.rays_width x (p.of_part x k).0 in
     let lv : length v ≡ n = sum_long n part wp in
-    let v_in : (h : List ℤ) → Contains rows h → pos 0 ≤ℤ dot h v = λ h k. All-contains (λ q. pos 0 ≤ℤ dot q v) rows h (sum_in n rows [] lin rays part d (λ x i. (p.of_part x i).0)).not_negative k in
+    let v_in : (h : List ℤ) → Contains rows h → pos 0 ≤ℤ dot h v =
+    λ h k. All-contains (λ q. pos 0 ≤ℤ dot q v) rows h (sum_in n rows [] lin rays part d (λ x i. (p.of_part x i).0)).not_negative k in
     let tv : dot t v ≡ pos 0 = Made-dot_zero n part [] t v (λ x k. (p.of_part x k).1) (λ x k. absurd (none_in x k)) (sum_made n part [] part wp (λ x k. k)) in
     let up_t : (x : List ℤ) → Contains rays x → pos 0 ≤ℤ dot t x = λ x k. d.valid.up t x ct k in
     let flat_t : (x : List ℤ) → Contains lin x → dot t x ≡ pos 0 = λ x k. d.valid.flat t x ct k in
@@ -71,9 +76,11 @@ facet_witness n rows lin rays w t p f c =
     let of_part : (y : List ℤ) → length y ≡ n → IsInCone (cone_of rows) y → dot t y ≡ pos 0 → Made n part lin y = λ y ly iy zy.
     face_made n (t ∷ []) rays part lin v y one (λ x k z. p.all x k (z t (Contains-here t []) tv)) (made_in n rows lin rays y d ly iy)
     (λ h k z. elim (in_cons t [] h k) [ inl e ↦ ap (λ (q : List ℤ). dot q y) e ∙ zy | inr j ↦ absurd (none_in h j) ]) in
-    let back : (h y : List ℤ) → Contains rows h → dot h v ≡ pos 0 → length y ≡ n → IsInCone (cone_of rows) y → dot h y ≡ pos 0 → dot t y ≡ pos 0 = λ h y k z ly iy zy.
+    let back : (h y : List ℤ) → Contains rows h → dot h v ≡ pos 0 → length y ≡ n → IsInCone (cone_of rows) y → dot h y ≡ pos 0 → dot t y ≡ pos 0 =
+    λ h y k z ly iy zy.
     c.greatest h w k f.width (full_in n rows lin rays w f) (f.inside h k)
-    (λ q lq iq zq. Made-dot_zero n part lin h q (λ x i. sum_zero n part h x wp (λ u j. d.valid.up h u k (p.of_part u j).0) z i) (λ x i. d.valid.flat h x k i) (of_part q lq iq zq)) y ly iy zy in
+    (λ q lq iq zq. Made-dot_zero n part lin h q (λ x i. sum_zero n part h x wp (λ u j. d.valid.up h u k (p.of_part u j).0) z i) (λ x i. d.valid.flat h x k i)
+    (of_part q lq iq zq)) y ly iy zy in
     let r : (x : List ℤ) × (Contains rays x × (pos 0 <ℤ dot t x)) = elim (some_above rays t up_t) [
       | inl a ↦ a
       | inr z ↦
@@ -103,6 +110,7 @@ facet_witness n rows lin rays w t p f c =
       others = λ b k. elim (sign_of (dot b v)) [
         | positive g ↦ inr g
         | negative g ↦ let u = v_in b k in absurd (omega (arith, ints, g, u))
-        | none g ↦ inl (parallel_same n rows t v r.0 b q k g (lt t ct) (lt b k) (All-contains IsPrimitive rows t f.primitive ct) (All-contains IsPrimitive rows b f.primitive k) nz)
+        | none g ↦ inl (parallel_same n rows t v r.0 b q k g (lt t ct) (lt b k) (All-contains IsPrimitive rows t f.primitive ct)
+            (All-contains IsPrimitive rows b f.primitive k) nz)
       ];
     }

@@ -15,17 +15,22 @@ use Rattle.gf_duality_theory.proofs.Echelon.{SameSpan, basis_echelon, basis_span
 use Rattle.gf_duality_theory.proofs.EchelonUnique.{no_widths}
 
 -- a row that is zero on all rays
-pub zero_on : (n : ℕ) (hs es lin rays : List (List ℤ)) (t : List ℤ) → IsDescribed n hs es lin rays → Contains hs t → ((x : List ℤ) → Contains rays x → dot t x ≡ pos 0) → IsZeroOn n hs es t
+pub zero_on : (n : ℕ) (hs es lin rays : List (List ℤ)) (t : List ℤ) → IsDescribed n hs es lin rays → Contains hs t →
+    ((x : List ℤ) → Contains rays x → dot t x ≡ pos 0) → IsZeroOn n hs es t
 zero_on n hs es lin rays t d ct z = λ x lx s.
     Made-dot_zero n rays lin t x z (λ y c. d.valid.flat t y ct c)
     (d.complete x lx (λ h c. All-contains (λ k. pos 0 ≤ℤ dot k x) hs h s.not_negative c) (λ e c. All-contains (λ k. dot k x ≡ pos 0) es e s.zero c))
 
 -- a ray is in the cone
 pub ray_in : (n : ℕ) (hs es lin rays : List (List ℤ)) (x : List ℤ) → IsDescribed n hs es lin rays → Contains rays x → Satisfies hs es x
-ray_in n hs es lin rays x d c = record { not_negative = all_by (λ h. pos 0 ≤ℤ dot h x) hs (λ h k. d.valid.up h x k c); zero = all_by (λ e. dot e x ≡ pos 0) es (λ e k. d.solves e x k c) }
+ray_in n hs es lin rays x d c = record {
+  not_negative = all_by (λ h. pos 0 ≤ℤ dot h x) hs (λ h k. d.valid.up h x k c);
+  zero = all_by (λ e. dot e x ≡ pos 0) es (λ e k. d.solves e x k c);
+}
 
-pub implied_by : (n : ℕ) (hs es rows out : List (List ℤ)) → AreRows n rows → ((t : List ℤ) → Contains rows t → Contains es t ⊎ (Contains hs t × IsZeroOn n hs es t)) → ((t : List ℤ) → Contains es t ⊎ (Contains hs t × IsZeroOn n hs es t) → Contains rows t) →
-    IsEchelonBasis n rows out → IsImplied n hs es out
+pub implied_by : (n : ℕ) (hs es rows out : List (List ℤ)) → AreRows n rows →
+    ((t : List ℤ) → Contains rows t → Contains es t ⊎ (Contains hs t × IsZeroOn n hs es t)) →
+    ((t : List ℤ) → Contains es t ⊎ (Contains hs t × IsZeroOn n hs es t) → Contains rows t) → IsEchelonBasis n rows out → IsImplied n hs es out
 implied_by n hs es rows out w each every b =
     let wide : (x : List ℤ) → Contains rows x → length x ≡ n = λ x c. All-contains (λ t. length t ≡ n) rows x w c in
     let s : SameSpan n rows out = basis_span n rows out wide b in
@@ -37,8 +42,10 @@ implied_by n hs es rows out w each every b =
       width = wo;
       echelon = basis_echelon n rows out wide b;
       spans = λ v lv. (
-        λ g. made-generated n [] out v (no_widths n) wo (Made-into n [] rows [] out v (λ x l c. absurd (none_in x c)) (λ a x l c. span-times n out a x (s.to x c)) (generated-made n [] rows v (no_widths n) w g)),
-        λ g. made-generated n [] rows v (no_widths n) w (Made-into n [] out [] rows v (λ x l c. absurd (none_in x c)) (λ a x l c. span-times n rows a x (s.from x c)) (generated-made n [] out v (no_widths n) wo g)),
+        λ g. made-generated n [] out v (no_widths n) wo (Made-into n [] rows [] out v (λ x l c. absurd (none_in x c))
+            (λ a x l c. span-times n out a x (s.to x c)) (generated-made n [] rows v (no_widths n) w g)),
+        λ g. made-generated n [] rows v (no_widths n) w (Made-into n [] out [] rows v (λ x l c. absurd (none_in x c))
+            (λ a x l c. span-times n rows a x (s.from x c)) (generated-made n [] out v (no_widths n) wo g)),
       );
     }
 

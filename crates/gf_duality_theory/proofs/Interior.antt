@@ -14,7 +14,8 @@ use Rattle.gf_duality_theory.proofs.RaySums.{sum_made, sum_long, sum_zero}
 use Rattle.gf_duality_theory.proofs.Determined.{described_of}
 
 -- some vector is positive at h, or h is zero on all
-pub some_above : (xs : List (List ℤ)) (h : List ℤ) → ((x : List ℤ) → Contains xs x → pos 0 ≤ℤ dot h x) → ((x : List ℤ) × (Contains xs x × (pos 0 <ℤ dot h x))) ⊎ ((x : List ℤ) → Contains xs x → dot h x ≡ pos 0)
+pub some_above : (xs : List (List ℤ)) (h : List ℤ) → ((x : List ℤ) → Contains xs x → pos 0 ≤ℤ dot h x) →
+    ((x : List ℤ) × (Contains xs x × (pos 0 <ℤ dot h x))) ⊎ ((x : List ℤ) → Contains xs x → dot h x ≡ pos 0)
 some_above [] h f = inr (λ x c. absurd (none_in x c))
 some_above (t ∷ xs) h f = elim (sign_of (dot h t)) [
   | negative g ↦ let k : pos 0 ≤ℤ dot h t = f t (Contains-here t xs) in absurd (omega (arith, ints))
@@ -26,12 +27,15 @@ some_above (t ∷ xs) h f = elim (sign_of (dot h t)) [
 ]
 
 -- the sum of rays is in the cone
-pub sum_in : (n : ℕ) (hs es lin rays part : List (List ℤ)) → IsDescribed n hs es lin rays → ((x : List ℤ) → Contains part x → Contains rays x) → Satisfies hs es (sum_of n part)
+pub sum_in : (n : ℕ) (hs es lin rays part : List (List ℤ)) → IsDescribed n hs es lin rays → ((x : List ℤ) → Contains part x → Contains rays x) →
+    Satisfies hs es (sum_of n part)
 sum_in n hs es lin rays part d s =
     let m = sum_made n rays lin part (λ x c. d.rays_width x (s x c)) s in
     record {
-      not_negative = all_by (λ h. pos 0 ≤ℤ dot h (sum_of n part)) hs (λ h c. Made-dot n rays lin h (sum_of n part) (λ x i. d.valid.up h x c i) (λ x i. d.valid.flat h x c i) m);
-      zero = all_by (λ e. dot e (sum_of n part) ≡ pos 0) es (λ e c. Made-dot_zero n rays lin e (sum_of n part) (λ x i. d.solves e x c i) (λ x i. d.lin_solves e x c i) m);
+      not_negative = all_by (λ h. pos 0 ≤ℤ dot h (sum_of n part)) hs (λ h c. Made-dot n rays lin h (sum_of n part) (λ x i. d.valid.up h x c i)
+          (λ x i. d.valid.flat h x c i) m);
+      zero = all_by (λ e. dot e (sum_of n part) ≡ pos 0) es (λ e c. Made-dot_zero n rays lin e (sum_of n part) (λ x i. d.solves e x c i)
+          (λ x i. d.lin_solves e x c i) m);
     }
 
 pub interior : (n : ℕ) (c : Rows) (lin rays : List (List ℤ)) → IsRays n c.inequalities c.equations lin rays → IsInterior n c (sum_of n rays)
@@ -45,11 +49,14 @@ interior n c lin rays r =
       positive = all_by (λ h. (pos 0 <ℤ dot h v) ⊎ ((x : List ℤ) → length x ≡ n → IsInCone c x → dot h x ≡ pos 0)) c.inequalities (λ h ch.
           elim (some_above rays h (λ x k. d.valid.up h x ch k)) [
             | inr z ↦ inr (λ x lx k. Made-dot_zero n rays lin h x z (λ y i. d.valid.flat h y ch i)
-                (d.complete x lx (λ t ct. All-contains (λ q. pos 0 ≤ℤ dot q x) c.inequalities t k.not_negative ct) (λ t ct. All-contains (λ q. dot q x ≡ pos 0) c.equations t k.zero ct)))
+                (d.complete x lx (λ t ct. All-contains (λ q. pos 0 ≤ℤ dot q x) c.inequalities t k.not_negative ct)
+                (λ t ct. All-contains (λ q. dot q x ≡ pos 0) c.equations t k.zero ct)))
             | inl p ↦ elim (sign_of (dot h v)) [
               | positive g ↦ inl g
-              | none g ↦ let z : dot h p.0 ≡ pos 0 = sum_zero n rays h p.0 d.rays_width (λ x k. d.valid.up h x ch k) g p.1.0 in let u = p.1.1 in absurd (omega (arith, ints, z, u))
-              | negative g ↦ let u : pos 0 ≤ℤ dot h v = All-contains (λ q. pos 0 ≤ℤ dot q v) c.inequalities h v_in.not_negative ch in absurd (omega (arith, ints, g, u))
+              | none g ↦ let z : dot h p.0 ≡ pos 0 = sum_zero n rays h p.0 d.rays_width (λ x k. d.valid.up h x ch k) g p.1.0 in let u =
+                  p.1.1 in absurd (omega (arith, ints, z, u))
+              | negative g ↦ let u : pos 0 ≤ℤ dot h v = All-contains (λ q. pos 0 ≤ℤ dot q v) c.inequalities h v_in.not_negative ch in
+                  absurd (omega (arith, ints, g, u))
             ]
           ]);
     }

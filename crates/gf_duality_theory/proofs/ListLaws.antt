@@ -1,5 +1,6 @@
 -- Lists: what is in them, what is related to what, and a list without one of its places.
-use Rattle.std.proofs.Common.{◌≡◌, ◌≢◌, ℕ, zero, suc, ◌+◌, ◌-◌, ◌<◌, List, [], ◌∷◌, ◌++◌, length, ℤ, arith, sym, refl, ap, ◌∙◌, subst, Contains, ◌⊎◌, inl, inr, remove, get_or}
+use Rattle.std.proofs.Common.{◌≡◌, ◌≢◌, ℕ, zero, suc, ◌+◌, ◌-◌, ◌<◌, List, [], ◌∷◌, ◌++◌, length, ℤ, arith, sym, refl, ap, ◌∙◌, subst, Contains, ◌⊎◌, inl, inr}
+use Rattle.std.proofs.Common.{remove, get_or}
 use Rattle.std.specs.List.{AllZip}
 use Rattle.std.proofs.lemmas.List.{get_or_default}
 use Rattle.std.proofs.lemmas.List.Elements.{Contains-append_left, Contains-append_cases}
@@ -19,7 +20,8 @@ in_cons x xs y (suc k, l, e) = inr (k, omega arith, e)
 pub first_in : {X : Type 0} (xs : List X) (x y : X) → Contains xs y → Contains (xs ++ x ∷ []) y
 first_in xs x y c = Contains-append_left xs (x ∷ []) y c
 
-pub in_more : (R : List ℤ → Type 0) (hs : List (List ℤ)) (h : List ℤ) → ((k : List ℤ) → Contains hs k → R k) → R h → (k : List ℤ) → Contains (hs ++ h ∷ []) k → R k
+pub in_more : (R : List ℤ → Type 0) (hs : List (List ℤ)) (h : List ℤ) → ((k : List ℤ) → Contains hs k → R k) → R h → (k : List ℤ) → Contains (hs ++ h ∷ []) k →
+    R k
 in_more R hs h f g k c = elim (Contains-append_cases hs (h ∷ []) k c) [
   | inl a ↦ f k a
   | inr a ↦ elim (in_cons h [] k a) [ inl e ↦ subst R (sym e) g | inr b ↦ absurd (none_in k b) ]
@@ -29,13 +31,19 @@ pub zip_to : {A B : Type 0} (R : A → B → Type 0) (xs : List A) (ys : List B)
 zip_to R [] [] x a c = absurd (none_in x c)
 zip_to R [] (y ∷ ys) x a c = absurd a
 zip_to R (z ∷ xs) [] x a c = absurd a
-zip_to R (z ∷ xs) (y ∷ ys) x a c = elim (in_cons z xs x c) [ inl e ↦ (y, (Contains-here y ys, subst (λ t. R t y) (sym e) a.0)) | inr d ↦ let t = zip_to R xs ys x a.1 d in (t.0, (in_tail y ys t.0 t.1.0, t.1.1)) ]
+zip_to R (z ∷ xs) (y ∷ ys) x a c = elim (in_cons z xs x c) [
+  | inl e ↦ (y, (Contains-here y ys, subst (λ t. R t y) (sym e) a.0))
+  | inr d ↦ let t = zip_to R xs ys x a.1 d in (t.0, (in_tail y ys t.0 t.1.0, t.1.1))
+]
 
 pub zip_from : {A B : Type 0} (R : A → B → Type 0) (xs : List A) (ys : List B) (y : B) → AllZip R xs ys → Contains ys y → (x : A) × (Contains xs x × R x y)
 zip_from R [] [] y a c = absurd (none_in y c)
 zip_from R [] (z ∷ ys) y a c = absurd a
 zip_from R (x ∷ xs) [] y a c = absurd a
-zip_from R (x ∷ xs) (z ∷ ys) y a c = elim (in_cons z ys y c) [ inl e ↦ (x, (Contains-here x xs, subst (R x) (sym e) a.0)) | inr d ↦ let t = zip_from R xs ys y a.1 d in (t.0, (in_tail x xs t.0 t.1.0, t.1.1)) ]
+zip_from R (x ∷ xs) (z ∷ ys) y a c = elim (in_cons z ys y c) [
+  | inl e ↦ (x, (Contains-here x xs, subst (R x) (sym e) a.0))
+  | inr d ↦ let t = zip_from R xs ys y a.1 d in (t.0, (in_tail x xs t.0 t.1.0, t.1.1))
+]
 
 -- a list without one of its places
 pub data Place (i j : ℕ) : Type 0 where
@@ -55,7 +63,12 @@ in_rest xs i j d hi hj n =
     elim (place i j) [
       | less h ↦ (j, omega (arith, l), get_or-remove_below xs i e j h hi ∙ get_or_default xs j e d hj)
       | at q ↦ absurd (n q)
-      | more h ↦ (j - 1, omega (arith, l), get_or-remove_above xs i e (j - 1) (omega arith) hi ∙ ap (λ k. get_or xs k e) (let q : j - 1 + 1 ≡ j = omega arith in q) ∙ get_or_default xs j e d hj)
+      | more h ↦ (
+        j - 1,
+        omega (arith, l),
+        get_or-remove_above xs i e (j - 1) (omega arith) hi ∙ ap (λ k. get_or xs k e) (let q : j - 1 + 1 ≡ j = omega arith in
+            q) ∙ get_or_default xs j e d hj,
+      )
     ]
 
 -- where it stood

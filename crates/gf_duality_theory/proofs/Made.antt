@@ -15,7 +15,8 @@ pub Made-length : (n : ℕ) (rays lin : List (List ℤ)) (v : List ℤ) → Made
 Made-length n rays lin v (nothing m rs ls) = length-zeros m
 Made-length n rays lin v (ray m rs ls w l k) = l
 Made-length n rays lin v (line m rs ls a u w l k e) = ap length e ∙ length-times a u ∙ l
-Made-length n rays lin v (summed m rs ls x y w e p q) = ap length e ∙ length-plus x y (Made-length m rs ls x p ∙ sym (Made-length m rs ls y q)) ∙ Made-length m rs ls x p
+Made-length n rays lin v (summed m rs ls x y w e p q) = ap length e ∙ length-plus x y (Made-length m rs ls x p ∙ sym (Made-length m rs ls y q)) ∙
+    Made-length m rs ls x p
 Made-length n rays lin v (multiplied m rs ls a x w k e p) = ap length e ∙ length-times a x ∙ Made-length m rs ls x p
 Made-length n rays lin v (divided m rs ls a x w k e p) = sym (length-times a x) ∙ ap length e ∙ Made-length m rs ls w p
 
@@ -31,7 +32,8 @@ Made-mapped n rays lin next lines f v i g h (nothing m rs ls) = subst (Made m ne
 Made-mapped n rays lin next lines f v i g h (ray m rs ls w l k) = g w l k
 Made-mapped n rays lin next lines f v i g h (line m rs ls a u w l k e) = subst (Made m next lines) (sym (ap f e ∙ i.of_times a u l)) (h a u l k)
 Made-mapped n rays lin next lines f v i g h (summed m rs ls x y w e p q) =
-    summed m next lines (f x) (f y) (f w) (ap f e ∙ i.of_plus x y (Made-length m rs ls x p) (Made-length m rs ls y q)) (Made-mapped m rs ls next lines f x i g h p) (Made-mapped m rs ls next lines f y i g h q)
+    summed m next lines (f x) (f y) (f w) (ap f e ∙ i.of_plus x y (Made-length m rs ls x p) (Made-length m rs ls y q))
+    (Made-mapped m rs ls next lines f x i g h p) (Made-mapped m rs ls next lines f y i g h q)
 Made-mapped n rays lin next lines f v i g h (multiplied m rs ls a x w k e p) =
     multiplied m next lines a (f x) (f w) k (ap f e ∙ i.of_times a x (Made-length m rs ls x p)) (Made-mapped m rs ls next lines f x i g h p)
 Made-mapped n rays lin next lines f v i g h (divided m rs ls a x w k e p) =
@@ -64,8 +66,8 @@ pub span-made : (n : ℕ) (rays lin : List (List ℤ)) (v : List ℤ) → Made n
 span-made n rays lin v p = Made-into n [] lin rays lin v (λ x l c. absurd (none_in x c)) (λ a x l c. line n rays lin a x (scaled a x) l c refl) p
 
 -- signs are kept
-pub Made-dot : (n : ℕ) (rays lin : List (List ℤ)) (h v : List ℤ) → ((x : List ℤ) → Contains rays x → pos 0 ≤ℤ dot h x) → ((x : List ℤ) → Contains lin x → dot h x ≡ pos 0) →
-    Made n rays lin v → pos 0 ≤ℤ dot h v
+pub Made-dot : (n : ℕ) (rays lin : List (List ℤ)) (h v : List ℤ) → ((x : List ℤ) → Contains rays x → pos 0 ≤ℤ dot h x) →
+    ((x : List ℤ) → Contains lin x → dot h x ≡ pos 0) → Made n rays lin v → pos 0 ≤ℤ dot h v
 Made-dot n rays lin h v f g (nothing m rs ls) = rw (dot_comm h (zeros m), dot-zeros m h) (omega (arith, ints))
 Made-dot n rays lin h v f g (ray m rs ls w l k) = f w k
 Made-dot n rays lin h v f g (line m rs ls a u w l k e) = rw (e, dot-times_right a h u, g u k) (omega (arith, ints))
@@ -76,13 +78,14 @@ Made-dot n rays lin h v f g (multiplied m rs ls a x w k e p) = rw (e, dot-times_
 Made-dot n rays lin h v f g (divided m rs ls a x w k e p) =
     0≤-cancel a (dot h x) k (subst (λ z. pos 0 ≤ℤ z) (ap (dot h) (sym e) ∙ dot-times_right a h x) (Made-dot m rs ls h w f g p))
 
-pub Made-dot_zero : (n : ℕ) (rays lin : List (List ℤ)) (h v : List ℤ) → ((x : List ℤ) → Contains rays x → dot h x ≡ pos 0) → ((x : List ℤ) → Contains lin x → dot h x ≡ pos 0) →
-    Made n rays lin v → dot h v ≡ pos 0
+pub Made-dot_zero : (n : ℕ) (rays lin : List (List ℤ)) (h v : List ℤ) → ((x : List ℤ) → Contains rays x → dot h x ≡ pos 0) →
+    ((x : List ℤ) → Contains lin x → dot h x ≡ pos 0) → Made n rays lin v → dot h v ≡ pos 0
 Made-dot_zero n rays lin h v f g (nothing m rs ls) = dot_comm h (zeros m) ∙ dot-zeros m h
 Made-dot_zero n rays lin h v f g (ray m rs ls w l k) = f w k
 Made-dot_zero n rays lin h v f g (line m rs ls a u w l k e) = rw (e, dot-times_right a h u, g u k) (omega (arith, ints))
 Made-dot_zero n rays lin h v f g (summed m rs ls x y w e p q) =
-    rw (e, dot-plus_right h x y (Made-length m rs ls x p ∙ sym (Made-length m rs ls y q)), Made-dot_zero m rs ls h x f g p, Made-dot_zero m rs ls h y f g q) (omega (arith, ints))
+    rw (e, dot-plus_right h x y (Made-length m rs ls x p ∙ sym (Made-length m rs ls y q)), Made-dot_zero m rs ls h x f g p, Made-dot_zero m rs ls h y f g q)
+    (omega (arith, ints))
 Made-dot_zero n rays lin h v f g (multiplied m rs ls a x w k e p) = rw (e, dot-times_right a h x, Made-dot_zero m rs ls h x f g p) (omega (arith, ints))
 Made-dot_zero n rays lin h v f g (divided m rs ls a x w k e p) =
     zero-cancel a (dot h x) k (sym (dot-times_right a h x) ∙ ap (dot h) e ∙ Made-dot_zero m rs ls h w f g p)

@@ -12,11 +12,13 @@ use Rattle.gf_duality_theory.proofs.ListLaws.{none_in, in_tail, in_cons}
 use Rattle.gf_duality_theory.proofs.Made.{Made-length, Made-dot}
 
 -- the sum of vectors is made
-pub sum_made : (n : ℕ) (rays lin rows : List (List ℤ)) → ((x : List ℤ) → Contains rows x → length x ≡ n) → ((x : List ℤ) → Contains rows x → Contains rays x) → Made n rays lin (sum_of n rows)
+pub sum_made : (n : ℕ) (rays lin rows : List (List ℤ)) → ((x : List ℤ) → Contains rows x → length x ≡ n) → ((x : List ℤ) → Contains rows x → Contains rays x) →
+    Made n rays lin (sum_of n rows)
 sum_made n rays lin [] w s = nothing n rays lin
 sum_made n rays lin (t ∷ ts) w s =
     let lt = w t (Contains-here t ts) in
-    summed n rays lin (scaled (pos 1) t) (sum_of n ts) _ refl (multiplied n rays lin (pos 1) t _ (omega (arith, ints)) refl (ray n rays lin t lt (s t (Contains-here t ts)))) (sum_made n rays lin ts (λ x c. w x (in_tail t ts x c)) (λ x c. s x (in_tail t ts x c)))
+    summed n rays lin (scaled (pos 1) t) (sum_of n ts) _ refl (multiplied n rays lin (pos 1) t _ (omega (arith, ints)) refl
+    (ray n rays lin t lt (s t (Contains-here t ts)))) (sum_made n rays lin ts (λ x c. w x (in_tail t ts x c)) (λ x c. s x (in_tail t ts x c)))
 
 sum_step : (n : ℕ) (h t : List ℤ) (ts : List (List ℤ)) → length t ≡ n → length (sum_of n ts) ≡ n → dot h (sum_of n (t ∷ ts)) ≡ dot h t +ℤ dot h (sum_of n ts)
 sum_step n h t ts lt ls = same (by h (dn 1 ⊡ vv t lt ⊞ vv (sum_of n ts) ls)) (by h (vv t lt) ⊕ by h (vv (sum_of n ts) ls)) (omega arith)
@@ -24,11 +26,13 @@ sum_step n h t ts lt ls = same (by h (dn 1 ⊡ vv t lt ⊞ vv (sum_of n ts) ls))
 pub sum_long : (n : ℕ) (rows : List (List ℤ)) → ((x : List ℤ) → Contains rows x → length x ≡ n) → length (sum_of n rows) ≡ n
 sum_long n rows w = Made-length n rows [] (sum_of n rows) (sum_made n rows [] rows w (λ x c. c))
 
-sum_up : (n : ℕ) (rows : List (List ℤ)) (h : List ℤ) → ((x : List ℤ) → Contains rows x → length x ≡ n) → ((x : List ℤ) → Contains rows x → pos 0 ≤ℤ dot h x) → pos 0 ≤ℤ dot h (sum_of n rows)
+sum_up : (n : ℕ) (rows : List (List ℤ)) (h : List ℤ) → ((x : List ℤ) → Contains rows x → length x ≡ n) → ((x : List ℤ) → Contains rows x → pos 0 ≤ℤ dot h x) →
+    pos 0 ≤ℤ dot h (sum_of n rows)
 sum_up n rows h w f = Made-dot n rows [] h (sum_of n rows) f (λ x c. absurd (none_in x c)) (sum_made n rows [] rows w (λ x c. c))
 
 -- where the sum is zero each of them is
-pub sum_zero : (n : ℕ) (rows : List (List ℤ)) (h x : List ℤ) → ((x : List ℤ) → Contains rows x → length x ≡ n) → ((x : List ℤ) → Contains rows x → pos 0 ≤ℤ dot h x) → dot h (sum_of n rows) ≡ pos 0 → Contains rows x → dot h x ≡ pos 0
+pub sum_zero : (n : ℕ) (rows : List (List ℤ)) (h x : List ℤ) → ((x : List ℤ) → Contains rows x → length x ≡ n) →
+    ((x : List ℤ) → Contains rows x → pos 0 ≤ℤ dot h x) → dot h (sum_of n rows) ≡ pos 0 → Contains rows x → dot h x ≡ pos 0
 sum_zero n [] h x w f z c = absurd (none_in x c)
 sum_zero n (t ∷ ts) h x w f z c =
     let lt = w t (Contains-here t ts) in

@@ -24,7 +24,8 @@ pub record IsSplit (n : ℕ) (ps qs lin : List (List ℤ)) (v : List ℤ) : Type
   pub of_q : Made n qs [] q
   pub sum : scaled k v ≡ vector_sum p q
 
-pub split : (n : ℕ) (rays ps qs lin : List (List ℤ)) (v : List ℤ) → ((x : List ℤ) → Contains rays x → Contains ps x ⊎ Contains qs x) → Made n rays lin v → IsSplit n ps qs lin v
+pub split : (n : ℕ) (rays ps qs lin : List (List ℤ)) (v : List ℤ) → ((x : List ℤ) → Contains rays x → Contains ps x ⊎ Contains qs x) → Made n rays lin v →
+    IsSplit n ps qs lin v
 split n rays ps qs lin v f (nothing m rs ls) = record {
   k = pos 1;
   k_positive = omega (arith, ints);
@@ -35,12 +36,36 @@ split n rays ps qs lin v f (nothing m rs ls) = record {
   sum = vsame (dn 1 ⊡ vz m) (vz m ⊞ vz m) (λ w. omega arith);
 }
 split n rays ps qs lin v f (ray m rs ls w l c) = elim (f w c) [
-  | inl a ↦ record { k = pos 1; k_positive = omega (arith, ints); p = w; q = zeros m; of_p = ray m ps ls w l a; of_q = nothing m qs []; sum = vsame (dn 1 ⊡ vv w l) (vv w l ⊞ vz m) (λ w. omega arith) }
-  | inr a ↦ record { k = pos 1; k_positive = omega (arith, ints); p = zeros m; q = w; of_p = nothing m ps ls; of_q = ray m qs [] w l a; sum = vsame (dn 1 ⊡ vv w l) (vz m ⊞ vv w l) (λ w. omega arith) }
+  | inl a ↦ record {
+    k = pos 1;
+    k_positive = omega (arith, ints);
+    p = w;
+    q = zeros m;
+    of_p = ray m ps ls w l a;
+    of_q = nothing m qs [];
+    sum = vsame (dn 1 ⊡ vv w l) (vv w l ⊞ vz m) (λ w. omega arith);
+  }
+  | inr a ↦ record {
+    k = pos 1;
+    k_positive = omega (arith, ints);
+    p = zeros m;
+    q = w;
+    of_p = nothing m ps ls;
+    of_q = ray m qs [] w l a;
+    sum = vsame (dn 1 ⊡ vv w l) (vz m ⊞ vv w l) (λ w. omega arith);
+  }
 ]
 split n rays ps qs lin v f (line m rs ls a u w l c e) =
     let lw : length w ≡ m = Made-length m rs ls w (line m rs ls a u w l c e) in
-    record { k = pos 1; k_positive = omega (arith, ints); p = w; q = zeros m; of_p = line m ps ls a u w l c e; of_q = nothing m qs []; sum = vsame (dn 1 ⊡ vv w lw) (vv w lw ⊞ vz m) (λ w. omega arith) }
+    record {
+      k = pos 1;
+      k_positive = omega (arith, ints);
+      p = w;
+      q = zeros m;
+      of_p = line m ps ls a u w l c e;
+      of_q = nothing m qs [];
+      sum = vsame (dn 1 ⊡ vv w lw) (vv w lw ⊞ vz m) (λ w. omega arith);
+    }
 split n rays ps qs lin v f (summed m rs ls x y w e a b) =
     let s = split m rs ps qs ls x f a in let t = split m rs ps qs ls y f b in
     let k = s.k in let l = t.k in
@@ -52,12 +77,15 @@ split n rays ps qs lin v f (summed m rs ls x y w e a b) =
       k_positive = 0<-*ℤ k l s.k_positive t.k_positive;
       p = vector_sum (scaled l s.p) (scaled k t.p);
       q = vector_sum (scaled l s.q) (scaled k t.q);
-      of_p = summed m ps ls (scaled l s.p) (scaled k t.p) _ refl (multiplied m ps ls l s.p _ (omega (arith, ints, t.k_positive)) refl s.of_p) (multiplied m ps ls k t.p _ (omega (arith, ints, s.k_positive)) refl t.of_p);
-      of_q = summed m qs [] (scaled l s.q) (scaled k t.q) _ refl (multiplied m qs [] l s.q _ (omega (arith, ints, t.k_positive)) refl s.of_q) (multiplied m qs [] k t.q _ (omega (arith, ints, s.k_positive)) refl t.of_q);
+      of_p = summed m ps ls (scaled l s.p) (scaled k t.p) _ refl (multiplied m ps ls l s.p _ (omega (arith, ints, t.k_positive)) refl s.of_p)
+          (multiplied m ps ls k t.p _ (omega (arith, ints, s.k_positive)) refl t.of_p);
+      of_q = summed m qs [] (scaled l s.q) (scaled k t.q) _ refl (multiplied m qs [] l s.q _ (omega (arith, ints, t.k_positive)) refl s.of_q)
+          (multiplied m qs [] k t.q _ (omega (arith, ints, s.k_positive)) refl t.of_q);
       sum = ap (scaled (k *ℤ l)) e
           ∙ vsame (dv k ⊗ dv l ⊡ (vv x lx ⊞ vv y ly)) (dv l ⊡ (dv k ⊡ vv x lx) ⊞ dv k ⊡ (dv l ⊡ vv y ly)) (λ w. omega arith)
           ∙ ap (λ z. vector_sum (scaled l z) (scaled k (scaled l y))) s.sum ∙ ap (λ z. vector_sum (scaled l (vector_sum s.p s.q)) (scaled k z)) t.sum
-          ∙ vsame (dv l ⊡ (vv s.p ps_ ⊞ vv s.q qs_) ⊞ dv k ⊡ (vv t.p pt ⊞ vv t.q qt)) (dv l ⊡ vv s.p ps_ ⊞ dv k ⊡ vv t.p pt ⊞ (dv l ⊡ vv s.q qs_ ⊞ dv k ⊡ vv t.q qt)) (λ w. omega arith);
+          ∙ vsame (dv l ⊡ (vv s.p ps_ ⊞ vv s.q qs_) ⊞ dv k ⊡ (vv t.p pt ⊞ vv t.q qt))
+          (dv l ⊡ vv s.p ps_ ⊞ dv k ⊡ vv t.p pt ⊞ (dv l ⊡ vv s.q qs_ ⊞ dv k ⊡ vv t.q qt)) (λ w. omega arith);
     }
 split n rays ps qs lin v f (multiplied m rs ls a x w g e b) =
     let s = split m rs ps qs ls x f b in let k = s.k in
@@ -86,13 +114,15 @@ split n rays ps qs lin v f (divided m rs ls a x w g e b) =
     }
 
 -- where each pair of generators is made, each pair of what they make is
-pub pairs : (n : ℕ) (ps qs lin next : List (List ℤ)) (h p q : List ℤ) → ((x : List ℤ) → Contains lin x → dot h x ≡ pos 0) → ((x : List ℤ) → Contains qs x → dot h x <ℤ pos 0) →
-    ((x y : List ℤ) → length x ≡ n → length y ≡ n → Contains ps x → Contains qs y → Made n next lin (pair h x y)) → Made n ps lin p → Made n qs [] q → Made n next lin (pair h p q)
+pub pairs : (n : ℕ) (ps qs lin next : List (List ℤ)) (h p q : List ℤ) → ((x : List ℤ) → Contains lin x → dot h x ≡ pos 0) →
+    ((x : List ℤ) → Contains qs x → dot h x <ℤ pos 0) → ((x y : List ℤ) → length x ≡ n → length y ≡ n → Contains ps x → Contains qs y →
+    Made n next lin (pair h x y)) → Made n ps lin p → Made n qs [] q → Made n next lin (pair h p q)
 pairs n ps qs lin next h p q z s g a b =
     Made-mapped n ps lin next lin (λ x. pair h x q) p (pair_left_linear n h q (Made-length n qs [] q b))
     (λ x lx c. Made-mapped n qs [] next lin (λ y. pair h x y) q (pair_right_linear n h x lx) (λ y ly d. g x y lx ly c d) (λ k y ly d. absurd (none_in y d)) b)
     (λ k x lx c. let lq = Made-length n qs [] q b in
-    line n next lin (k *ℤ neg_ℤ (dot h q)) x _ lx c (ap (λ t. scaled k (vector_sum (scaled t q) (scaled (neg_ℤ (dot h q)) x))) (z x c) ∙ vsame (dv k ⊡ (dn 0 ⊡ vv q lq ⊞ dneg (by h (vv q lq)) ⊡ vv x lx)) (dv k ⊗ dneg (by h (vv q lq)) ⊡ vv x lx) (λ w. omega arith)))
+    line n next lin (k *ℤ neg_ℤ (dot h q)) x _ lx c (ap (λ t. scaled k (vector_sum (scaled t q) (scaled (neg_ℤ (dot h q)) x))) (z x c) ∙
+    vsame (dv k ⊡ (dn 0 ⊡ vv q lq ⊞ dneg (by h (vv q lq)) ⊡ vv x lx)) (dv k ⊗ dneg (by h (vv q lq)) ⊡ vv x lx) (λ w. omega arith)))
     a
 
 zeros_at : (n : ℕ) (h v : List ℤ) → v ≡ zeros n → dot h v ≡ pos 0
@@ -100,10 +130,12 @@ zeros_at n h v e = ap (dot h) e ∙ dot_comm h (zeros n) ∙ dot-zeros n h
 
 -- a positive multiple is zero only at zero
 pub zeros-cancel : (n : ℕ) (a : ℤ) (x : List ℤ) → length x ≡ n → pos 0 <ℤ a → scaled a x ≡ zeros n → x ≡ zeros n
-zeros-cancel n a x l k e = vector_ext x (zeros n) (l ∙ sym (length-zeros n)) (λ u. zero-cancel a (dot x u) k (sym (dot-times a x u) ∙ ap (λ z. dot z u) e ∙ dot-zeros n u) ∙ sym (dot-zeros n u))
+zeros-cancel n a x l k e = vector_ext x (zeros n) (l ∙ sym (length-zeros n))
+    (λ u. zero-cancel a (dot x u) k (sym (dot-times a x u) ∙ ap (λ z. dot z u) e ∙ dot-zeros n u) ∙ sym (dot-zeros n u))
 
 -- what negative generators make is zero, or negative
-pub negatives : (n : ℕ) (qs lin : List (List ℤ)) (h v : List ℤ) → ((x : List ℤ) → Contains qs x → dot h x <ℤ pos 0) → ((x : List ℤ) → Contains lin x → ⊥) → Made n qs lin v → (v ≡ zeros n) ⊎ (dot h v <ℤ pos 0)
+pub negatives : (n : ℕ) (qs lin : List (List ℤ)) (h v : List ℤ) → ((x : List ℤ) → Contains qs x → dot h x <ℤ pos 0) → ((x : List ℤ) → Contains lin x → ⊥) →
+    Made n qs lin v → (v ≡ zeros n) ⊎ (dot h v <ℤ pos 0)
 negatives n qs lin h v s z (nothing m rs ls) = inl refl
 negatives n qs lin h v s z (ray m rs ls w l c) = inr (s w c)
 negatives n qs lin h v s z (line m rs ls a u w l c e) = absurd (z u c)
@@ -154,7 +186,8 @@ step_split n rays ps qs lin next h v cover zero up down kept paired m t =
     let hv : k *ℤ dot h v ≡ dot h p +ℤ dot h q = sym (dot-times_right k h v) ∙ ap (dot h) s.sum ∙ dot-plus_right h p q (lp ∙ sym lq) in
     let kv : pos 0 ≤ℤ (k *ℤ dot h v) = 0≤-*ℤ k (dot h v) (omega (arith, ints, s.k_positive)) t in
     let e : scaled (dot h p) (scaled k v) ≡ vector_sum (scaled (dot h p +ℤ dot h q) p) (pair h p q) =
-    ap (scaled (dot h p)) s.sum ∙ vsame (by h (vv p lp) ⊡ (vv p lp ⊞ vv q lq)) ((by h (vv p lp) ⊕ by h (vv q lq)) ⊡ vv p lp ⊞ vpair h (vv p lp) (vv q lq)) (λ w. omega arith) in
+    ap (scaled (dot h p)) s.sum ∙ vsame (by h (vv p lp) ⊡ (vv p lp ⊞ vv q lq)) ((by h (vv p lp) ⊕ by h (vv q lq)) ⊡ vv p lp ⊞ vpair h (vv p lp) (vv q lq))
+    (λ w. omega arith) in
     elim (sign_of (dot h p)) [
       | negative g ↦ absurd (omega (arith, ints))
       | none g ↦ elim (negatives n qs [] h q down (λ x c. none_in x c) s.of_q) [
@@ -185,5 +218,6 @@ pub step_equation : (n : ℕ) (rays lin next lines : List (List ℤ)) (h l v : L
 step_equation n rays lin next lines h l v ll g f k m t =
     let lv : length v ≡ n = Made-length n rays lin v m in
     divided n next lines (dot h l) v _ g
-    (vsame (by h (vv l ll) ⊡ vv v lv) (by h (vv l ll) ⊡ vv v lv ⊞ dneg (dn 0) ⊡ vv l ll) (λ w. omega arith) ∙ ap (λ z. vector_sum (scaled (dot h l) v) (scaled (neg_ℤ z) l)) (sym t))
+    (vsame (by h (vv l ll) ⊡ vv v lv) (by h (vv l ll) ⊡ vv v lv ⊞ dneg (dn 0) ⊡ vv l ll) (λ w. omega arith) ∙
+    ap (λ z. vector_sum (scaled (dot h l) v) (scaled (neg_ℤ z) l)) (sym t))
     (Made-mapped n rays lin next lines (pair h l) v (pair_right_linear n h l ll) f k m)

@@ -10,18 +10,21 @@ use Rattle.gf_duality_theory.proofs.Taking.{ZeroWhere}
 use Rattle.gf_duality_theory.proofs.Described.{pruned}
 
 -- only which rays there are counts, and not their order
-pub same_rays : (n : ℕ) (hs es lin rays others : List (List ℤ)) → IsDescribed n hs es lin rays → ((x : List ℤ) → Contains rays x → Contains others x) → ((x : List ℤ) → Contains others x → Contains rays x) → IsDescribed n hs es lin others
+pub same_rays : (n : ℕ) (hs es lin rays others : List (List ℤ)) → IsDescribed n hs es lin rays → ((x : List ℤ) → Contains rays x → Contains others x) →
+    ((x : List ℤ) → Contains others x → Contains rays x) → IsDescribed n hs es lin others
 same_rays n hs es lin rays others d to from = record {
   lin_width = d.lin_width;
   rays_width = λ x c. d.rays_width x (from x c);
   valid = record { up = λ h x ch cx. d.valid.up h x ch (from x cx); flat = d.valid.flat };
   solves = λ e x ce cx. d.solves e x ce (from x cx);
   lin_solves = d.lin_solves;
-  complete = λ v lv up z. Made-into n rays lin others lin v (λ x l c. ray n others lin x l (to x c)) (λ a x l c. line n others lin a x _ l c refl) (d.complete v lv up z);
+  complete = λ v lv up z. Made-into n rays lin others lin v (λ x l c. ray n others lin x l (to x c)) (λ a x l c. line n others lin a x _ l c refl)
+      (d.complete v lv up z);
   pointed = λ x c. d.pointed x (from x c);
 }
 
-pub thinned : (n : ℕ) (hs es lin left out : List (List ℤ)) → ((x : List ℤ) → Contains left x → (y : List ℤ) × (Contains out y × ZeroWhere hs x y)) → IsDescribed n hs es lin (left ++ out) → IsDescribed n hs es lin out
+pub thinned : (n : ℕ) (hs es lin left out : List (List ℤ)) → ((x : List ℤ) → Contains left x → (y : List ℤ) × (Contains out y × ZeroWhere hs x y)) →
+    IsDescribed n hs es lin (left ++ out) → IsDescribed n hs es lin out
 thinned n hs es lin [] out f d = d
 thinned n hs es lin (x ∷ left) out f d =
     let t = f x (Contains-here x left) in let y : List ℤ = t.0 in

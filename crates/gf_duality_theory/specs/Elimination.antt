@@ -27,9 +27,11 @@ pub record IsFirstAt (rows : List (List ℤ)) (j k : ℕ) : Type 0 where
 -- after so many columns: the rows that had their turn, each with a pivot of its own, and the rows that are left
 pub data IsEliminated (n : ℕ) (rows : List (List ℤ)) : ℕ → List (List ℤ) → List (List ℤ) → Type 0 where
   begun : IsEliminated n rows 0 [] rows
-  skipped : (j m : ℕ) (done left : List (List ℤ)) → m ≡ j + 1 → All (λ t. entry_at t j ≡ pos 0) left → IsEliminated n rows j done left → IsEliminated n rows m done left
+  skipped : (j m : ℕ) (done left : List (List ℤ)) → m ≡ j + 1 → All (λ t. entry_at t j ≡ pos 0) left → IsEliminated n rows j done left →
+      IsEliminated n rows m done left
   turned : (j m : ℕ) (done left others rest out : List (List ℤ)) (k : ℕ) → m ≡ j + 1 → j < n → IsFirstAt left j k →
-      AllZip (IsTurned (row_at left k) j) done others → AllZip (IsTurned (row_at left k) j) (remove left k) rest → out ≡ others ++ row_at left k ∷ [] → IsEliminated n rows j done left → IsEliminated n rows m out rest
+      AllZip (IsTurned (row_at left k) j) done others → AllZip (IsTurned (row_at left k) j) (remove left k) rest → out ≡ others ++ row_at left k ∷ [] →
+      IsEliminated n rows j done left → IsEliminated n rows m out rest
 
 -- a step of an elimination by the first columns, which has the number row
 pub record IsEliminationStep (row n : ℕ) (rows : List (List ℤ)) (columns : ℕ) (s : ConeOverflow) : Type 0 where

@@ -43,8 +43,9 @@ pub record IsInterior (n : ℕ) (c : Rows) (v : List ℤ) : Type 0 where
 pub record IsFacetRow (n : ℕ) (c : Rows) (t : List ℤ) : Type 0 where
   pub listed : Contains c.inequalities t
   pub proper : (x : List ℤ) × ((length x ≡ n) × IsInCone c x × (pos 0 <ℤ dot t x))
-  pub greatest : (s x : List ℤ) → Contains c.inequalities s → length x ≡ n → IsInCone c x → pos 0 <ℤ dot s x → ((y : List ℤ) → length y ≡ n → IsInCone c y → dot t y ≡ pos 0 → dot s y ≡ pos 0) →
-      (y : List ℤ) → length y ≡ n → IsInCone c y → dot s y ≡ pos 0 → dot t y ≡ pos 0
+  pub greatest : (s x : List ℤ) → Contains c.inequalities s → length x ≡ n → IsInCone c x → pos 0 <ℤ dot s x →
+      ((y : List ℤ) → length y ≡ n → IsInCone c y → dot t y ≡ pos 0 → dot s y ≡ pos 0) → (y : List ℤ) → length y ≡ n → IsInCone c y → dot s y ≡ pos 0 →
+      dot t y ≡ pos 0
 
 -- for each facet the least row that defines it, ascending
 pub record AreFacetRows (n : ℕ) (c : Rows) (rows : List (List ℤ)) : Type 0 where

@@ -24,7 +24,8 @@ pub record IsDescribed (n : ℕ) (hs es lin rays : List (List ℤ)) : Type 0 whe
   pub valid : AreValid hs rays lin
   pub solves : (e x : List ℤ) → Contains es e → Contains rays x → dot e x ≡ pos 0
   pub lin_solves : (e x : List ℤ) → Contains es e → Contains lin x → dot e x ≡ pos 0
-  pub complete : (v : List ℤ) → length v ≡ n → ((h : List ℤ) → Contains hs h → pos 0 ≤ℤ dot h v) → ((e : List ℤ) → Contains es e → dot e v ≡ pos 0) → Made n rays lin v
+  pub complete : (v : List ℤ) → length v ≡ n → ((h : List ℤ) → Contains hs h → pos 0 ≤ℤ dot h v) → ((e : List ℤ) → Contains es e → dot e v ≡ pos 0) →
+      Made n rays lin v
   pub pointed : (x : List ℤ) → Contains rays x → (h : List ℤ) × (Contains hs h × (pos 0 <ℤ dot h x))
 
 -- the unit vectors

@@ -36,7 +36,8 @@ pub record IsEchelon (rows : List (List ℤ)) : Type 0 where
   pub alone : (x y : List ℤ) (p q : ℕ) → Contains rows x → Contains rows y → IsPivot x p → IsPivot y q → p ≢ q → entry_at y p ≡ pos 0
   pub primitive : All IsPrimitive rows
 
--- the echelon basis of the lineality space, and the rays: ascending, primitive, orthogonal to it, in the cone, which is what they generate, none of them by the others
+-- the echelon basis of the lineality space, and the rays: ascending, primitive, orthogonal to it, in the cone, which is what they generate, none of them by the
+-- others
 pub record IsRays (n : ℕ) (inequalities equations lineality rays : List (List ℤ)) : Type 0 where
   pub lin_width : AreRows n lineality
   pub echelon : IsEchelon lineality

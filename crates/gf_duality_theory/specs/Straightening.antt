@@ -14,13 +14,16 @@ IsLeveled h l x y = ((dot h x ≡ pos 0) × (y ≡ x)) ⊎ ((dot h x ≢ pos 0) 
 -- x brought along each of ys in turn to be orthogonal to it
 pub data IsStraightened : List (List ℤ) → List ℤ → List ℤ → Type 0 where
   done : (x : List ℤ) → IsStraightened [] x x
-  next : (y : List ℤ) (ys : List (List ℤ)) (x z w : List ℤ) (whole : List (List ℤ)) → whole ≡ y ∷ ys → IsLeveled y y x z → IsStraightened ys z w → IsStraightened whole x w
+  next : (y : List ℤ) (ys : List (List ℤ)) (x z w : List ℤ) (whole : List (List ℤ)) → whole ≡ y ∷ ys → IsLeveled y y x z → IsStraightened ys z w →
+      IsStraightened whole x w
 
 -- lineality vectors made orthogonal in turn; a zero vector goes
 pub data IsOrthogonalized : List (List ℤ) → List (List ℤ) → Type 0 where
   start : IsOrthogonalized [] []
-  added : (lin out : List (List ℤ)) (x w : List ℤ) (whole all : List (List ℤ)) → whole ≡ lin ++ x ∷ [] → all ≡ out ++ w ∷ [] → IsOrthogonalized lin out → IsStraightened out x w → pos 0 <ℤ dot w w → IsOrthogonalized whole all
-  gone : (lin out : List (List ℤ)) (x w : List ℤ) (whole : List (List ℤ)) → whole ≡ lin ++ x ∷ [] → IsOrthogonalized lin out → IsStraightened out x w → dot w w ≡ pos 0 → IsOrthogonalized whole out
+  added : (lin out : List (List ℤ)) (x w : List ℤ) (whole all : List (List ℤ)) → whole ≡ lin ++ x ∷ [] → all ≡ out ++ w ∷ [] → IsOrthogonalized lin out →
+      IsStraightened out x w → pos 0 <ℤ dot w w → IsOrthogonalized whole all
+  gone : (lin out : List (List ℤ)) (x w : List ℤ) (whole : List (List ℤ)) → whole ≡ lin ++ x ∷ [] → IsOrthogonalized lin out → IsStraightened out x w →
+      dot w w ≡ pos 0 → IsOrthogonalized whole out
 
 -- a step of bringing x along ys: y.y, y.x, and where that isn't zero (y.y) * x - (y.x) * y, for some prefix of ys and what it made of x
 pub record IsStraightening (row : ℕ) (ys : List (List ℤ)) (x : List ℤ) (s : ConeOverflow) : Type 0 where

@@ -38,11 +38,13 @@ same-sym (a ∷ x) (b ∷ y) = ap (λ s. s && same x y) (flip a b) ∙ ap (λ t.
 pub same-plus : (x y z : Exponents) → same (plus x y) (plus x z) ≡ same y z
 same-plus [] y z = refl
 same-plus (a ∷ x) [] [] = same-refl (a ∷ x)
-same-plus (a ∷ x) [] (c ∷ z) = ap (λ s. s && same x (plus x z)) (one a c) ∙ ap (λ t. (c == 0) && t) (ap (λ w. same w (plus x z)) (sym (plus-nil x)) ∙ same-plus x [] z)
+same-plus (a ∷ x) [] (c ∷ z) = ap (λ s. s && same x (plus x z)) (one a c) ∙ ap (λ t. (c == 0) && t)
+    (ap (λ w. same w (plus x z)) (sym (plus-nil x)) ∙ same-plus x [] z)
   where
     one : (a c : ℕ) → (a == (a + c)) ≡ (c == 0)
     one a c = grind (arith, nat_tests)
-same-plus (a ∷ x) (b ∷ y) [] = ap (λ s. s && same (plus x y) x) (one a b) ∙ ap (λ t. (b == 0) && t) (ap (λ w. same (plus x y) w) (sym (plus-nil x)) ∙ same-plus x y [])
+same-plus (a ∷ x) (b ∷ y) [] = ap (λ s. s && same (plus x y) x) (one a b) ∙ ap (λ t. (b == 0) && t)
+    (ap (λ w. same (plus x y) w) (sym (plus-nil x)) ∙ same-plus x y [])
   where
     one : (a b : ℕ) → ((a + b) == a) ≡ (b == 0)
     one a b = grind (arith, nat_tests)
@@ -200,11 +202,35 @@ same_lists (a ∷ x) [] e h = absurd (omega arith)
 same_lists (a ∷ x) (b ∷ y) e h = ap (λ c. c ∷ x) (h 0) ∙ ap (λ z. b ∷ z) (same_lists x y (omega arith) (λ i. h (suc i)))
 
 -- what the common multiple is made of: u, where x^u h is a multiple of the least one, x^l h
-pub over_join : (h k u v l : Exponents) → same (plus u h) (plus v k) ≡ true → same (plus l h) (join h k) ≡ true → same u (plus (minus (plus u h) (join h k)) l) ≡ true
-over_join h k u v l s t = same_by_entries u (plus (minus (plus u h) (join h k)) l) (λ i. omega (arith, entry-plus u h i, entry-plus v k i, entries_same (plus u h) (plus v k) s i, entry-plus l h i, entries_same (plus l h) (join h k) t i, entry-plus (minus (plus u h) (join h k)) l i, entry-minus (plus u h) (join h k) i, entry-join h k i))
+pub over_join : (h k u v l : Exponents) → same (plus u h) (plus v k) ≡ true → same (plus l h) (join h k) ≡ true →
+    same u (plus (minus (plus u h) (join h k)) l) ≡ true
+over_join h k u v l s t = same_by_entries u (plus (minus (plus u h) (join h k)) l)
+    (λ i. omega (
+      arith,
+      entry-plus u h i,
+      entry-plus v k i,
+      entries_same (plus u h) (plus v k) s i,
+      entry-plus l h i,
+      entries_same (plus l h) (join h k) t i,
+      entry-plus (minus (plus u h) (join h k)) l i,
+      entry-minus (plus u h) (join h k) i,
+      entry-join h k i,
+    ))
 
-pub over_join_right : (h k u v r : Exponents) → same (plus u h) (plus v k) ≡ true → same (plus r k) (join h k) ≡ true → same v (plus (minus (plus u h) (join h k)) r) ≡ true
-over_join_right h k u v r s t = same_by_entries v (plus (minus (plus u h) (join h k)) r) (λ i. omega (arith, entry-plus u h i, entry-plus v k i, entries_same (plus u h) (plus v k) s i, entry-plus r k i, entries_same (plus r k) (join h k) t i, entry-plus (minus (plus u h) (join h k)) r i, entry-minus (plus u h) (join h k) i, entry-join h k i))
+pub over_join_right : (h k u v r : Exponents) → same (plus u h) (plus v k) ≡ true → same (plus r k) (join h k) ≡ true →
+    same v (plus (minus (plus u h) (join h k)) r) ≡ true
+over_join_right h k u v r s t = same_by_entries v (plus (minus (plus u h) (join h k)) r)
+    (λ i. omega (
+      arith,
+      entry-plus u h i,
+      entry-plus v k i,
+      entries_same (plus u h) (plus v k) s i,
+      entry-plus r k i,
+      entries_same (plus r k) (join h k) t i,
+      entry-plus (minus (plus u h) (join h k)) r i,
+      entry-minus (plus u h) (join h k) i,
+      entry-join h k i,
+    ))
 
 pub cancel : (z x y : Exponents) → same (plus x z) (plus y z) ≡ true → same x y ≡ true
 cancel z x y h = same_by_entries x y (λ i. omega (arith, entries_same (plus x z) (plus y z) h i, entry-plus x z i, entry-plus y z i))
@@ -218,11 +244,30 @@ join-coprime h k c = same_by_entries (plus k h) (join h k) (λ i. at i (c i))
     at i (inr e) = omega (arith, entry-plus k h i, entry-join h k i, e)
 
 pub join_divides : (h k u v : Exponents) → same (plus u h) (plus v k) ≡ true → same (plus u h) (plus (minus (plus u h) (join h k)) (join h k)) ≡ true
-join_divides h k u v s = same_by_entries (plus u h) (plus (minus (plus u h) (join h k)) (join h k)) (λ i. omega (arith, entry-plus u h i, entry-plus v k i, entries_same (plus u h) (plus v k) s i, entry-plus (minus (plus u h) (join h k)) (join h k) i, entry-minus (plus u h) (join h k) i, entry-join h k i))
+join_divides h k u v s = same_by_entries (plus u h) (plus (minus (plus u h) (join h k)) (join h k))
+    (λ i. omega (
+      arith,
+      entry-plus u h i,
+      entry-plus v k i,
+      entries_same (plus u h) (plus v k) s i,
+      entry-plus (minus (plus u h) (join h k)) (join h k) i,
+      entry-minus (plus u h) (join h k) i,
+      entry-join h k i,
+    ))
 
 -- the least common multiple is one
 pub minus_left : (h k : Exponents) → same (plus (minus (join h k) h) h) (join h k) ≡ true
-minus_left h k = same_by_entries (plus (minus (join h k) h) h) (join h k) (λ i. omega (arith, entry-plus (minus (join h k) h) h i, entry-minus (join h k) h i, entry-join h k i))
+minus_left h k = same_by_entries (plus (minus (join h k) h) h) (join h k) (λ i. omega (
+  arith,
+  entry-plus (minus (join h k) h) h i,
+  entry-minus (join h k) h i,
+  entry-join h k i,
+))
 
 pub minus_right : (h k : Exponents) → same (plus (minus (join h k) k) k) (join h k) ≡ true
-minus_right h k = same_by_entries (plus (minus (join h k) k) k) (join h k) (λ i. omega (arith, entry-plus (minus (join h k) k) k i, entry-minus (join h k) k i, entry-join h k i))
+minus_right h k = same_by_entries (plus (minus (join h k) k) k) (join h k) (λ i. omega (
+  arith,
+  entry-plus (minus (join h k) k) k i,
+  entry-minus (join h k) k i,
+  entry-join h k i,
+))

@@ -17,7 +17,16 @@ least_common_multiples = record {
   right = λ x y. record { rest = minus (join x y) y; product = same_flip (plus (minus (join x y) y) y) (join x y) (minus_right x y) };
   least = λ x y z h k. record {
     rest = minus z (join x y);
-    product = same_by_entries z (plus (minus z (join x y)) (join x y)) (λ i. omega (arith, entries_same z (plus h.rest x) h.product i, entries_same z (plus k.rest y) k.product i, entry-plus h.rest x i, entry-plus k.rest y i, entry-plus (minus z (join x y)) (join x y) i, entry-minus z (join x y) i, entry-join x y i));
+    product = same_by_entries z (plus (minus z (join x y)) (join x y)) (λ i. omega (
+      arith,
+      entries_same z (plus h.rest x) h.product i,
+      entries_same z (plus k.rest y) k.product i,
+      entry-plus h.rest x i,
+      entry-plus k.rest y i,
+      entry-plus (minus z (join x y)) (join x y) i,
+      entry-minus z (join x y) i,
+      entry-join x y i,
+    ));
   };
 }
 

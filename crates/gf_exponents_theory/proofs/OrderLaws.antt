@@ -28,16 +28,36 @@ pub lex-strict : IsStrict IsLexBelow
 lex-strict = record {
   irreflexive = λ x y s h. absurd (omega (arith, entries_same x y s h.at, h.here));
   transitive = λ x y z h k. both x y z h k (cases_lt h.at k.at);
-  invariant = λ z x y h. record { at = h.at; before = λ i l. omega (arith, entry-plus z x i, entry-plus z y i, h.before i l); here = omega (arith, entry-plus z x h.at, entry-plus z y h.at, h.here) };
-  along_left = λ x y z s h. record { at = h.at; before = λ i l. omega (arith, entries_same x y s i, h.before i l); here = omega (arith, entries_same x y s h.at, h.here) };
-  along_right = λ x y z s h. record { at = h.at; before = λ i l. omega (arith, entries_same y z s i, h.before i l); here = omega (arith, entries_same y z s h.at, h.here) };
+  invariant = λ z x y h. record {
+    at = h.at;
+    before = λ i l. omega (arith, entry-plus z x i, entry-plus z y i, h.before i l);
+    here = omega (arith, entry-plus z x h.at, entry-plus z y h.at, h.here);
+  };
+  along_left = λ x y z s h. record {
+    at = h.at;
+    before = λ i l. omega (arith, entries_same x y s i, h.before i l);
+    here = omega (arith, entries_same x y s h.at, h.here);
+  };
+  along_right = λ x y z s h. record {
+    at = h.at;
+    before = λ i l. omega (arith, entries_same y z s i, h.before i l);
+    here = omega (arith, entries_same y z s h.at, h.here);
+  };
 }
   where
     both : (x y z : Exponents) (h : IsLexBelow x y) (k : IsLexBelow y z) → (h.at < k.at) ⊎ (k.at ≤ h.at) → IsLexBelow x z
-    both x y z h k (inl l) = record { at = h.at; before = λ i m. omega (arith, h.before i m, k.before i (omega arith)); here = omega (arith, h.here, k.before h.at l) }
+    both x y z h k (inl l) = record {
+      at = h.at;
+      before = λ i m. omega (arith, h.before i m, k.before i (omega arith));
+      here = omega (arith, h.here, k.before h.at l);
+    }
     both x y z h k (inr g) = elim (cases_lt k.at h.at) [
       | inl l ↦ record { at = k.at; before = λ i m. omega (arith, h.before i (omega arith), k.before i m); here = omega (arith, k.here, h.before k.at l) }
-      | inr m ↦ let e : h.at ≡ k.at = omega arith in record { at = h.at; before = λ i n. omega (arith, h.before i n, k.before i (omega arith)); here = omega (arith, h.here, subst (λ (j : ℕ). entry y j < entry z j) (sym e) k.here) }
+      | inr m ↦ let e : h.at ≡ k.at = omega arith in record {
+        at = h.at;
+        before = λ i n. omega (arith, h.before i n, k.before i (omega arith));
+        here = omega (arith, h.here, subst (λ (j : ℕ). entry y j < entry z j) (sym e) k.here);
+      }
     ]
 
 -- ---- revlex is strict
@@ -45,16 +65,36 @@ pub revlex-strict : IsStrict IsRevlexBelow
 revlex-strict = record {
   irreflexive = λ x y s h. absurd (omega (arith, entries_same x y s h.at, h.here));
   transitive = λ x y z h k. both x y z h k (cases_lt h.at k.at);
-  invariant = λ z x y h. record { at = h.at; after = λ i l. omega (arith, entry-plus z x i, entry-plus z y i, h.after i l); here = omega (arith, entry-plus z x h.at, entry-plus z y h.at, h.here) };
-  along_left = λ x y z s h. record { at = h.at; after = λ i l. omega (arith, entries_same x y s i, h.after i l); here = omega (arith, entries_same x y s h.at, h.here) };
-  along_right = λ x y z s h. record { at = h.at; after = λ i l. omega (arith, entries_same y z s i, h.after i l); here = omega (arith, entries_same y z s h.at, h.here) };
+  invariant = λ z x y h. record {
+    at = h.at;
+    after = λ i l. omega (arith, entry-plus z x i, entry-plus z y i, h.after i l);
+    here = omega (arith, entry-plus z x h.at, entry-plus z y h.at, h.here);
+  };
+  along_left = λ x y z s h. record {
+    at = h.at;
+    after = λ i l. omega (arith, entries_same x y s i, h.after i l);
+    here = omega (arith, entries_same x y s h.at, h.here);
+  };
+  along_right = λ x y z s h. record {
+    at = h.at;
+    after = λ i l. omega (arith, entries_same y z s i, h.after i l);
+    here = omega (arith, entries_same y z s h.at, h.here);
+  };
 }
   where
     both : (x y z : Exponents) (h : IsRevlexBelow x y) (k : IsRevlexBelow y z) → (h.at < k.at) ⊎ (k.at ≤ h.at) → IsRevlexBelow x z
-    both x y z h k (inl l) = record { at = k.at; after = λ i m. omega (arith, h.after i (omega arith), k.after i m); here = omega (arith, k.here, h.after k.at l) }
+    both x y z h k (inl l) = record {
+      at = k.at;
+      after = λ i m. omega (arith, h.after i (omega arith), k.after i m);
+      here = omega (arith, k.here, h.after k.at l);
+    }
     both x y z h k (inr g) = elim (cases_lt k.at h.at) [
       | inl l ↦ record { at = h.at; after = λ i m. omega (arith, h.after i m, k.after i (omega arith)); here = omega (arith, h.here, k.after h.at l) }
-      | inr m ↦ let e : h.at ≡ k.at = omega arith in record { at = h.at; after = λ i n. omega (arith, h.after i n, k.after i (omega arith)); here = omega (arith, h.here, subst (λ (j : ℕ). entry z j < entry y j) (sym e) k.here) }
+      | inr m ↦ let e : h.at ≡ k.at = omega arith in record {
+        at = h.at;
+        after = λ i n. omega (arith, h.after i n, k.after i (omega arith));
+        here = omega (arith, h.here, subst (λ (j : ℕ). entry z j < entry y j) (sym e) k.here);
+      }
     ]
 
 -- ---- lex is total
@@ -86,10 +126,14 @@ first_zero (zero ∷ y) = elim (first_zero y) [
 
 pub lex-total : (x y : Exponents) → IsLexBelow x y ⊎ (same x y ≡ true) ⊎ IsLexBelow y x
 lex-total [] y = elim (first_zero y) [ inl h ↦ inl h | inr s ↦ inr (inl s) ]
-lex-total (a ∷ x) [] = elim (first_zero (a ∷ x)) [ inl h ↦ inr (inr h) | inr s ↦ inr (inl (same_by_entries (a ∷ x) [] (λ i. sym (entries_same [] (a ∷ x) s i)))) ]
+lex-total (a ∷ x) [] = elim (first_zero (a ∷ x)) [
+  | inl h ↦ inr (inr h)
+  | inr s ↦ inr (inl (same_by_entries (a ∷ x) [] (λ i. sym (entries_same [] (a ∷ x) s i))))
+]
 lex-total (a ∷ x) (b ∷ y) = at (cases_lt a b) (cases_lt b a) (lex-total x y)
   where
-    at : (a < b) ⊎ (b ≤ a) → (b < a) ⊎ (a ≤ b) → IsLexBelow x y ⊎ (same x y ≡ true) ⊎ IsLexBelow y x → IsLexBelow (a ∷ x) (b ∷ y) ⊎ (same (a ∷ x) (b ∷ y) ≡ true) ⊎ IsLexBelow (b ∷ y) (a ∷ x)
+    at : (a < b) ⊎ (b ≤ a) → (b < a) ⊎ (a ≤ b) → IsLexBelow x y ⊎ (same x y ≡ true) ⊎ IsLexBelow y x →
+        IsLexBelow (a ∷ x) (b ∷ y) ⊎ (same (a ∷ x) (b ∷ y) ≡ true) ⊎ IsLexBelow (b ∷ y) (a ∷ x)
     at (inl l) q r = inl (lex-first a b x y l)
     at (inr g) (inl l) r = inr (inr (lex-first b a y x l))
     at (inr g) (inr h) (inl l) = inl (lex-later a b x y (omega arith) l)
@@ -105,7 +149,9 @@ revlex-below : (k : ℕ) (x y : Exponents) → ((i : ℕ) → k ≤ i → entry 
 revlex-below zero x y h = inr (inl (same_by_entries x y (λ i. h i (omega arith))))
 revlex-below (suc k) x y h = at (cases_lt (entry x k) (entry y k)) (cases_lt (entry y k) (entry x k)) (λ g. revlex-below k x y g)
   where
-    at : (entry x k < entry y k) ⊎ (entry y k ≤ entry x k) → (entry y k < entry x k) ⊎ (entry x k ≤ entry y k) → (((i : ℕ) → k ≤ i → entry x i ≡ entry y i) → IsRevlexBelow x y ⊎ (same x y ≡ true) ⊎ IsRevlexBelow y x) → IsRevlexBelow x y ⊎ (same x y ≡ true) ⊎ IsRevlexBelow y x
+    at : (entry x k < entry y k) ⊎ (entry y k ≤ entry x k) → (entry y k < entry x k) ⊎ (entry x k ≤ entry y k) →
+        (((i : ℕ) → k ≤ i → entry x i ≡ entry y i) → IsRevlexBelow x y ⊎ (same x y ≡ true) ⊎ IsRevlexBelow y x) →
+        IsRevlexBelow x y ⊎ (same x y ≡ true) ⊎ IsRevlexBelow y x
     at (inl l) q r = inr (inr (record { at = k; after = λ i m. sym (h i m); here = l }))
     at (inr g) (inl l) r = inl (record { at = k; after = λ i m. h i m; here = l })
     at (inr g) (inr j) r = r (λ i m. place i m (cases_lt k i))
@@ -124,12 +170,14 @@ lex-compares [] (b ∷ y) l = absurd (omega arith)
 lex-compares (a ∷ x) [] l = absurd (omega arith)
 lex-compares (a ∷ x) (b ∷ y) l = at (nat_cmp a b) (ranked a b (nat_cmp a b) refl) (lex-compares x y (omega arith))
   where
-    tail : (p : Ordering) → a ≡ b → MatchOrdering p (IsLexBelow x y) (x ≡ y) (IsLexBelow y x) → MatchOrdering p (IsLexBelow (a ∷ x) (b ∷ y)) ((a ∷ x) ≡ (b ∷ y)) (IsLexBelow (b ∷ y) (a ∷ x))
+    tail : (p : Ordering) → a ≡ b → MatchOrdering p (IsLexBelow x y) (x ≡ y) (IsLexBelow y x) →
+        MatchOrdering p (IsLexBelow (a ∷ x) (b ∷ y)) ((a ∷ x) ≡ (b ∷ y)) (IsLexBelow (b ∷ y) (a ∷ x))
     tail Less e h = lex-later a b x y e h
     tail Equal e h = cc
     tail Greater e h = lex-later b a y x (sym e) h
 
-    at : (o : Ordering) → MatchOrdering o (a < b) (a ≡ b) (b < a) → MatchOrdering (slice_cmp nat_cmp x y) (IsLexBelow x y) (x ≡ y) (IsLexBelow y x) → MatchOrdering (ordering_then o (slice_cmp nat_cmp x y)) (IsLexBelow (a ∷ x) (b ∷ y)) ((a ∷ x) ≡ (b ∷ y)) (IsLexBelow (b ∷ y) (a ∷ x))
+    at : (o : Ordering) → MatchOrdering o (a < b) (a ≡ b) (b < a) → MatchOrdering (slice_cmp nat_cmp x y) (IsLexBelow x y) (x ≡ y) (IsLexBelow y x) →
+        MatchOrdering (ordering_then o (slice_cmp nat_cmp x y)) (IsLexBelow (a ∷ x) (b ∷ y)) ((a ∷ x) ≡ (b ∷ y)) (IsLexBelow (b ∷ y) (a ∷ x))
     at Less r h = lex-first a b x y r
     at Equal r h = tail (slice_cmp nat_cmp x y) r h
     at Greater r h = lex-first b a y x r
@@ -137,12 +185,15 @@ lex-compares (a ∷ x) (b ∷ y) l = at (nat_cmp a b) (ranked a b (nat_cmp a b) 
 pub deglex-compares : (x y : Exponents) → length x ≡ length y → MatchOrdering (deglex x y) (IsDeglexBelow x y) (x ≡ y) (IsDeglexBelow y x)
 deglex-compares x y l = at (nat_cmp (degree x) (degree y)) (ranked (degree x) (degree y) (nat_cmp (degree x) (degree y)) refl) (lex-compares x y l)
   where
-    tail : (p : Ordering) → degree x ≡ degree y → MatchOrdering p (IsLexBelow x y) (x ≡ y) (IsLexBelow y x) → MatchOrdering p (IsDeglexBelow x y) (x ≡ y) (IsDeglexBelow y x)
+    tail : (p : Ordering) → degree x ≡ degree y → MatchOrdering p (IsLexBelow x y) (x ≡ y) (IsLexBelow y x) →
+        MatchOrdering p (IsDeglexBelow x y) (x ≡ y) (IsDeglexBelow y x)
     tail Less e h = inr (e, h)
     tail Equal e h = h
     tail Greater e h = inr (sym e, h)
 
-    at : (o : Ordering) → MatchOrdering o (degree x < degree y) (degree x ≡ degree y) (degree y < degree x) → MatchOrdering (slice_cmp nat_cmp x y) (IsLexBelow x y) (x ≡ y) (IsLexBelow y x) → MatchOrdering (ordering_then o (slice_cmp nat_cmp x y)) (IsDeglexBelow x y) (x ≡ y) (IsDeglexBelow y x)
+    at : (o : Ordering) → MatchOrdering o (degree x < degree y) (degree x ≡ degree y) (degree y < degree x) →
+        MatchOrdering (slice_cmp nat_cmp x y) (IsLexBelow x y) (x ≡ y) (IsLexBelow y x) → MatchOrdering (ordering_then o (slice_cmp nat_cmp x y))
+        (IsDeglexBelow x y) (x ≡ y) (IsDeglexBelow y x)
     at Less r h = inl r
     at Equal r h = tail (slice_cmp nat_cmp x y) r h
     at Greater r h = inl r
@@ -152,7 +203,8 @@ deglex-compares x y l = at (nat_cmp (degree x) (degree y)) (ranked (degree x) (d
 abbrev pub IsFirstBy : (Exponents → ℕ) → (Exponents → Exponents → Type 0) → Exponents → Exponents → Type 0
 IsFirstBy size below x y = (size x < size y) ⊎ ((size x ≡ size y) × below x y)
 
-pub first-strict : (size : Exponents → ℕ) (below : Exponents → Exponents → Type 0) → ((x y : Exponents) → size (plus x y) ≡ size x + size y) → ((x y : Exponents) → same x y ≡ true → size x ≡ size y) → IsStrict below → IsStrict (IsFirstBy size below)
+pub first-strict : (size : Exponents → ℕ) (below : Exponents → Exponents → Type 0) → ((x y : Exponents) → size (plus x y) ≡ size x + size y) →
+    ((x y : Exponents) → same x y ≡ true → size x ≡ size y) → IsStrict below → IsStrict (IsFirstBy size below)
 first-strict size below sum alike o = record { irreflexive = never; transitive = chain; invariant = shift; along_left = left; along_right = right }
   where
     never : (x y : Exponents) → same x y ≡ true → IsFirstBy size below x y → ⊥
@@ -177,7 +229,8 @@ first-strict size below sum alike o = record { irreflexive = never; transitive =
     right x y z s (inl h) = inl (omega (arith, alike y z s))
     right x y z s (inr h) = inr (omega (arith, alike y z s, h.0), o.along_right x y z s h.1)
 
-pub first-total : (size : Exponents → ℕ) (below : Exponents → Exponents → Type 0) → ((x y : Exponents) → below x y ⊎ (same x y ≡ true) ⊎ below y x) → (x y : Exponents) → IsFirstBy size below x y ⊎ (same x y ≡ true) ⊎ IsFirstBy size below y x
+pub first-total : (size : Exponents → ℕ) (below : Exponents → Exponents → Type 0) → ((x y : Exponents) → below x y ⊎ (same x y ≡ true) ⊎ below y x) →
+    (x y : Exponents) → IsFirstBy size below x y ⊎ (same x y ≡ true) ⊎ IsFirstBy size below y x
 first-total size below t x y = elim (cases_lt (size x) (size y)) [
   | inl l ↦ inl (inl l)
   | inr g ↦ elim (cases_lt (size y) (size x)) [
@@ -202,7 +255,13 @@ pub deglex-order : IsMonomialOrder IsDeglexBelow
 deglex-order = record { strict = first-strict degree IsLexBelow degree-plus degree-same lex-strict; total = first-total degree IsLexBelow lex-total }
 
 pub weighted-order : (w : List ℕ) → IsMonomialOrder (IsWeightedBelow w)
-weighted-order w = record { strict = first-strict (weight w) IsLexBelow (weight-plus w) (weight-same w) lex-strict; total = first-total (weight w) IsLexBelow lex-total }
+weighted-order w = record {
+  strict = first-strict (weight w) IsLexBelow (weight-plus w) (weight-same w) lex-strict;
+  total = first-total (weight w) IsLexBelow lex-total;
+}
 
 pub weighted_revlex-order : (w : List ℕ) → IsMonomialOrder (IsWeightedRevlexBelow w)
-weighted_revlex-order w = record { strict = first-strict (weight w) IsRevlexBelow (weight-plus w) (weight-same w) revlex-strict; total = first-total (weight w) IsRevlexBelow revlex-total }
+weighted_revlex-order w = record {
+  strict = first-strict (weight w) IsRevlexBelow (weight-plus w) (weight-same w) revlex-strict;
+  total = first-total (weight w) IsRevlexBelow revlex-total;
+}

@@ -136,13 +136,15 @@ term-weights (suc n) MonomialOrder.revlex t = elim (t.least (variable 0) (ring-v
 term-weights n (MonomialOrder.weighted w) t = tt
 term-weights n (MonomialOrder.weighted_revlex w) t = λ i h. at i (t.least (variable i) (ring-variable n i h))
   where
-    at : (i : ℕ) → (same [] (variable i) ≡ true) ⊎ (weight w [] < weight w (variable i)) ⊎ ((weight w [] ≡ weight w (variable i)) × IsRevlexBelow [] (variable i)) → 1 ≤ entry w i
+    at : (i : ℕ) → (same [] (variable i) ≡ true) ⊎ (weight w [] < weight w (variable i)) ⊎ ((weight w [] ≡ weight w (variable i)) ×
+        IsRevlexBelow [] (variable i)) → 1 ≤ entry w i
     at i (inl s) = absurd (one_is_no_variable i s)
     at i (inr (inl l)) = omega (arith, weight-variable w i)
     at i (inr (inr l)) = absurd (omega (arith, l.1.here))
 term-weights n (MonomialOrder.facet r) t = λ i h. at i (t.least (variable i) (ring-variable n i h))
   where
-    at : (i : ℕ) → (same [] (variable i) ≡ true) ⊎ is_less r [] (variable i) ⊎ (is_alike r [] (variable i) × IsLexBelow [] (variable i)) → entry r.loss i ≤ entry r.gain i
+    at : (i : ℕ) → (same [] (variable i) ≡ true) ⊎ is_less r [] (variable i) ⊎ (is_alike r [] (variable i) × IsLexBelow [] (variable i)) →
+        entry r.loss i ≤ entry r.gain i
     at i (inl s) = absurd (one_is_no_variable i s)
     at i (inr (inl l)) = omega (arith, l, weight-nil r.gain, weight-nil r.loss, weight-variable r.gain i, weight-variable r.loss i)
     at i (inr (inr l)) = omega (arith, l.0, weight-nil r.gain, weight-nil r.loss, weight-variable r.gain i, weight-variable r.loss i)

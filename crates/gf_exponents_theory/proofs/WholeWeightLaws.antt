@@ -1,7 +1,8 @@
 -- Whole weights as rows, and the order of a row.
 -- To cite: whole_weight-same, row-less, row-alike, negated-less, negated-alike, natural-weight, length-gains, length-losses,
 -- positive-gains, row-order. The rest are steps.
-use Rattle.std.proofs.Common.{◌≡◌, ◌⊎◌, ◌↔◌, ℕ, zero, suc, ◌+◌, ◌*◌, ◌<◌, ◌≤◌, true, List, [], ◌∷◌, length, All, ℤ, pos, negsuc, ◌+ℤ◌, ◌*ℤ◌, ◌<ℤ◌, ◌≤ℤ◌, arith, refl, inl, inr}
+use Rattle.std.proofs.Common.{◌≡◌, ◌⊎◌, ◌↔◌, ℕ, zero, suc, ◌+◌, ◌*◌, ◌<◌, ◌≤◌, true, List, [], ◌∷◌, length, All, ℤ, pos, negsuc, ◌+ℤ◌, ◌*ℤ◌, ◌<ℤ◌, ◌≤ℤ◌, arith}
+use Rattle.std.proofs.Common.{refl, inl, inr}
 use Rattle.std.proofs.lemmas.Bool.{cases_lt}
 use Rattle.std.proofs.lemmas.Int.{ints}
 use Rattle.std.proofs.lemmas.List.Elements.{recursion_from_All}
@@ -86,7 +87,10 @@ row-strict r = record { irreflexive = never; transitive = chain; invariant = shi
 
     shift : (z x y : Exponents) → IsFacetBelow r x y → IsFacetBelow r (plus z x) (plus z y)
     shift z x y (inl h) = inl (omega (arith, h, weight-plus r.gain z x, weight-plus r.gain z y, weight-plus r.loss z x, weight-plus r.loss z y))
-    shift z x y (inr h) = inr (omega (arith, h.0, weight-plus r.gain z x, weight-plus r.gain z y, weight-plus r.loss z x, weight-plus r.loss z y), lex-strict.invariant z x y h.1)
+    shift z x y (inr h) = inr (
+      omega (arith, h.0, weight-plus r.gain z x, weight-plus r.gain z y, weight-plus r.loss z x, weight-plus r.loss z y),
+      lex-strict.invariant z x y h.1,
+    )
 
     left : (x y z : Exponents) → same x y ≡ true → IsFacetBelow r x z → IsFacetBelow r y z
     left x y z s (inl h) = inl (omega (arith, h, weight-same r.gain x y s, weight-same r.loss x y s))
@@ -97,7 +101,8 @@ row-strict r = record { irreflexive = never; transitive = chain; invariant = shi
     right x y z s (inr h) = inr (omega (arith, h.0, weight-same r.gain y z s, weight-same r.loss y z s), lex-strict.along_right x y z s h.1)
 
 row-total : (r : WeightRow) (x y : Exponents) → IsFacetBelow r x y ⊎ (same x y ≡ true) ⊎ IsFacetBelow r y x
-row-total r x y = at (cases_lt (weight r.gain x + weight r.loss y) (weight r.gain y + weight r.loss x)) (cases_lt (weight r.gain y + weight r.loss x) (weight r.gain x + weight r.loss y)) (lex-total x y)
+row-total r x y = at (cases_lt (weight r.gain x + weight r.loss y) (weight r.gain y + weight r.loss x))
+    (cases_lt (weight r.gain y + weight r.loss x) (weight r.gain x + weight r.loss y)) (lex-total x y)
   where
     at : is_less r x y ⊎ (weight r.gain y + weight r.loss x ≤ weight r.gain x + weight r.loss y) →
         (weight r.gain y + weight r.loss x < weight r.gain x + weight r.loss y) ⊎ (weight r.gain x + weight r.loss y ≤ weight r.gain y + weight r.loss x) →

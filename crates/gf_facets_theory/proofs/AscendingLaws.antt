@@ -28,7 +28,8 @@ ascends_at (x ∷ ns) zero (suc j) p l m = p.0 (get_or ns j []) (j, omega (arith
 ascends_at (x ∷ ns) (suc i) (suc j) p l m = ascends_at ns i j p.1 (omega (arith, l)) (omega (arith, m))
 
 -- ascending lists with the same members are one
-pub same_ascending : (xs ys : List (List ℤ)) → Ascends xs → Ascends ys → ((x : List ℤ) → Contains xs x → Contains ys x) → ((x : List ℤ) → Contains ys x → Contains xs x) → xs ≡ ys
+pub same_ascending : (xs ys : List (List ℤ)) → Ascends xs → Ascends ys → ((x : List ℤ) → Contains xs x → Contains ys x) →
+    ((x : List ℤ) → Contains ys x → Contains xs x) → xs ≡ ys
 same_ascending [] [] p q f g = refl
 same_ascending [] (y ∷ ys) p q f g = let c = g y (Contains-here y ys) in absurd (omega (arith, c.1))
 same_ascending (x ∷ xs) [] p q f g = let c = f x (Contains-here x xs) in absurd (omega (arith, c.1))
@@ -41,6 +42,12 @@ same_ascending (x ∷ xs) (y ∷ ys) p q f g =
       ]
     ] in
     let rest : xs ≡ ys = same_ascending xs ys p.1 q.1
-    (λ z c. elim (Contains-cases y z ys (f z (Contains-there x z xs c))) [ inr d ↦ d | inl i ↦ absurd (before_strict.irreflexive x (subst (IsBefore x) (sym (e ∙ i)) (p.0 z c))) ])
-    (λ z c. elim (Contains-cases x z xs (g z (Contains-there y z ys c))) [ inr d ↦ d | inl i ↦ absurd (before_strict.irreflexive y (subst (IsBefore y) (sym (sym e ∙ i)) (q.0 z c))) ]) in
+    (λ z c. elim (Contains-cases y z ys (f z (Contains-there x z xs c))) [
+      | inr d ↦ d
+      | inl i ↦ absurd (before_strict.irreflexive x (subst (IsBefore x) (sym (e ∙ i)) (p.0 z c)))
+    ])
+    (λ z c. elim (Contains-cases x z xs (g z (Contains-there y z ys c))) [
+      | inr d ↦ d
+      | inl i ↦ absurd (before_strict.irreflexive y (subst (IsBefore y) (sym (sym e ∙ i)) (q.0 z c)))
+    ]) in
     ap₂ (λ (u : List ℤ) (us : List (List ℤ)). u ∷ us) e rest

@@ -31,7 +31,8 @@ row_value t a w p = let d = divided-entry t a p in (d.0, d.1, ap (λ (z : List �
 -- the weight of the mark less that of the term
 row_weights : (n : ℕ) (b : MarkedPolynomial) (t w : List ℤ) → IsCanonical n b → (r : IsTermRow b.head b.poly t) →
     dot t w ≡ whole_weight w b.head -ℤ whole_weight w r.term.mono
-row_weights n b t w k r = ap (λ (z : List ℤ). dot z w) r.row ∙ dot-differences w b.head r.term.mono (k.head ∙ sym (term_length n b.poly r.term k.variables r.inside))
+row_weights n b t w k r = ap (λ (z : List ℤ). dot z w) r.row ∙ dot-differences w b.head r.term.mono
+    (k.head ∙ sym (term_length n b.poly r.term k.variables r.inside))
 
 term_weights : (n : ℕ) (b : MarkedPolynomial) (t : Term) (w : List ℤ) → IsCanonical n b → Contains b.poly t →
     dot (differences b.head t.mono) w ≡ whole_weight w b.head -ℤ whole_weight w t.mono
@@ -53,7 +54,13 @@ closed_by_rows n bs w k h b c x m = at (term_of b.poly x m)
     at : ((t : Term) × Contains b.poly t × (same x t.mono ≡ true)) → whole_weight w x ≤ℤ whole_weight w b.head
     at t = elim (same_or_not b.head t.0.mono) [
       | inl s ↦ omega (arith, ints, whole_weight-same w x t.0.mono t.2, whole_weight-same w b.head t.0.mono s)
-      | inr o ↦ omega (arith, ints, h (differences b.head t.0.mono) (row-in bs b t.0 c t.1 o), term_weights n b t.0 w (k b c) t.1, whole_weight-same w x t.0.mono t.2)
+      | inr o ↦ omega (
+        arith,
+        ints,
+        h (differences b.head t.0.mono) (row-in bs b t.0 c t.1 o),
+        term_weights n b t.0 w (k b c) t.1,
+        whole_weight-same w x t.0.mono t.2,
+      )
     ]
 
 pub rows_open : (n : ℕ) (bs : List MarkedPolynomial) (w : List ℤ) → AreCanonical n bs → IsInOpenCone w bs →
@@ -62,7 +69,8 @@ rows_open n bs w k h t c = at (row-from bs t c)
   where
     at : ((b : MarkedPolynomial) × Contains bs b × IsTermRow b.head b.poly t) → pos 0 <ℤ dot t w
     at b = elim (h b.0 b.1 b.2.term.mono (monomial_of n b.0 b.2.term (k b.0 b.1) b.2.inside)) [
-      | inl s ↦ absurd (let u : same b.0.head b.2.term.mono ≡ false = b.2.other in let v : same b.0.head b.2.term.mono ≡ true = same_flip b.2.term.mono b.0.head s in cc)
+      | inl s ↦ absurd (let u : same b.0.head b.2.term.mono ≡ false = b.2.other in let v : same b.0.head b.2.term.mono ≡ true =
+          same_flip b.2.term.mono b.0.head s in cc)
       | inr l ↦ omega (arith, ints, row_weights n b.0 t w (k b.0 b.1) b.2, l)
     ]
 
@@ -73,7 +81,13 @@ open_by_rows n bs w k h b c x m = at (term_of b.poly x m)
     at : ((t : Term) × Contains b.poly t × (same x t.mono ≡ true)) → (same x b.head ≡ true) ⊎ (whole_weight w x <ℤ whole_weight w b.head)
     at t = elim (same_or_not b.head t.0.mono) [
       | inl s ↦ inl (same_trans x t.0.mono b.head t.2 (same_flip b.head t.0.mono s))
-      | inr o ↦ inr (omega (arith, ints, h (differences b.head t.0.mono) (row-in bs b t.0 c t.1 o), term_weights n b t.0 w (k b c) t.1, whole_weight-same w x t.0.mono t.2))
+      | inr o ↦ inr (omega (
+        arith,
+        ints,
+        h (differences b.head t.0.mono) (row-in bs b t.0 c t.1 o),
+        term_weights n b t.0 w (k b c) t.1,
+        whole_weight-same w x t.0.mono t.2,
+      ))
     ]
 
 -- ---- by normals

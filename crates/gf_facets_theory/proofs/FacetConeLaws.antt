@@ -26,7 +26,8 @@ record HasFacetBelow (n : ℕ) (bs : List MarkedPolynomial) (v : List ℤ) : Typ
 
 facet_below : (n : ℕ) (bs : List MarkedPolynomial) (w v b : List ℤ) → AreCanonical n bs → IsInOpenCone w bs → IsNormal bs b →
     dot b v <ℤ pos 0 → HasFacetBelow n bs v
-facet_below n bs w v b k o q l = at (crossed_first n bs w v b [] k o (All-nil (λ t. length t ≡ n)) (All-nil (λ t. pos 0 <ℤ dot t w)) (All-nil (λ t. pos 0 <ℤ dot t v)) q negative)
+facet_below n bs w v b k o q l =
+    at (crossed_first n bs w v b [] k o (All-nil (λ t. length t ≡ n)) (All-nil (λ t. pos 0 <ℤ dot t w)) (All-nil (λ t. pos 0 <ℤ dot t v)) q negative)
   where
     negative : IsNegative v b
     negative = inl (omega (arith, ints, l))
@@ -55,7 +56,8 @@ open_by_facets n bs w v k o e f h = bounded (normals_listed bs)
           where
             -- far along v, less w
             value : (a : List ℤ) → dot a (past m.0 v w) ≡ pos m.0 *ℤ dot a v +ℤ neg_ℤ (dot a w)
-            value a = dot_comm a (past m.0 v w) ∙ dot-past m.0 v w a (f ∙ sym e) ∙ ap (λ z. pos m.0 *ℤ z +ℤ neg_ℤ (dot w a)) (dot_comm v a) ∙ ap (λ z. pos m.0 *ℤ dot a v +ℤ neg_ℤ z) (dot_comm w a)
+            value a = dot_comm a (past m.0 v w) ∙ dot-past m.0 v w a (f ∙ sym e) ∙ ap (λ z. pos m.0 *ℤ z +ℤ neg_ℤ (dot w a)) (dot_comm v a) ∙
+                ap (λ z. pos m.0 *ℤ dot a v +ℤ neg_ℤ z) (dot_comm w a)
 
             clash : (u b : List ℤ) → IsNormal bs b → HasFacetBelow n bs (past m.0 v w) → ⊥
             clash u b q g =
@@ -67,4 +69,12 @@ open_by_facets n bs w v k o e f h = bounded (normals_listed bs)
             at : (b : List ℤ) → IsNormal bs b → (dot b v <ℤ pos 0) ⊎ ((dot b v ≡ pos 0) ⊎ (pos 0 <ℤ dot b v)) → pos 0 <ℤ dot b v
             at b q (inr (inr l)) = l
             at b q (inl l) = let g = facet_below n bs w v b k o q l in let d = g.below in absurd (omega (arith, ints, h g.normal g.facet, d))
-            at b q (inr (inl z)) = absurd (clash v b q (facet_below n bs w (past m.0 v w) b k o q (omega (arith, ints, value b, ap (λ y. pos m.0 *ℤ y) z, *ℤ-zero (pos m.0), normals_open n bs w k o b q))))
+            at b q (inr (inl z)) =
+                absurd (clash v b q (facet_below n bs w (past m.0 v w) b k o q (omega (
+                  arith,
+                  ints,
+                  value b,
+                  ap (λ y. pos m.0 *ℤ y) z,
+                  *ℤ-zero (pos m.0),
+                  normals_open n bs w k o b q,
+                ))))

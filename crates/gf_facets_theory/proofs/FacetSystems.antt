@@ -6,10 +6,12 @@
 -- solution_of_flippable, flip_rows_wide; facet_or_redundant, facet_not_redundant, flippable_or_redundant,
 -- flippable_not_redundant, flippable_or_not.
 use Rattle.std.specs.List.{AllByRecursion}
-use Rattle.std.proofs.Common.{◌≡◌, ◌⊎◌, ℕ, zero, suc, ◌<◌, List, [], ◌∷◌, ◌++◌, length, get_or, Contains, All, ℤ, pos, neg_ℤ, ◌+ℤ◌, ◌*ℤ◌, ◌<ℤ◌, ◌≤ℤ◌, arith, refl, sym, ap, ap₂, ◌∙◌, inl, inr}
+use Rattle.std.proofs.Common.{◌≡◌, ◌⊎◌, ℕ, zero, suc, ◌<◌, List, [], ◌∷◌, ◌++◌, length, get_or, Contains, All, ℤ, pos, neg_ℤ, ◌+ℤ◌, ◌*ℤ◌, ◌<ℤ◌, ◌≤ℤ◌, arith}
+use Rattle.std.proofs.Common.{refl, sym, ap, ap₂, ◌∙◌, inl, inr}
 use Rattle.std.proofs.lemmas.Int.{ints}
 use Rattle.std.proofs.lemmas.List.{get_or_default}
-use Rattle.std.proofs.lemmas.List.Elements.{All-nil, All-cons, All-contains, recursion_from_All, Contains-append_left, Contains-append_right, Contains-append_cases}
+use Rattle.std.proofs.lemmas.List.Elements.{All-nil, All-cons, All-contains, recursion_from_All, Contains-append_left, Contains-append_right}
+use Rattle.std.proofs.lemmas.List.Elements.{Contains-append_cases}
 use Rattle.gf_int_theory.specs.Content.{scaled}
 use Rattle.gf_int_theory.proofs.RingLaws.{dv, dneg, ◌⊗◌, same as same_number}
 use Rattle.gf_int_theory.proofs.SignLaws.{0≤-*ℤ, 0<-*ℤ, <0-cancel, zero_of_*ℤ}
@@ -53,7 +55,8 @@ pub flip_system : (n : ℕ) (k : Region) (bs : List MarkedPolynomial) (ns : List
     IsFacetSystem bs (get_or ns i []) (k.rows ++ units n n) (flip_rows n k ns i)
 flip_system n k bs ns i m l = record {
   only = λ t c. first t (Contains-append_cases (others_of i ns ++ k.rows) (units n n) t c);
-  normals = λ b h o. Contains-append_left (others_of i ns ++ k.rows) (units n n) b (Contains-append_left (others_of i ns) k.rows b (others_all ns i b l (m.all b h) o));
+  normals = λ b h o. Contains-append_left (others_of i ns ++ k.rows) (units n n) b
+      (Contains-append_left (others_of i ns) k.rows b (others_all ns i b l (m.all b h) o));
   others = λ t c. elim (Contains-append_cases k.rows (units n n) t c) [
     | inl d ↦ Contains-append_left (others_of i ns ++ k.rows) (units n n) t (Contains-append_right (others_of i ns) k.rows t d)
     | inr d ↦ Contains-append_right (others_of i ns ++ k.rows) (units n n) t d
@@ -64,7 +67,8 @@ flip_system n k bs ns i m l = record {
     second t (inl c) = let o = others_only ns i t m.rises l c in inl (m.only t o.0, o.1)
     second t (inr c) = inr (Contains-append_left k.rows (units n n) t c)
 
-    first : (t : List ℤ) → Contains (others_of i ns ++ k.rows) t ⊎ Contains (units n n) t → (IsNormal bs t × (t ≡ get_or ns i [] → ⊥)) ⊎ Contains (k.rows ++ units n n) t
+    first : (t : List ℤ) → Contains (others_of i ns ++ k.rows) t ⊎ Contains (units n n) t →
+        (IsNormal bs t × (t ≡ get_or ns i [] → ⊥)) ⊎ Contains (k.rows ++ units n n) t
     first t (inl c) = second t (Contains-append_cases (others_of i ns) k.rows t c)
     first t (inr c) = inr (Contains-append_right k.rows (units n n) t c)
 
@@ -97,7 +101,8 @@ solution_of_point n bs a v beside rows s e h p = record {
 
 system_wide : (n : ℕ) (bs : List MarkedPolynomial) (a : List ℤ) (beside rows : List (List ℤ)) → IsFacetSystem bs a beside rows →
     AreCanonical n bs → AreRows n beside → AreRows n rows
-system_wide n bs a beside rows s k w = rows_by (λ t. length t ≡ n) bs a beside rows s (λ b h o. normal-length n bs b k h) (λ t c. All-contains (λ t. length t ≡ n) beside t w c)
+system_wide n bs a beside rows s k w = rows_by (λ t. length t ≡ n) bs a beside rows s (λ b h o. normal-length n bs b k h)
+    (λ t c. All-contains (λ t. length t ≡ n) beside t w c)
 
 -- ---- multipliers are a combination
 
@@ -120,7 +125,12 @@ balanced (suc n) e (x ∷ s) (y ∷ a) l m h =
 -- often a is taken
 pub combination_of_farkas : (n : ℕ) (a w : List ℤ) (rows : List (List ℤ)) (ms : List ℤ) (e : ℤ) → AreRows n rows → length a ≡ n →
     All (λ t. pos 0 <ℤ dot t w) rows → pos 0 <ℤ dot a w → IsFarkas n rows (a ∷ []) ms (e ∷ []) → IsCombination n rows a (neg_ℤ e) ms
-combination_of_farkas n a w rows ms e wide l p q f = record { positive = omega (arith, ints, below); count = f.rows_len; not_negative = f.not_negative; sum = balanced n e s a long l zero_sum }
+combination_of_farkas n a w rows ms e wide l p q f = record {
+  positive = omega (arith, ints, below);
+  count = f.rows_len;
+  not_negative = f.not_negative;
+  sum = balanced n e s a long l zero_sum;
+}
   where
     s : List ℤ
     s = combined n ms rows
@@ -135,12 +145,14 @@ combination_of_farkas n a w rows ms e wide l p q f = record { positive = omega (
     zero_sum = ap (vector_sum (combined n ms rows)) (sym (plus-zeros n (scaled e a) (length-times e a ∙ l))) ∙ f.zero_sum
 
     value : dot (combined n ms rows) w +ℤ e *ℤ dot a w ≡ pos 0
-    value = ap (λ z. dot (combined n ms rows) w +ℤ z) (sym (dot-times e a w)) ∙ sym (dot-plus (combined n ms rows) (scaled e a) w (long ∙ sym (length-times e a ∙ l))) ∙ ap (λ (z : List ℤ). dot z w) zero_sum ∙ dot-zeros n w
+    value = ap (λ z. dot (combined n ms rows) w +ℤ z) (sym (dot-times e a w)) ∙
+        sym (dot-plus (combined n ms rows) (scaled e a) w (long ∙ sym (length-times e a ∙ l))) ∙ ap (λ (z : List ℤ). dot z w) zero_sum ∙ dot-zeros n w
 
     above : pos 0 <ℤ dot (combined n ms rows) w
     above =
         let d : dot (combined n ms rows) w ≡ dot ms (values rows w) = dot-combined n ms rows w widths in
-        let h : pos 0 <ℤ dot ms (values rows w) = dot-positive ms rows w f.rows_len (recursion_from_All (λ m. pos 0 ≤ℤ m) ms f.not_negative) f.not_all_zero (recursion_from_All (λ t. pos 0 <ℤ dot t w) rows p) in
+        let h : pos 0 <ℤ dot ms (values rows w) = dot-positive ms rows w f.rows_len (recursion_from_All (λ m. pos 0 ≤ℤ m) ms f.not_negative) f.not_all_zero
+        (recursion_from_All (λ t. pos 0 <ℤ dot t w) rows p) in
         omega (arith, ints, d, h)
 
     below : e <ℤ pos 0
@@ -200,7 +212,8 @@ not_redundant n a v w rows wide q s r = absurd (omega (arith, ints, above, none)
         sym (gives v) ∙ ap (λ (y : ℤ). r.0 *ℤ y) z ∙ omega (arith, ints)
 
     none : r.0 *ℤ dot a w ≡ pos 0
-    none = gives w ∙ vanishing r.1 rows v w (recursion_from_All (λ m. pos 0 ≤ℤ m) r.1 c.not_negative) (recursion_from_All (λ t. pos 0 <ℤ dot t v) rows s.positive) at_v
+    none = gives w ∙ vanishing r.1 rows v w (recursion_from_All (λ m. pos 0 ≤ℤ m) r.1 c.not_negative)
+        (recursion_from_All (λ t. pos 0 <ℤ dot t v) rows s.positive) at_v
 
     above : pos 0 <ℤ (r.0 *ℤ dot a w)
     above = 0<-*ℤ r.0 (dot a w) c.positive q
@@ -216,24 +229,32 @@ module _ (n : ℕ) (bs : List MarkedPolynomial) (k : AreCanonical n bs) (ns : Li
 
   -- a vector on which the others are positive and the normal is zero is inside its facet
   pub facet_of_solution : (v : List ℤ) → IsSolution n (others_of i ns) (get_or ns i [] ∷ []) v → IsFacet n bs (get_or ns i [])
-  facet_of_solution v s = record { point = v; width = s.width; inside = (point_of_solution n bs (get_or ns i []) v [] (others_of i ns) (facet_system bs ns i m l) normal_here s).0 }
+  facet_of_solution v s = record {
+    point = v;
+    width = s.width;
+    inside = (point_of_solution n bs (get_or ns i []) v [] (others_of i ns) (facet_system bs ns i m l) normal_here s).0;
+  }
 
   pub solution_of_facet : (f : IsFacet n bs (get_or ns i [])) → IsSolution n (others_of i ns) (get_or ns i [] ∷ []) f.point
-  solution_of_facet f = solution_of_point n bs (get_or ns i []) f.point [] (others_of i ns) (facet_system bs ns i m l) f.width f.inside (All-nil (λ t. pos 0 <ℤ dot t f.point))
+  solution_of_facet f = solution_of_point n bs (get_or ns i []) f.point [] (others_of i ns) (facet_system bs ns i m l) f.width f.inside
+      (All-nil (λ t. pos 0 <ℤ dot t f.point))
 
   module _ (g : Region) where
     -- and where the region's rows and the unit vectors are positive too, it is one of the region
     pub flippable_of_solution : (v : List ℤ) → IsSolution n (flip_rows n g ns i) (get_or ns i [] ∷ []) v → IsFlippable n g bs (get_or ns i [])
-    flippable_of_solution v s = at (point_of_solution n bs (get_or ns i []) v (g.rows ++ units n n) (flip_rows n g ns i) (flip_system n g bs ns i m l) normal_here s)
+    flippable_of_solution v s = at (point_of_solution n bs (get_or ns i []) v (g.rows ++ units n n) (flip_rows n g ns i) (flip_system n g bs ns i m l)
+        normal_here s)
       where
         at : IsInsideFacet bs (get_or ns i []) v × All (λ t. pos 0 <ℤ dot t v) (g.rows ++ units n n) → IsFlippable n g bs (get_or ns i [])
         at p = record { point = v; region = region_of_rows n g v s.width p.1; inside = p.0 }
 
     pub solution_of_flippable : (f : IsFlippable n g bs (get_or ns i [])) → IsSolution n (flip_rows n g ns i) (get_or ns i [] ∷ []) f.point
-    solution_of_flippable f = solution_of_point n bs (get_or ns i []) f.point (g.rows ++ units n n) (flip_rows n g ns i) (flip_system n g bs ns i m l) f.region.width f.inside (rows_of_region n g f.point f.region)
+    solution_of_flippable f = solution_of_point n bs (get_or ns i []) f.point (g.rows ++ units n n) (flip_rows n g ns i) (flip_system n g bs ns i m l)
+        f.region.width f.inside (rows_of_region n g f.point f.region)
 
     pub flip_rows_wide : AreRows n g.rows → AreRows n (flip_rows n g ns i)
-    flip_rows_wide wide = system_wide n bs (get_or ns i []) (g.rows ++ units n n) (flip_rows n g ns i) (flip_system n g bs ns i m l) k (region_rows_wide n g wide)
+    flip_rows_wide wide = system_wide n bs (get_or ns i []) (g.rows ++ units n n) (flip_rows n g ns i) (flip_system n g bs ns i m l) k
+        (region_rows_wide n g wide)
 
 -- ---- either or, where the open cone has a vector
 
@@ -251,31 +272,40 @@ module _ (n : ℕ) (bs : List MarkedPolynomial) (w : List ℤ) (k : AreCanonical
 
       at : IsSolvable n rows (a ∷ []) ⊎ IsRefutable n rows (a ∷ []) → IsSolvable n rows (a ∷ []) ⊎ IsRowRedundant n rows a
       at (inl v) = inl v
-      at (inr f) = inr (redundant_of_farkas n a w rows f.0 f.1 rows_wide long (rows_by (λ t. pos 0 <ℤ dot t w) bs a beside rows s (λ b h d. normals_open n bs w k o b h) (λ t c. All-contains (λ t. pos 0 <ℤ dot t w) beside t p c)) (normals_open n bs w k o a q) f.2)
+      at (inr f) = inr (redundant_of_farkas n a w rows f.0 f.1 rows_wide long (rows_by (λ t. pos 0 <ℤ dot t w) bs a beside rows s
+          (λ b h d. normals_open n bs w k o b h) (λ t c. All-contains (λ t. pos 0 <ℤ dot t w) beside t p c)) (normals_open n bs w k o a q) f.2)
 
   module _ (ns : List (List ℤ)) (i : ℕ) (m : AreNormals bs ns) (l : i < length ns) where
     here_positive : pos 0 <ℤ dot (get_or ns i []) w
     here_positive = normals_open n bs w k o (get_or ns i []) (normal_here n bs k ns i m l)
 
     pub facet_or_redundant : IsFacet n bs (get_or ns i []) ⊎ IsRowRedundant n (others_of i ns) (get_or ns i [])
-    facet_or_redundant = at (solvable_or_redundant (get_or ns i []) [] (others_of i ns) (facet_system bs ns i m l) (normal_here n bs k ns i m l) (All-nil (λ t. length t ≡ n)) (All-nil (λ t. pos 0 <ℤ dot t w)))
+    facet_or_redundant = at (solvable_or_redundant (get_or ns i []) [] (others_of i ns) (facet_system bs ns i m l) (normal_here n bs k ns i m l)
+        (All-nil (λ t. length t ≡ n)) (All-nil (λ t. pos 0 <ℤ dot t w)))
       where
-        at : IsSolvable n (others_of i ns) (get_or ns i [] ∷ []) ⊎ IsRowRedundant n (others_of i ns) (get_or ns i []) → IsFacet n bs (get_or ns i []) ⊎ IsRowRedundant n (others_of i ns) (get_or ns i [])
+        at : IsSolvable n (others_of i ns) (get_or ns i [] ∷ []) ⊎ IsRowRedundant n (others_of i ns) (get_or ns i []) →
+            IsFacet n bs (get_or ns i []) ⊎ IsRowRedundant n (others_of i ns) (get_or ns i [])
         at (inl v) = inl (facet_of_solution n bs k ns i m l v.0 v.1)
         at (inr r) = inr r
 
     pub facet_not_redundant : IsFacet n bs (get_or ns i []) → IsRowRedundant n (others_of i ns) (get_or ns i []) → ⊥
-    facet_not_redundant f r = not_redundant n (get_or ns i []) f.point w (others_of i ns) (facet_rows_wide n bs k ns i m l) here_positive (solution_of_facet n bs k ns i m l f) r
+    facet_not_redundant f r = not_redundant n (get_or ns i []) f.point w (others_of i ns) (facet_rows_wide n bs k ns i m l) here_positive
+        (solution_of_facet n bs k ns i m l f) r
 
-    pub flippable_or_redundant : (g : Region) → AreRows n g.rows → IsInRegion n g w → IsFlippable n g bs (get_or ns i []) ⊎ IsRowRedundant n (flip_rows n g ns i) (get_or ns i [])
-    flippable_or_redundant g wide r = at (solvable_or_redundant (get_or ns i []) (g.rows ++ units n n) (flip_rows n g ns i) (flip_system n g bs ns i m l) (normal_here n bs k ns i m l) (region_rows_wide n g wide) (rows_of_region n g w r))
+    pub flippable_or_redundant : (g : Region) → AreRows n g.rows → IsInRegion n g w →
+        IsFlippable n g bs (get_or ns i []) ⊎ IsRowRedundant n (flip_rows n g ns i) (get_or ns i [])
+    flippable_or_redundant g wide r = at (solvable_or_redundant (get_or ns i []) (g.rows ++ units n n) (flip_rows n g ns i) (flip_system n g bs ns i m l)
+        (normal_here n bs k ns i m l) (region_rows_wide n g wide) (rows_of_region n g w r))
       where
-        at : IsSolvable n (flip_rows n g ns i) (get_or ns i [] ∷ []) ⊎ IsRowRedundant n (flip_rows n g ns i) (get_or ns i []) → IsFlippable n g bs (get_or ns i []) ⊎ IsRowRedundant n (flip_rows n g ns i) (get_or ns i [])
+        at : IsSolvable n (flip_rows n g ns i) (get_or ns i [] ∷ []) ⊎ IsRowRedundant n (flip_rows n g ns i) (get_or ns i []) →
+            IsFlippable n g bs (get_or ns i []) ⊎ IsRowRedundant n (flip_rows n g ns i) (get_or ns i [])
         at (inl v) = inl (flippable_of_solution n bs k ns i m l g v.0 v.1)
         at (inr c) = inr c
 
-    pub flippable_not_redundant : (g : Region) → AreRows n g.rows → IsFlippable n g bs (get_or ns i []) → IsRowRedundant n (flip_rows n g ns i) (get_or ns i []) → ⊥
-    flippable_not_redundant g wide f r = not_redundant n (get_or ns i []) f.point w (flip_rows n g ns i) (flip_rows_wide n bs k ns i m l g wide) here_positive (solution_of_flippable n bs k ns i m l g f) r
+    pub flippable_not_redundant : (g : Region) → AreRows n g.rows → IsFlippable n g bs (get_or ns i []) →
+        IsRowRedundant n (flip_rows n g ns i) (get_or ns i []) → ⊥
+    flippable_not_redundant g wide f r = not_redundant n (get_or ns i []) f.point w (flip_rows n g ns i) (flip_rows_wide n bs k ns i m l g wide) here_positive
+        (solution_of_flippable n bs k ns i m l g f) r
 
 -- ---- whether a normal is flippable
 
@@ -295,7 +325,10 @@ flippable_or_not n g bs a wide k q = at (normals_listed bs)
 
             s : IsFacetSystem bs a (g.rows ++ units n n) (r.list ++ (g.rows ++ units n n))
             s = record {
-              only = λ t c. elim (Contains-append_cases r.list (g.rows ++ units n n) t c) [ inl d ↦ (let e = r.only t d in inl (ls.only t e.0, e.1)) | inr d ↦ inr d ];
+              only = λ t c. elim (Contains-append_cases r.list (g.rows ++ units n n) t c) [
+                | inl d ↦ (let e = r.only t d in inl (ls.only t e.0, e.1))
+                | inr d ↦ inr d
+              ];
               normals = λ b h e. Contains-append_left r.list (g.rows ++ units n n) b (r.all b (ls.all b h) e);
               others = λ t c. Contains-append_right r.list (g.rows ++ units n n) t c;
             }
@@ -306,8 +339,12 @@ flippable_or_not n g bs a wide k q = at (normals_listed bs)
             one : AreRows n (a ∷ [])
             one = one_row (λ t. length t ≡ n) a (normal-length n bs a k q)
 
-            decide : IsSolvable n (r.list ++ (g.rows ++ units n n)) (a ∷ []) ⊎ IsRefutable n (r.list ++ (g.rows ++ units n n)) (a ∷ []) → IsFlippable n g bs a ⊎ (IsFlippable n g bs a → ⊥)
+            decide : IsSolvable n (r.list ++ (g.rows ++ units n n)) (a ∷ []) ⊎ IsRefutable n (r.list ++ (g.rows ++ units n n)) (a ∷ []) →
+                IsFlippable n g bs a ⊎ (IsFlippable n g bs a → ⊥)
             decide (inl v) = let p = point_of_solution n bs a v.0 (g.rows ++ units n n) (r.list ++ (g.rows ++ units n n)) s q v.1 in
                 inl (record { point = v.0; region = region_of_rows n g v.0 v.1.width p.1; inside = p.0 })
-            decide (inr f) = inr (λ h. alternative.not_both n (r.list ++ (g.rows ++ units n n)) (a ∷ []) rows_wide one
-                (h.point, solution_of_point n bs a h.point (g.rows ++ units n n) (r.list ++ (g.rows ++ units n n)) s h.region.width h.inside (rows_of_region n g h.point h.region)) f)
+            decide (inr f) = inr (λ h. alternative.not_both n (r.list ++ (g.rows ++ units n n)) (a ∷ []) rows_wide one (
+              h.point,
+              solution_of_point n bs a h.point (g.rows ++ units n n) (r.list ++ (g.rows ++ units n n)) s h.region.width h.inside
+                  (rows_of_region n g h.point h.region),
+            ) f)

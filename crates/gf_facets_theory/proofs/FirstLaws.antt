@@ -43,11 +43,18 @@ record IsFirst (n : ℕ) (bs : List MarkedPolynomial) (w r : List ℤ) (ns : Lis
 same_normal : (n : ℕ) (bs : List MarkedPolynomial) (w b c : List ℤ) → AreCanonical n bs → IsPlain n bs w b → IsPlain n bs w c →
     scaled (dot b w) c ≡ scaled (dot c w) b → b ≡ c
 same_normal n bs w b c k p q e =
-    sym (primitive_same b c (dot b w) (dot c w) p.positive q.positive e (normal-primitive bs b p.normal) (normal-primitive bs c q.normal) (not_all_zero b (normal-nonzero n bs b k p.normal)))
+    sym (primitive_same b c (dot b w) (dot c w) p.positive q.positive e (normal-primitive bs b p.normal) (normal-primitive bs c q.normal)
+    (not_all_zero b (normal-nonzero n bs b k p.normal)))
 
 first_of : (n : ℕ) (bs : List MarkedPolynomial) (w r : List ℤ) → AreCanonical n bs → (a : List ℤ) (ns : List (List ℤ)) → IsPlain n bs w a →
     ((b : List ℤ) → Contains ns b → IsPlain n bs w b) → IsFirst n bs w r (a ∷ ns)
-first_of n bs w r k a [] p h = record { first = a; plain = p; others = []; later = λ b c. absurd (omega (arith, c.1)); covers = λ b c. elim (Contains-cases a b [] c) [ inl e ↦ inl e | inr i ↦ inr i ] }
+first_of n bs w r k a [] p h = record {
+  first = a;
+  plain = p;
+  others = [];
+  later = λ b c. absurd (omega (arith, c.1));
+  covers = λ b c. elim (Contains-cases a b [] c) [ inl e ↦ inl e | inr i ↦ inr i ];
+}
 first_of n bs w r k a (b ∷ ns) p h = at (first_of n bs w r k b ns (h b (Contains-here b ns)) (λ c i. h c (Contains-there b c ns i)))
   where
     at : IsFirst n bs w r (b ∷ ns) → IsFirst n bs w r (a ∷ (b ∷ ns))
@@ -74,7 +81,10 @@ first_of n bs w r k a (b ∷ ns) p h = at (first_of n bs w r k b ns (h b (Contai
           ];
           covers = λ c i. elim (Contains-cases a c (b ∷ ns) i) [
             | inl e ↦ inl e
-            | inr l ↦ inr (elim (f.covers c l) [ inl e ↦ subst (Contains (f.first ∷ f.others)) e (Contains-here f.first f.others) | inr m ↦ Contains-there f.first c f.others m ])
+            | inr l ↦ inr (elim (f.covers c l) [
+              | inl e ↦ subst (Contains (f.first ∷ f.others)) e (Contains-here f.first f.others)
+              | inr m ↦ Contains-there f.first c f.others m
+            ])
           ];
         }
 
@@ -115,7 +125,8 @@ crossed_first n bs w r b rows k o wide here there q neg = at (normals_listed bs)
     plain_of a h = record { normal = h; width = normal-length n bs a k h; positive = normals_open n bs w k o a h }
 
     witness : (ns : List (List ℤ)) → ((c : List ℤ) → IsNormal bs c → Contains ns c) → IsFirst n bs w r ns → CrossedFirst n bs r rows b
-    witness ns all f = found (solvable_by_lex n (suc n) (turned w r f.first) (f.others ++ rows) (f.first ∷ []) (turned-linear n w r f.first f.plain.width) widths
+    witness ns all f = found (solvable_by_lex n (suc n) (turned w r f.first) (f.others ++ rows) (f.first ∷ []) (turned-linear n w r f.first f.plain.width)
+        widths
         (All-from_recursion (λ t. length t ≡ n) (f.first ∷ []) (f.plain.width, tt)) later
         (All-from_recursion (λ t. turned w r f.first t ≡ zeros (suc n)) (f.first ∷ []) (turned-self n w r f.first f.plain.width, tt)))
       where
@@ -137,7 +148,8 @@ crossed_first n bs w r b rows k o wide here there q neg = at (normals_listed bs)
         later : All (λ t. IsLexPositive (turned w r f.first t)) (f.others ++ rows)
         later = All-append (λ t. IsLexPositive (turned w r f.first t)) f.others rows
             (all_by (λ t. IsLexPositive (turned w r f.first t)) f.others (λ c i. (f.later c i).1))
-            (all_by (λ t. IsLexPositive (turned w r f.first t)) rows (λ c i. turned_beyond w r f.first c f.plain.positive (All-contains (λ t. pos 0 <ℤ dot t w) rows c here i) (All-contains (λ t. pos 0 <ℤ dot t r) rows c there i) negative))
+            (all_by (λ t. IsLexPositive (turned w r f.first t)) rows (λ c i. turned_beyond w r f.first c f.plain.positive
+            (All-contains (λ t. pos 0 <ℤ dot t w) rows c here i) (All-contains (λ t. pos 0 <ℤ dot t r) rows c there i) negative))
 
         found : IsSolvable n (f.others ++ rows) (f.first ∷ []) → CrossedFirst n bs r rows b
         found s = record {
@@ -149,17 +161,23 @@ crossed_first n bs w r b rows k o wide here there q neg = at (normals_listed bs)
           inside = record {
             normal = f.plain.normal;
             zero = All-contains (λ t. dot t s.0 ≡ pos 0) (f.first ∷ []) f.first s.1.zero (Contains-here f.first []);
-            positive = λ c h other. elim (f.covers c (all c h)) [ inl e ↦ absurd (other (sym e)) | inr i ↦ All-contains (λ t. pos 0 <ℤ dot t s.0) (f.others ++ rows) c s.1.positive (Contains-append_left f.others rows c i) ];
+            positive = λ c h other. elim (f.covers c (all c h)) [
+              | inl e ↦ absurd (other (sym e))
+              | inr i ↦ All-contains (λ t. pos 0 <ℤ dot t s.0) (f.others ++ rows) c s.1.positive (Contains-append_left f.others rows c i)
+            ];
           };
-          rows_positive = all_by (λ t. pos 0 <ℤ dot t s.0) rows (λ c i. All-contains (λ t. pos 0 <ℤ dot t s.0) (f.others ++ rows) c s.1.positive (Contains-append_right f.others rows c i));
+          rows_positive = all_by (λ t. pos 0 <ℤ dot t s.0) rows (λ c i. All-contains (λ t. pos 0 <ℤ dot t s.0) (f.others ++ rows) c s.1.positive
+              (Contains-append_right f.others rows c i));
         }
 
     at : NormalsListed bs → CrossedFirst n bs r rows b
     at l = start l.list l.only l.all
       where
-        start : (ns : List (List ℤ)) → ((a : List ℤ) → Contains ns a → IsNormal bs a) → ((a : List ℤ) → IsNormal bs a → Contains ns a) → CrossedFirst n bs r rows b
+        start : (ns : List (List ℤ)) → ((a : List ℤ) → Contains ns a → IsNormal bs a) → ((a : List ℤ) → IsNormal bs a → Contains ns a) →
+            CrossedFirst n bs r rows b
         start [] only all = absurd (let c = all b q in omega (arith, c.1))
-        start (a ∷ ns) only all = witness (a ∷ ns) all (first_of n bs w r k a ns (plain_of a (only a (Contains-here a ns))) (λ c h. plain_of c (only c (Contains-there a c ns h))))
+        start (a ∷ ns) only all =
+            witness (a ∷ ns) all (first_of n bs w r k a ns (plain_of a (only a (Contains-here a ns))) (λ c h. plain_of c (only c (Contains-there a c ns h))))
 
 -- ---- towards the root of a region
 
@@ -167,7 +185,8 @@ crossed_first n bs w r b rows k o wide here there q neg = at (normals_listed bs)
 pub flippable_towards_root : (n : ℕ) (k : Region) (bs : List MarkedPolynomial) (w b : List ℤ) → IsRegion n k → AreCanonical n bs →
     IsInRegion n k w → IsInOpenCone w bs → IsNormal bs b → IsNegative k.root b →
     (a : List ℤ) × IsFlippable n k bs a × IsNegative k.root a
-flippable_towards_root n k bs w b kr c iw o q neg = at (crossed_first n bs w k.root b (k.rows ++ units n n) c o (region_rows_wide n k kr.widths) (rows_of_region n k w iw) (rows_of_region n k k.root kr.root) q neg)
+flippable_towards_root n k bs w b kr c iw o q neg = at (crossed_first n bs w k.root b (k.rows ++ units n n) c o (region_rows_wide n k kr.widths)
+    (rows_of_region n k w iw) (rows_of_region n k k.root kr.root) q neg)
   where
     at : CrossedFirst n bs k.root (k.rows ++ units n n) b → (a : List ℤ) × IsFlippable n k bs a × IsNegative k.root a
     at f = (f.normal, record { point = f.point; region = region_of_rows n k f.point f.width f.rows_positive; inside = f.inside }, f.negative)

@@ -71,7 +71,8 @@ lex-combined n (m ∷ ms) [] e w h k = absurd (omega arith)
 lex-combined n (m ∷ ms) (t ∷ ts) e w h k = more (lex-combined n ms ts (omega arith) w.1 h.1 k.1)
   where
     skip : m ≡ pos 0 → vector_sum (scaled m t) (combined n ms ts) ≡ combined n ms ts
-    skip z = ap (λ c. vector_sum (scaled c t) (combined n ms ts)) z ∙ ap (λ v. vector_sum v (combined n ms ts)) (times-zero t n w.0) ∙ zeros-plus n (combined n ms ts) (length-combined n ms ts w.1)
+    skip z = ap (λ c. vector_sum (scaled c t) (combined n ms ts)) z ∙ ap (λ v. vector_sum v (combined n ms ts)) (times-zero t n w.0) ∙ zeros-plus n
+        (combined n ms ts) (length-combined n ms ts w.1)
 
     more : IsLexPositive (combined n ms ts) ⊎ ((combined n ms ts ≡ zeros n) × (SomePositive ms → ⊥)) →
         IsLexPositive (combined n (m ∷ ms) (t ∷ ts)) ⊎ ((combined n (m ∷ ms) (t ∷ ts) ≡ zeros n) × (SomePositive (m ∷ ms) → ⊥))

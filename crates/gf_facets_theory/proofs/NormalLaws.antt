@@ -2,7 +2,8 @@
 -- negated normal; and back.
 -- To cite: IsNormalOf, normal_of, normal_of_monomial, normal-length, normal-primitive, normal-nonzero, row-further, beyond_of_inside,
 -- HasFurther, inside_of_beyond.
-use Rattle.std.proofs.Common.{◌≡◌, ◌⊎◌, ℕ, ◌<◌, true, false, List, length, get_or, Contains, ℤ, pos, neg_ℤ, ◌+ℤ◌, ◌-ℤ◌, ◌*ℤ◌, ◌<ℤ◌, arith, sym, ap, ◌∙◌, subst, inl, inr}
+use Rattle.std.proofs.Common.{◌≡◌, ◌⊎◌, ℕ, ◌<◌, true, false, List, length, get_or, Contains, ℤ, pos, neg_ℤ, ◌+ℤ◌, ◌-ℤ◌, ◌*ℤ◌, ◌<ℤ◌, arith, sym, ap, ◌∙◌, subst}
+use Rattle.std.proofs.Common.{inl, inr}
 use Rattle.std.proofs.Math.IntN.{*ℤ-zero}
 use Rattle.std.proofs.lemmas.Int.{ints}
 use Rattle.gf_int_theory.specs.Content.{IsPrimitive, scaled}
@@ -73,7 +74,8 @@ normal_of n bs a k p = at (row-from bs p.0 p.1)
       part = p.2;
       steps = d.0;
       some = d.1;
-      apart = row-steps b.0.head t.term.mono a d.0 ((k b.0 b.1).head ∙ sym (term_length n b.0.poly t.term (k b.0 b.1).variables t.inside)) (λ i. ap (λ (z : List ℤ). get_or z i (pos 0)) (sym t.row) ∙ d.3 i);
+      apart = row-steps b.0.head t.term.mono a d.0 ((k b.0 b.1).head ∙ sym (term_length n b.0.poly t.term (k b.0 b.1).variables t.inside))
+          (λ i. ap (λ (z : List ℤ). get_or z i (pos 0)) (sym t.row) ∙ d.3 i);
     }
       where
         t : IsTermRow b.0.head b.0.poly p.0
@@ -97,8 +99,11 @@ normal_of_monomial n bs b x k c m u = at (term_of b.poly x m)
             (a : List ℤ) × IsNormal bs a × ((j : ℕ) × (0 < j) × IsStepsFrom j a x b.head)
         found o p =
             let d = divided-entry (differences b.head t.0.mono) p.0 p.1 in
-            let s = row-steps b.head t.0.mono p.0 d.0 ((k b c).head ∙ sym (term_length n b.poly t.0 (k b c).variables t.1)) d.3 in
-            (p.0, (differences b.head t.0.mono, row-in bs b t.0 c t.1 o, p.1), (d.0, d.1, λ i. s i ∙ ap (λ z. pos z +ℤ pos d.0 *ℤ get_or p.0 i (pos 0)) (sym (entries_same x t.0.mono t.2 i))))
+            let s = row-steps b.head t.0.mono p.0 d.0 ((k b c).head ∙ sym (term_length n b.poly t.0 (k b c).variables t.1)) d.3 in (
+              p.0,
+              (differences b.head t.0.mono, row-in bs b t.0 c t.1 o, p.1),
+              (d.0, d.1, λ i. s i ∙ ap (λ z. pos z +ℤ pos d.0 *ℤ get_or p.0 i (pos 0)) (sym (entries_same x t.0.mono t.2 i))),
+            )
 
 -- a normal has n entries
 pub normal-length : (n : ℕ) (bs : List MarkedPolynomial) (a : List ℤ) →
@@ -127,7 +132,8 @@ normal-nonzero n bs a k p = (i.0, λ z. i.1 (equal z))
     equal : get_or a i.0 (pos 0) ≡ pos 0 → entry q.member.head i.0 ≡ entry q.at i.0
     equal z =
         let d = divided-entry q.is_row a q.part in
-        let e : get_or q.is_row i.0 (pos 0) ≡ pos (entry q.member.head i.0) -ℤ pos (entry q.at i.0) = ap (λ (r : List ℤ). get_or r i.0 (pos 0)) q.row ∙ get-differences q.member.head q.at i.0 ((k q.member q.contained).head ∙ sym q.width) in
+        let e : get_or q.is_row i.0 (pos 0) ≡ pos (entry q.member.head i.0) -ℤ pos (entry q.at i.0) =
+        ap (λ (r : List ℤ). get_or r i.0 (pos 0)) q.row ∙ get-differences q.member.head q.at i.0 ((k q.member q.contained).head ∙ sym q.width) in
         let f : get_or q.is_row i.0 (pos 0) ≡ pos 0 = d.3 i.0 ∙ ap (λ y. pos d.0 *ℤ y) z ∙ *ℤ-zero (pos d.0) in
         omega (arith, ints, e, f)
 
@@ -136,7 +142,8 @@ normal-nonzero n bs a k p = (i.0, λ z. i.1 (equal z))
 -- the row of x and y is k times a: y is further along the negatives
 pub row-further : (x y : Exponents) (a : List ℤ) (k : ℕ) → 0 < k → length x ≡ length y →
     ((i : ℕ) → get_or (differences x y) i (pos 0) ≡ pos k *ℤ get_or a i (pos 0)) → IsFurther (negated a) y x
-row-further x y a k l e h = (k, omega arith, λ i. omega (arith, ints, h i, get-differences x y i e, ap (λ z. pos k *ℤ z) (get-negated a i), *ℤ-neg (pos k) (get_or a i (pos 0))))
+row-further x y a k l e h =
+    (k, omega arith, λ i. omega (arith, ints, h i, get-differences x y i e, ap (λ z. pos k *ℤ z) (get-negated a i), *ℤ-neg (pos k) (get_or a i (pos 0))))
 
 -- by a vector inside the facet each unmarked monomial is lighter, or further along the negated normal
 pub beyond_of_inside : (n : ℕ) (bs : List MarkedPolynomial) (a v : List ℤ) →
@@ -163,7 +170,8 @@ beyond_of_inside n bs a v k one f b c = record { monic = one b c; tail = λ x m.
           | inr e ↦ let d = divided-entry (differences b.head t.0.mono) p.0 p.1 in
               let q : pos 0 <ℤ dot p.0 v = f.positive p.0 (differences b.head t.0.mono, row-in bs b t.0 c t.1 o, p.1) e in
               let r : pos 0 <ℤ (pos d.0 *ℤ dot p.0 v) = 0<-*ℤ (pos d.0) (dot p.0 v) (omega (arith, ints, d.1)) q in
-              let w : pos d.0 *ℤ dot p.0 v ≡ whole_weight v b.head -ℤ whole_weight v t.0.mono = sym (dot-times (pos d.0) p.0 v) ∙ ap (λ (z : List ℤ). dot z v) d.2 ∙ dot-differences v b.head t.0.mono lengths in
+              let w : pos d.0 *ℤ dot p.0 v ≡ whole_weight v b.head -ℤ whole_weight v t.0.mono =
+              sym (dot-times (pos d.0) p.0 v) ∙ ap (λ (z : List ℤ). dot z v) d.2 ∙ dot-differences v b.head t.0.mono lengths in
               inl (omega (arith, ints, r, w))
         ]
 
@@ -205,7 +213,8 @@ inside_of_beyond n cs a v k e prime nz o m h = record { normal = normal; zero = 
     -- whose primitive part they are
     part : (b : MarkedPolynomial) (t : Term) → Contains cs b → Contains b.poly t → IsFurther a t.mono b.head →
         IsPrimitivePart (differences b.head t.mono) (negated a)
-    part b t c q f = subst (λ (z : List ℤ). IsPrimitivePart z (negated a)) (sym (row b t c q f)) (pos f.0, multiple_divided f.0 (negated a) (omega (arith, f.1)) (primitive_opposite a prime) nonzero)
+    part b t c q f = subst (λ (z : List ℤ). IsPrimitivePart z (negated a)) (sym (row b t c q f))
+        (pos f.0, multiple_divided f.0 (negated a) (omega (arith, f.1)) (primitive_opposite a prime) nonzero)
 
     never : (x y : Exponents) → same x y ≡ true → IsFurther a y x → ⊥
     never x y s f = nz.1 (no_multiple f.0 (get_or a nz.0 (pos 0)) f.1 (omega (arith, ints, f.2 nz.0, entries_same x y s nz.0)))
@@ -226,9 +235,14 @@ inside_of_beyond n cs a v k e prime nz o m h = record { normal = normal; zero = 
         at c = place ((m c.0 c.1).tail c.2.term.mono (monomial_of n c.0 c.2.term (k c.0 c.1) c.2.inside))
           where
             place : (same c.2.term.mono c.0.head ≡ true) ⊎ IsBeyond v a c.2.term.mono c.0.head → pos 0 <ℤ dot b v
-            place (inl s) = let u : same c.0.head c.2.term.mono ≡ false = c.2.other in let t : same c.0.head c.2.term.mono ≡ true = same_flip c.2.term.mono c.0.head s in absurd (cc)
-            place (inr (inr f)) = absurd (other (primitive_unique p.0 b (negated a) p.2 (subst (λ (z : List ℤ). IsPrimitivePart z (negated a)) (sym c.2.row) (part c.0 c.2.term c.1 c.2.inside f))))
+            place (inl s) = let u : same c.0.head c.2.term.mono ≡ false = c.2.other in let t : same c.0.head c.2.term.mono ≡ true =
+                same_flip c.2.term.mono c.0.head s in absurd (cc)
+            place (inr (inr f)) =
+                absurd (other (primitive_unique p.0 b (negated a) p.2 (subst (λ (z : List ℤ). IsPrimitivePart z (negated a)) (sym c.2.row)
+                (part c.0 c.2.term c.1 c.2.inside f))))
             place (inr (inl l)) =
                 let d = divided-entry p.0 b p.2 in
-                let w : pos d.0 *ℤ dot b v ≡ whole_weight v c.0.head -ℤ whole_weight v c.2.term.mono = sym (dot-times (pos d.0) b v) ∙ ap (λ (z : List ℤ). dot z v) (d.2 ∙ c.2.row) ∙ dot-differences v c.0.head c.2.term.mono ((k c.0 c.1).head ∙ sym (term_length n c.0.poly c.2.term (k c.0 c.1).variables c.2.inside)) in
+                let w : pos d.0 *ℤ dot b v ≡ whole_weight v c.0.head -ℤ whole_weight v c.2.term.mono =
+                sym (dot-times (pos d.0) b v) ∙ ap (λ (z : List ℤ). dot z v) (d.2 ∙ c.2.row) ∙ dot-differences v c.0.head c.2.term.mono
+                ((k c.0 c.1).head ∙ sym (term_length n c.0.poly c.2.term (k c.0 c.1).variables c.2.inside)) in
                 0<-cancel (pos d.0) (dot b v) (omega (arith, ints, d.1)) (omega (arith, ints, w, l))

@@ -34,7 +34,8 @@ parts_listed (t ∷ rows) = at (divided_exists t) (parts_listed rows)
         | inr k ↦ (let q = r.only a k in (q.0, Contains-there t q.0 rows q.1, q.2))
       ];
       all = λ s a c p. elim (Contains-cases t s rows c) [
-        | inl e ↦ subst (Contains (u.0 ∷ r.list)) (primitive_unique t u.0 a u.1 (subst (λ (w : List ℤ). IsPrimitivePart w a) (sym e) p)) (Contains-here u.0 r.list)
+        | inl e ↦ subst (Contains (u.0 ∷ r.list)) (primitive_unique t u.0 a u.1 (subst (λ (w : List ℤ). IsPrimitivePart w a) (sym e) p))
+            (Contains-here u.0 r.list)
         | inr k ↦ Contains-there u.0 a r.list (r.all s a k p)
       ];
     }
@@ -72,7 +73,10 @@ others_listed (b ∷ ns) a = at (others_listed ns a) (vector_or_not b a)
         | inl f ↦ (subst (Contains (b ∷ ns)) f (Contains-here b ns), λ e. m (f ∙ e))
         | inr l ↦ (Contains-there b c ns (r.only c l).0, (r.only c l).1)
       ];
-      all = λ c k n. elim (Contains-cases b c ns k) [ inl f ↦ subst (Contains (b ∷ r.list)) f (Contains-here b r.list) | inr l ↦ Contains-there b c r.list (r.all c l n) ];
+      all = λ c k n. elim (Contains-cases b c ns k) [
+        | inl f ↦ subst (Contains (b ∷ r.list)) f (Contains-here b r.list)
+        | inr l ↦ Contains-there b c r.list (r.all c l n)
+      ];
     }
 
 -- those of an ascending list that aren't at a place
@@ -81,7 +85,10 @@ pub others_only : (ns : List (List ℤ)) (i : ℕ) (b : List ℤ) → Ascends ns
 others_only [] i b h l c = absurd (omega arith)
 others_only (x ∷ ns) zero b h l c = (Contains-there x b ns c, λ e. before_strict.irreflexive x (subst (IsBefore x) e (h.0 b c)))
 others_only (x ∷ ns) (suc i) b h l c = elim (Contains-cases x b (others_of i ns) c) [
-  | inl e ↦ (subst (Contains (x ∷ ns)) e (Contains-here x ns), λ f. before_strict.irreflexive x (subst (IsBefore x) (sym (e ∙ f)) (h.0 (get_or ns i []) (i, omega arith, get_or_default ns i _ [] (omega arith)))))
+  | inl e ↦ (
+    subst (Contains (x ∷ ns)) e (Contains-here x ns),
+    λ f. before_strict.irreflexive x (subst (IsBefore x) (sym (e ∙ f)) (h.0 (get_or ns i []) (i, omega arith, get_or_default ns i _ [] (omega arith)))),
+  )
   | inr k ↦ (let r = others_only ns i b h.1 (omega arith) k in (Contains-there x b ns r.0, r.1))
 ]
 

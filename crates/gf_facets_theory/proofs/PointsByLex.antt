@@ -57,8 +57,10 @@ solvable_by_lex n m image rows es l wr we h k = elim (alternative.one n rows es 
         let ia : image a ≡ combined m ms (map image rows) = image-combined n m image l ms rows rr in
         let ib : image b ≡ zeros m = image-combined n m image l vs es er ∙ zero_images m image vs es (recursion_from_All (λ t. image t ≡ zeros m) es k) in
         let whole : image a ≡ zeros m =
-        sym (ap (vector_sum (image a)) ib ∙ plus-zeros m (image a) (l.width a (length-combined n ms rows rr))) ∙ sym (l.sum a b (length-combined n ms rows rr) (length-combined n vs es er)) ∙ ap image f.zero_sum ∙ l.zero in
-        elim (lex-combined m ms (map image rows) (f.rows_len ∙ sym (length-map rows image)) (images_wide n m image l rows rr) (recursion_from_All (λ v. pos 0 ≤ℤ v) ms f.not_negative) (images_lex image rows (recursion_from_All (λ t. IsLexPositive (image t)) rows h))) [
+        sym (ap (vector_sum (image a)) ib ∙ plus-zeros m (image a) (l.width a (length-combined n ms rows rr))) ∙
+        sym (l.sum a b (length-combined n ms rows rr) (length-combined n vs es er)) ∙ ap image f.zero_sum ∙ l.zero in
+        elim (lex-combined m ms (map image rows) (f.rows_len ∙ sym (length-map rows image)) (images_wide n m image l rows rr)
+        (recursion_from_All (λ v. pos 0 ≤ℤ v) ms f.not_negative) (images_lex image rows (recursion_from_All (λ t. IsLexPositive (image t)) rows h))) [
           | inl p ↦ lex-zeros m (subst IsLexPositive (sym ia ∙ whole) p)
           | inr q ↦ q.1 f.not_all_zero
         ]

@@ -1,7 +1,8 @@
 -- The primitive vector of a row: there is one and one alone.
 -- To cite: divided_exists, not_all_zero, multiple_content, multiple_divided, primitive_unique, divided-entry.
 use Rattle.std.specs.Int.{◌∣◌}
-use Rattle.std.proofs.Common.{◌≡◌, ◌⊎◌, ℕ, zero, suc, ◌*◌, ◌<◌, List, [], ◌∷◌, get_or, ℤ, pos, negsuc, ◌*ℤ◌, unsigned_abs, arith, refl, sym, ap, ◌∙◌, ◌/◌, subst, inl, inr}
+use Rattle.std.proofs.Common.{◌≡◌, ◌⊎◌, ℕ, zero, suc, ◌*◌, ◌<◌, List, [], ◌∷◌, get_or, ℤ, pos, negsuc, ◌*ℤ◌, unsigned_abs, arith, refl, sym, ap, ◌∙◌, ◌/◌}
+use Rattle.std.proofs.Common.{subst, inl, inr}
 use Rattle.std.proofs.lemmas.Int.{ints, unsigned_abs-mul}
 use Rattle.std.proofs.Math.IntN.{*ℤ-zero}
 use Rattle.std.proofs.Math.Nat.{dvd-mul_right, dvd_of_mul-dvd-mul_left, mul-div_cancel'}

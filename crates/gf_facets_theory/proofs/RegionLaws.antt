@@ -1,7 +1,8 @@
 -- Far along a vector that is inside a facet, and a little past it: a weight in the region that gives the marks beyond.
 -- To cite: region-positive, region-natural, region-weight, past, dot-past, beats, bounds, dot-itself, beyond_weight, beyond-positive.
 use Rattle.std.specs.List.{AllByRecursion}
-use Rattle.std.proofs.Common.{◌≡◌, ◌⊎◌, ℕ, zero, suc, ◌+◌, true, List, [], ◌∷◌, length, All, ℤ, pos, negsuc, neg_ℤ, ◌+ℤ◌, ◌*ℤ◌, ◌<ℤ◌, ◌≤ℤ◌, arith, refl, sym, ap, ap₂, ◌∙◌, inl, inr}
+use Rattle.std.proofs.Common.{◌≡◌, ◌⊎◌, ℕ, zero, suc, ◌+◌, true, List, [], ◌∷◌, length, All, ℤ, pos, negsuc, neg_ℤ, ◌+ℤ◌, ◌*ℤ◌, ◌<ℤ◌, ◌≤ℤ◌, arith, refl, sym}
+use Rattle.std.proofs.Common.{ap, ap₂, ◌∙◌, inl, inr}
 use Rattle.std.proofs.lemmas.Int.{ints}
 use Rattle.std.proofs.lemmas.List.Elements.{All-from_recursion, recursion_from_All}
 use Rattle.gf_int_theory.specs.Content.{scaled}
@@ -37,7 +38,8 @@ region-natural n k v r = All-from_recursion (λ x. pos 0 ≤ℤ x) v (at v (recu
 
 -- and positive
 pub region-positive : (n : ℕ) (k : Region) (v : List ℤ) → IsInRegion n k v → IsPositive n (gains v)
-region-positive n k v r i l = positive-gains v (All-from_recursion (λ x. pos 1 ≤ℤ x) v (at v (recursion_from_All (λ x. pos 0 <ℤ x) v r.positive))) i (omega (arith, l, r.width))
+region-positive n k v r i l = positive-gains v (All-from_recursion (λ x. pos 1 ≤ℤ x) v (at v (recursion_from_All (λ x. pos 0 <ℤ x) v r.positive))) i
+    (omega (arith, l, r.width))
   where
     at : (v : List ℤ) → AllByRecursion (λ x. pos 0 <ℤ x) v → AllByRecursion (λ x. pos 1 ≤ℤ x) v
     at [] h = tt
@@ -54,7 +56,8 @@ past m v a = vector_sum (scaled (pos m) v) (negated a)
 
 pub dot-past : (m : ℕ) (v a c : List ℤ) → length v ≡ length a →
     dot (past m v a) c ≡ pos m *ℤ dot v c +ℤ neg_ℤ (dot a c)
-dot-past m v a c e = dot-plus (scaled (pos m) v) (negated a) c (length-times (pos m) v ∙ e ∙ sym (length-negated a)) ∙ ap₂ ◌+ℤ◌ (dot-times (pos m) v c) (dot-negated a c)
+dot-past m v a c e = dot-plus (scaled (pos m) v) (negated a) c (length-times (pos m) v ∙ e ∙ sym (length-negated a)) ∙ ap₂ ◌+ℤ◌ (dot-times (pos m) v c)
+    (dot-negated a c)
 
 weight-past : (m : ℕ) (v a : List ℤ) (x : Exponents) → length v ≡ length a →
     whole_weight (past m v a) x ≡ pos m *ℤ whole_weight v x +ℤ neg_ℤ (whole_weight a x)
@@ -77,7 +80,8 @@ beats m x y h l =
 
 -- the numbers of a list are below some natural one
 pub bounds : {A : Type 0} (size : A → ℤ) (xs : List A) → (k : ℕ) × Each (λ (x : A). size x <ℤ pos k) xs
-bounds {A} size xs = collect (λ (x : A) k. size x <ℤ pos k) (λ x k l h p. omega (arith, ints, h, p)) xs (each_contained (λ (x : A). (k : ℕ) × (size x <ℤ pos k)) xs (λ x c. bound (size x)))
+bounds {A} size xs = collect (λ (x : A) k. size x <ℤ pos k) (λ x k l h p. omega (arith, ints, h, p)) xs (each_contained (λ (x : A). (k : ℕ) × (size x <ℤ pos k))
+    xs (λ x c. bound (size x)))
 
 -- the mark outweighs no monomial of b by m or more
 abbrev IsBounded : List ℤ → MarkedPolynomial → ℕ → Type 0
@@ -91,18 +95,23 @@ bounded a b = at (canonical b.poly)
 
     at : Canonical b.poly → (m : ℕ) × IsBounded a b m
     at c =
-        let k = bounds size c.terms in
-        (k.0, canonical_exponents (λ x. (whole_weight a b.head +ℤ neg_ℤ (whole_weight a x)) <ℤ pos k.0) b.poly c (λ x y s h. omega (arith, ints, h, whole_weight-same a x y s)) k.1)
+        let k = bounds size c.terms in (
+          k.0,
+          canonical_exponents (λ x. (whole_weight a b.head +ℤ neg_ℤ (whole_weight a x)) <ℤ pos k.0) b.poly c
+              (λ x y s h. omega (arith, ints, h, whole_weight-same a x y s)) k.1,
+        )
 
 all_bounded : (a : List ℤ) (bs : List MarkedPolynomial) → (m : ℕ) × Each (λ b. IsBounded a b m) bs
-all_bounded a bs = collect (λ b m. IsBounded a b m) (λ b k l h p x n. omega (arith, ints, h, p x n)) bs (each_contained (λ b. (m : ℕ) × IsBounded a b m) bs (λ b c. bounded a b))
+all_bounded a bs = collect (λ b m. IsBounded a b m) (λ b k l h p x n. omega (arith, ints, h, p x n)) bs (each_contained (λ b. (m : ℕ) × IsBounded a b m) bs
+    (λ b c. bounded a b))
 
 -- ---- the weight
 
 -- a vector that isn't zero has a positive square_not_negative
 pub dot-itself : (a : List ℤ) → IsNonzero a → pos 0 <ℤ dot a a
 dot-itself [] n = absurd (n.1 refl)
-dot-itself (x ∷ a) (zero, n) = let s = own_not_negative a in let z : (x *ℤ x ≡ pos 0) → ⊥ = (λ e. elim (zero_of_*ℤ x x e) [ inl p ↦ n p | inr p ↦ n p ]) in positive (x *ℤ x) (dot a a) (square_not_negative x) z s
+dot-itself (x ∷ a) (zero, n) = let s = own_not_negative a in let z : (x *ℤ x ≡ pos 0) → ⊥ =
+    (λ e. elim (zero_of_*ℤ x x e) [ inl p ↦ n p | inr p ↦ n p ]) in positive (x *ℤ x) (dot a a) (square_not_negative x) z s
   where
     positive : (p q : ℤ) → pos 0 ≤ℤ p → (p ≡ pos 0 → ⊥) → pos 0 ≤ℤ q → pos 0 <ℤ (p +ℤ q)
     positive (pos zero) q h n k = absurd (n refl)
@@ -141,13 +150,23 @@ beyond_weight n k v a bs r e nz o m = at (bounds (λ z. z) a) (bounds (λ c. dot
             AllByRecursion (λ c. pos 0 <ℤ dot c (past (p.0 + q.0 + s.0) v a)) cs
         rows [] f g = tt
         rows (c ∷ cs) f g = (
-          omega (arith, ints, beats (p.0 + q.0 + s.0) (dot c v) (dot c a) f.0 (omega (arith, ints, g.0)), dot_comm c (past (p.0 + q.0 + s.0) v a), dot-past (p.0 + q.0 + s.0) v a c lengths, dot_comm c v, dot_comm c a, ap (λ z. pos (p.0 + q.0 + s.0) *ℤ z) (dot_comm c v)),
+          omega (
+            arith,
+            ints,
+            beats (p.0 + q.0 + s.0) (dot c v) (dot c a) f.0 (omega (arith, ints, g.0)),
+            dot_comm c (past (p.0 + q.0 + s.0) v a),
+            dot-past (p.0 + q.0 + s.0) v a c lengths,
+            dot_comm c v,
+            dot_comm c a,
+            ap (λ z. pos (p.0 + q.0 + s.0) *ℤ z) (dot_comm c v),
+          ),
           rows cs f.1 g.1,
         )
 
         inside : IsInRegion n k u
         inside = record {
-          width = length-plus (scaled (pos (p.0 + q.0 + s.0)) v) (negated a) (length-times (pos (p.0 + q.0 + s.0)) v ∙ lengths ∙ sym (length-negated a)) ∙ length-times (pos (p.0 + q.0 + s.0)) v ∙ r.width;
+          width = length-plus (scaled (pos (p.0 + q.0 + s.0)) v) (negated a) (length-times (pos (p.0 + q.0 + s.0)) v ∙ lengths ∙ sym (length-negated a)) ∙
+              length-times (pos (p.0 + q.0 + s.0)) v ∙ r.width;
           positive = All-from_recursion (λ x. pos 0 <ℤ x) u (entries v a lengths (recursion_from_All (λ x. pos 0 <ℤ x) v r.positive) p.1);
           rows = All-from_recursion (λ c. pos 0 <ℤ dot c u) k.rows (rows k.rows (recursion_from_All (λ c. pos 0 <ℤ dot c v) k.rows r.rows) q.1);
         }
@@ -163,18 +182,39 @@ beyond_weight n k v a bs r e nz o m = at (bounds (λ z. z) a) (bounds (λ c. dot
             lower x h (inl t) = inl t
             lower x h (inr (inl l)) =
                 let f : (whole_weight a b.head +ℤ neg_ℤ (whole_weight a x)) <ℤ pos s.0 = contained_each (λ b. IsBounded a b s.0) bs s.1 b c x h in
-                let g = beats (p.0 + q.0 + s.0) (whole_weight v b.head +ℤ neg_ℤ (whole_weight v x)) (whole_weight a b.head +ℤ neg_ℤ (whole_weight a x)) (omega (arith, ints, l)) (omega (arith, ints, f)) in
+                let g = beats (p.0 + q.0 + s.0) (whole_weight v b.head +ℤ neg_ℤ (whole_weight v x)) (whole_weight a b.head +ℤ neg_ℤ (whole_weight a x))
+                (omega (arith, ints, l)) (omega (arith, ints, f)) in
                 let t = spread (pos (p.0 + q.0 + s.0)) (whole_weight v b.head) (whole_weight v x) in
-                inr (omega (arith, ints, g, t, natural x, natural b.head, weight-past (p.0 + q.0 + s.0) v a x lengths, weight-past (p.0 + q.0 + s.0) v a b.head lengths))
+                inr (omega (
+                  arith,
+                  ints,
+                  g,
+                  t,
+                  natural x,
+                  natural b.head,
+                  weight-past (p.0 + q.0 + s.0) v a x lengths,
+                  weight-past (p.0 + q.0 + s.0) v a b.head lengths,
+                ))
               where
                 spread : (m x y : ℤ) → m *ℤ (x +ℤ neg_ℤ y) ≡ m *ℤ x +ℤ neg_ℤ (m *ℤ y)
                 spread m x y = same_number (dv m ⊗ (dv x ⊕ dneg (dv y))) (dv m ⊗ dv x ⊕ dneg (dv m ⊗ dv y)) (omega arith)
             lower x h (inr (inr f)) =
                 let d = weight-apart v a x b.head (pos f.0) f.2 in
-                let w : whole_weight v x ≡ whole_weight v b.head = d ∙ ap (λ z. whole_weight v b.head +ℤ pos f.0 *ℤ z) o ∙ off (whole_weight v b.head) (pos f.0) in
+                let w : whole_weight v x ≡ whole_weight v b.head =
+                d ∙ ap (λ z. whole_weight v b.head +ℤ pos f.0 *ℤ z) o ∙ off (whole_weight v b.head) (pos f.0) in
                 let g = weight-apart a a x b.head (pos f.0) f.2 in
                 let t : pos 0 <ℤ (pos f.0 *ℤ dot a a) = 0<-*ℤ (pos f.0) (dot a a) (omega (arith, ints, f.1)) (dot-itself a nz) in
-                inr (omega (arith, ints, g, t, ap (λ z. pos (p.0 + q.0 + s.0) *ℤ z) w, natural x, natural b.head, weight-past (p.0 + q.0 + s.0) v a x lengths, weight-past (p.0 + q.0 + s.0) v a b.head lengths))
+                inr (omega (
+                  arith,
+                  ints,
+                  g,
+                  t,
+                  ap (λ z. pos (p.0 + q.0 + s.0) *ℤ z) w,
+                  natural x,
+                  natural b.head,
+                  weight-past (p.0 + q.0 + s.0) v a x lengths,
+                  weight-past (p.0 + q.0 + s.0) v a b.head lengths,
+                ))
               where
                 off : (x k : ℤ) → x +ℤ k *ℤ pos 0 ≡ x
                 off x k = same_number (dv x ⊕ dv k ⊗ dn 0) (dv x) (omega arith)

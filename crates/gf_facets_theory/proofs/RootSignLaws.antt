@@ -21,7 +21,8 @@ pub first-less : (xs : List ℤ) → first_sign xs ≡ Less → IsLexPositive (n
 first-less [] h = absurd (cc)
 first-less (x ∷ xs) h = at (int_cmp x (pos 0)) (int_ranked x (pos 0) (int_cmp x (pos 0)) refl) h (first-less xs)
   where
-    at : (o : Ordering) → MatchOrdering o (x <ℤ pos 0) (x ≡ pos 0) (pos 0 <ℤ x) → sign_or o (first_sign xs) ≡ Less → (first_sign xs ≡ Less → IsLexPositive (negated xs)) → IsLexPositive (negated (x ∷ xs))
+    at : (o : Ordering) → MatchOrdering o (x <ℤ pos 0) (x ≡ pos 0) (pos 0 <ℤ x) → sign_or o (first_sign xs) ≡ Less →
+        (first_sign xs ≡ Less → IsLexPositive (negated xs)) → IsLexPositive (negated (x ∷ xs))
     at Less m h rec = inl (omega (arith, ints, m))
     at Equal m h rec = inr (omega (arith, ints, m), rec h)
     at Greater m h rec = absurd (cc)
@@ -30,7 +31,8 @@ pub less-first : (xs : List ℤ) → IsLexPositive (negated xs) → first_sign x
 less-first [] h = absurd h
 less-first (x ∷ xs) h = at (int_cmp x (pos 0)) (int_ranked x (pos 0) (int_cmp x (pos 0)) refl) h (less-first xs)
   where
-    at : (o : Ordering) → MatchOrdering o (x <ℤ pos 0) (x ≡ pos 0) (pos 0 <ℤ x) → IsLexPositive (negated (x ∷ xs)) → (IsLexPositive (negated xs) → first_sign xs ≡ Less) → sign_or o (first_sign xs) ≡ Less
+    at : (o : Ordering) → MatchOrdering o (x <ℤ pos 0) (x ≡ pos 0) (pos 0 <ℤ x) → IsLexPositive (negated (x ∷ xs)) →
+        (IsLexPositive (negated xs) → first_sign xs ≡ Less) → sign_or o (first_sign xs) ≡ Less
     at Less m h rec = refl
     at Equal m (inl h) rec = absurd (omega (arith, ints, m, h))
     at Equal m (inr h) rec = rec h.1

@@ -1,7 +1,8 @@
 -- Rows and monomials: the row of each unmarked term is one of the rows, and each row is such a one.
 -- To cite: same_or_not, row-in, IsTermRow, row-from, term_of, monomial_of, length-differences, get-differences,
 -- dot-differences, differs, rows-append, rows_by_terms.
-use Rattle.std.proofs.Common.{◌≡◌, ◌⊎◌, ℕ, zero, suc, true, false, if◌then◌else◌, List, [], ◌∷◌, length, get_or, Contains, ℤ, pos, ◌+ℤ◌, ◌-ℤ◌, ◌*ℤ◌, arith, refl, sym, ap, ◌∙◌, subst, inl, inr}
+use Rattle.std.proofs.Common.{◌≡◌, ◌⊎◌, ℕ, zero, suc, true, false, if◌then◌else◌, List, [], ◌∷◌, length, get_or, Contains, ℤ, pos, ◌+ℤ◌, ◌-ℤ◌, ◌*ℤ◌, arith}
+use Rattle.std.proofs.Common.{refl, sym, ap, ◌∙◌, subst, inl, inr}
 use Rattle.std.proofs.lemmas.Int.{ints}
 use Rattle.std.proofs.lemmas.List.Elements.{Contains-append_left, Contains-append_right, Contains-append_cases}
 use Rattle.gf_int_theory.proofs.RingLaws.{dv, ◌⊕◌, ◌⊖◌, ◌⊗◌, same as same_number}
@@ -36,7 +37,8 @@ term-row x (s ∷ f) t c n = at (Contains-cases s t f c) (λ k. term-row x f t k
     at : (s ≡ t) ⊎ Contains f t → (Contains f t → Contains (rows_of_terms x f) (differences x t.mono)) →
         Contains (rows_of_terms x (s ∷ f)) (differences x t.mono)
     at (inl e) r = Contains-append_left (row_between x s.mono) (rows_of_terms x f) (differences x t.mono)
-        (subst (λ (u : Term). Contains (row_between x u.mono) (differences x t.mono)) (sym e) (subst (λ (z : List (List ℤ)). Contains z (differences x t.mono)) (sym (row-is x t.mono n)) (Contains-here (differences x t.mono) [])))
+        (subst (λ (u : Term). Contains (row_between x u.mono) (differences x t.mono)) (sym e) (subst (λ (z : List (List ℤ)). Contains z (differences x t.mono))
+        (sym (row-is x t.mono n)) (Contains-here (differences x t.mono) [])))
     at (inr k) r = Contains-append_right (row_between x s.mono) (rows_of_terms x f) (differences x t.mono) (r k)
 
 -- the row of an unmarked term is one of the rows
@@ -47,7 +49,8 @@ row-in (d ∷ bs) b t c k n = at (Contains-cases d b bs c) (λ l. row-in bs b t 
   where
     at : (d ≡ b) ⊎ Contains bs b → (Contains bs b → Contains (rows_of_polynomials bs) (differences b.head t.mono)) →
         Contains (rows_of_polynomials (d ∷ bs)) (differences b.head t.mono)
-    at (inl e) r = Contains-append_left (rows_of_terms d.head d.poly) (rows_of_polynomials bs) (differences b.head t.mono) (subst (λ (z : MarkedPolynomial). Contains (rows_of_terms z.head z.poly) (differences b.head t.mono)) (sym e) (term-row b.head b.poly t k n))
+    at (inl e) r = Contains-append_left (rows_of_terms d.head d.poly) (rows_of_polynomials bs) (differences b.head t.mono)
+        (subst (λ (z : MarkedPolynomial). Contains (rows_of_terms z.head z.poly) (differences b.head t.mono)) (sym e) (term-row b.head b.poly t k n))
     at (inr l) r = Contains-append_right (rows_of_terms d.head d.poly) (rows_of_polynomials bs) (differences b.head t.mono) (r l)
 
 -- the term that a row comes from
@@ -121,7 +124,8 @@ dot-differences [] (a ∷ x) (b ∷ y) e = omega (arith, ints)
 dot-differences (w ∷ v) [] [] e = omega (arith, ints)
 dot-differences (w ∷ v) [] (b ∷ y) e = absurd (omega arith)
 dot-differences (w ∷ v) (a ∷ x) [] e = absurd (omega arith)
-dot-differences (w ∷ v) (a ∷ x) (b ∷ y) e = ap (λ z. (pos a -ℤ pos b) *ℤ w +ℤ z) (dot-differences v x y (omega arith)) ∙ exchange w (pos a) (pos b) (whole_weight v x) (whole_weight v y)
+dot-differences (w ∷ v) (a ∷ x) (b ∷ y) e = ap (λ z. (pos a -ℤ pos b) *ℤ w +ℤ z) (dot-differences v x y (omega arith)) ∙ exchange w (pos a) (pos b)
+    (whole_weight v x) (whole_weight v y)
 
 -- monomials that differ do so in some variable
 pub differs : (x y : Exponents) → same x y ≡ false → (i : ℕ) × (entry x i ≡ entry y i → ⊥)

@@ -4,10 +4,12 @@
 -- inside_of_solution, HasVector, vector_or_none, marks_of_open, open_of_marks, whole_of, length-whole, whole-in_region,
 -- whole-weight, open_of_weight, positive_or_none, canonical_all, solvable_of_realisable, realisable_of_solution,
 -- marked_system_wide.
-use Rattle.std.proofs.Common.{◌≡◌, ◌⊎◌, ℕ, zero, suc, ◌<◌, true, List, [], ◌∷◌, ◌++◌, length, get_or, replicate, Contains, All, ℤ, pos, ◌<ℤ◌, arith, refl, sym, ap, ◌∙◌, inl, inr}
+use Rattle.std.proofs.Common.{◌≡◌, ◌⊎◌, ℕ, zero, suc, ◌<◌, true, List, [], ◌∷◌, ◌++◌, length, get_or, replicate, Contains, All, ℤ, pos, ◌<ℤ◌, arith, refl, sym}
+use Rattle.std.proofs.Common.{ap, ◌∙◌, inl, inr}
 use Rattle.std.proofs.lemmas.Int.{ints}
 use Rattle.std.proofs.lemmas.List.{get_or_default}
-use Rattle.std.proofs.lemmas.List.Elements.{All-nil, All-contains, All-append, All-replicate, Contains-append_left, Contains-append_right, Contains-append_cases}
+use Rattle.std.proofs.lemmas.List.Elements.{All-nil, All-contains, All-append, All-replicate, Contains-append_left, Contains-append_right}
+use Rattle.std.proofs.lemmas.List.Elements.{Contains-append_cases}
 use Rattle.gf_vec.specs.Vector.{dot}
 use Rattle.gf_gordan.specs.Alternative.{AreRows, IsSolution, IsSolvable, IsRefutable}
 use Rattle.gf_gordan.proofs.ExistenceLaws.{alternative}
@@ -43,21 +45,27 @@ region_rows_wide n k wide = All-append (λ t. length t ≡ n) k.rows (units n n)
 
 -- they are positive on the vectors of the region
 pub rows_of_region : (n : ℕ) (k : Region) (v : List ℤ) → IsInRegion n k v → All (λ t. pos 0 <ℤ dot t v) (k.rows ++ units n n)
-rows_of_region n k v r = All-append (λ t. pos 0 <ℤ dot t v) k.rows (units n n) r.rows (all_by (λ t. pos 0 <ℤ dot t v) (units n n) (units_on_positive n v r.width r.positive))
+rows_of_region n k v r = All-append (λ t. pos 0 <ℤ dot t v) k.rows (units n n) r.rows
+    (all_by (λ t. pos 0 <ℤ dot t v) (units n n) (units_on_positive n v r.width r.positive))
 
 -- and on no others
 pub region_of_rows : (n : ℕ) (k : Region) (v : List ℤ) → length v ≡ n → All (λ t. pos 0 <ℤ dot t v) (k.rows ++ units n n) → IsInRegion n k v
 region_of_rows n k v e h = record {
   width = e;
   positive = positive_by_units n v e (λ t c. All-contains (λ t. pos 0 <ℤ dot t v) (k.rows ++ units n n) t h (Contains-append_right k.rows (units n n) t c));
-  rows = all_by (λ t. pos 0 <ℤ dot t v) k.rows (λ t c. All-contains (λ t. pos 0 <ℤ dot t v) (k.rows ++ units n n) t h (Contains-append_left k.rows (units n n) t c));
+  rows = all_by (λ t. pos 0 <ℤ dot t v) k.rows (λ t c. All-contains (λ t. pos 0 <ℤ dot t v) (k.rows ++ units n n) t h
+      (Contains-append_left k.rows (units n n) t c));
 }
 
 -- all positive vectors are a region
 pub all_positive-region : (n : ℕ) → IsRegion n (all_positive n)
 all_positive-region n = record {
   widths = All-nil (λ t. length t ≡ n);
-  root = record { width = ones n; positive = All-replicate (λ x. pos 0 <ℤ x) n (pos 1) (omega (arith, ints)); rows = All-nil (λ c. pos 0 <ℤ dot c (replicate n (pos 1))) };
+  root = record {
+    width = ones n;
+    positive = All-replicate (λ x. pos 0 <ℤ x) n (pos 1) (omega (arith, ints));
+    rows = All-nil (λ c. pos 0 <ℤ dot c (replicate n (pos 1)));
+  };
 }
   where
     ones : (n : ℕ) → length (replicate n (pos 1)) ≡ n
@@ -73,7 +81,8 @@ row_wide n bs k t c = at (row-from bs t c)
     at : ((b : MarkedPolynomial) × Contains bs b × IsTermRow b.head b.poly t) → length t ≡ n
     at b =
         let h : length b.0.head ≡ n = (k b.0 b.1).head in
-        ap (λ (z : List ℤ). length z) b.2.row ∙ length-differences b.0.head b.2.term.mono (h ∙ sym (term_length n b.0.poly b.2.term (k b.0 b.1).variables b.2.inside)) ∙ h
+        ap (λ (z : List ℤ). length z) b.2.row ∙ length-differences b.0.head b.2.term.mono
+        (h ∙ sym (term_length n b.0.poly b.2.term (k b.0 b.1).variables b.2.inside)) ∙ h
 
 by_row : (P : List ℤ → Type 0) (n : ℕ) (rows : List (List ℤ)) (bs : List MarkedPolynomial) → ((t : List ℤ) → Contains rows t → P t) →
     ((t : List ℤ) → Contains (rows_of_polynomials bs) t → P t) → ((t : List ℤ) → Contains (units n n) t → P t) → All P (rows ++ system_of n bs)
@@ -96,7 +105,8 @@ pub solution_of_inside : (n : ℕ) (k : Region) (bs : List MarkedPolynomial) (v 
     IsInOpenCone v bs → IsSolution n (k.rows ++ system_of n bs) [] v
 solution_of_inside n k bs v c r h = record {
   width = r.width;
-  positive = by_row (λ t. pos 0 <ℤ dot t v) n k.rows bs (λ t i. All-contains (λ t. pos 0 <ℤ dot t v) k.rows t r.rows i) (rows_open n bs v c h) (units_on_positive n v r.width r.positive);
+  positive = by_row (λ t. pos 0 <ℤ dot t v) n k.rows bs (λ t i. All-contains (λ t. pos 0 <ℤ dot t v) k.rows t r.rows i) (rows_open n bs v c h)
+      (units_on_positive n v r.width r.positive);
   zero = All-nil (λ t. dot t v ≡ pos 0);
 }
 
@@ -106,7 +116,8 @@ pub inside_of_solution : (n : ℕ) (k : Region) (bs : List MarkedPolynomial) (v 
 inside_of_solution n k bs v c s = (
   record {
     width = s.width;
-    positive = positive_by_units n v s.width (λ t i. row t (Contains-append_right k.rows (system_of n bs) t (Contains-append_right (rows_of_polynomials bs) (units n n) t i)));
+    positive = positive_by_units n v s.width (λ t i. row t (Contains-append_right k.rows (system_of n bs) t
+        (Contains-append_right (rows_of_polynomials bs) (units n n) t i)));
     rows = all_by (λ t. pos 0 <ℤ dot t v) k.rows (λ t i. row t (Contains-append_left k.rows (system_of n bs) t i));
   },
   open_by_rows n bs v c (λ t i. row t (Contains-append_right k.rows (system_of n bs) t (Contains-append_left (rows_of_polynomials bs) (units n n) t i))),
@@ -189,7 +200,8 @@ entry-whole (suc n) (a ∷ w) (suc i) l = entry-whole n w i (omega arith)
 pub whole-in_region : (n : ℕ) (w : List ℕ) → IsPositive n w → IsInRegion n (all_positive n) (whole_of n w)
 whole-in_region n w p = record {
   width = length-whole n w;
-  positive = λ i d l. (let e = entry-whole n w i (omega (arith, l, length-whole n w)) in let q = p i (omega (arith, l, length-whole n w)) in let g = get_or_default (whole_of n w) i (pos 0) d l in omega (arith, ints, e, q, g));
+  positive = λ i d l. (let e = entry-whole n w i (omega (arith, l, length-whole n w)) in let q = p i (omega (arith, l, length-whole n w)) in let g =
+      get_or_default (whole_of n w) i (pos 0) d l in omega (arith, ints, e, q, g));
   rows = All-nil (λ c. pos 0 <ℤ dot c (whole_of n w));
 }
 
@@ -228,13 +240,17 @@ positive_or_none n bs c one = at (vector_or_none n (all_positive n) bs (All-nil 
 -- ---- with any marked coefficients
 
 pub canonical_all : (n : ℕ) (bs : List MarkedPolynomial) → HaveVariables n bs → Each HasMarkedTerm bs → AreCanonical n bs
-canonical_all n bs v m b c = canonical_marked n b (contained_each (λ (b : MarkedPolynomial). HasVariables n b.poly) bs v b c) (contained_each HasMarkedTerm bs m b c)
+canonical_all n bs v m b c = canonical_marked n b (contained_each (λ (b : MarkedPolynomial). HasVariables n b.poly) bs v b c)
+    (contained_each HasMarkedTerm bs m b c)
 
 -- a positive weight that gives the marks solves the system
 pub solvable_of_realisable : (n : ℕ) (bs : List MarkedPolynomial) → HaveVariables n bs → Each HasMarkedTerm bs → IsRealisable n bs →
     IsSolvable n (system_of n bs) []
-solvable_of_realisable n bs v m r =
-    (whole_of n r.0, solution_of_inside n (all_positive n) bs (whole_of n r.0) (canonical_all n bs v m) (whole-in_region n r.0 r.1) (open_of_weight n r.0 bs (canonical_all n bs v m) r.2))
+solvable_of_realisable n bs v m r = (
+  whole_of n r.0,
+  solution_of_inside n (all_positive n) bs (whole_of n r.0) (canonical_all n bs v m) (whole-in_region n r.0 r.1)
+      (open_of_weight n r.0 bs (canonical_all n bs v m) r.2),
+)
 
 -- and a solution is such a weight
 pub realisable_of_solution : (n : ℕ) (bs : List MarkedPolynomial) (v : List ℤ) → HaveVariables n bs → Each HasMarkedTerm bs →

@@ -1,7 +1,8 @@
 -- From a vector w inside a cone towards the root: which normals are crossed first.
 -- `turned w r b c` is positive at its first nonzero entry where b is crossed before c. It is linear in c.
 -- To cite: turned, turned-linear, turned-self, turned_cases, turned_trans, turned_negative, turned_far, turned_beyond.
-use Rattle.std.proofs.Common.{◌≡◌, ◌⊎◌, ℕ, zero, suc, List, [], ◌∷◌, length, ℤ, pos, negsuc, neg_ℤ, ◌+ℤ◌, ◌*ℤ◌, ◌<ℤ◌, arith, sym, refl, ap, ap₂, ◌∙◌, subst, inl, inr}
+use Rattle.std.proofs.Common.{◌≡◌, ◌⊎◌, ℕ, zero, suc, List, [], ◌∷◌, length, ℤ, pos, negsuc, neg_ℤ, ◌+ℤ◌, ◌*ℤ◌, ◌<ℤ◌, arith, sym, refl, ap, ap₂, ◌∙◌, subst}
+use Rattle.std.proofs.Common.{inl, inr}
 use Rattle.std.proofs.lemmas.Int.{ints}
 use Rattle.gf_int_theory.specs.Content.{scaled}
 use Rattle.gf_int_theory.proofs.RingLaws.{same as same_number, ◌⊗◌, ◌⊕◌, dv, dneg}
@@ -18,9 +19,11 @@ pub mixed : ℤ → List ℤ → ℤ → List ℤ → List ℤ
 mixed k x m s = vector_sum (scaled k x) (scaled (neg_ℤ m) s)
 
 sum_entry : (k x y m p s : ℤ) → k *ℤ (x +ℤ y) +ℤ neg_ℤ (m +ℤ p) *ℤ s ≡ (k *ℤ x +ℤ neg_ℤ m *ℤ s) +ℤ (k *ℤ y +ℤ neg_ℤ p *ℤ s)
-sum_entry k x y m p s = same_number (dv k ⊗ (dv x ⊕ dv y) ⊕ dneg (dv m ⊕ dv p) ⊗ dv s) ((dv k ⊗ dv x ⊕ dneg (dv m) ⊗ dv s) ⊕ (dv k ⊗ dv y ⊕ dneg (dv p) ⊗ dv s)) (omega arith)
+sum_entry k x y m p s = same_number (dv k ⊗ (dv x ⊕ dv y) ⊕ dneg (dv m ⊕ dv p) ⊗ dv s) ((dv k ⊗ dv x ⊕ dneg (dv m) ⊗ dv s) ⊕ (dv k ⊗ dv y ⊕ dneg (dv p) ⊗ dv s))
+    (omega arith)
 
-mixed-sum : (k m p : ℤ) (x y s : List ℤ) → length x ≡ length s → length y ≡ length s → mixed k (vector_sum x y) (m +ℤ p) s ≡ vector_sum (mixed k x m s) (mixed k y p s)
+mixed-sum : (k m p : ℤ) (x y s : List ℤ) → length x ≡ length s → length y ≡ length s →
+    mixed k (vector_sum x y) (m +ℤ p) s ≡ vector_sum (mixed k x m s) (mixed k y p s)
 unfolding mixed
 mixed-sum k m p [] [] [] e f = refl
 mixed-sum k m p [] y (t ∷ s) e f = absurd (omega arith)
@@ -53,7 +56,8 @@ unfolding mixed
 mixed-zeros k [] zero e = refl
 mixed-zeros k [] (suc n) e = absurd (omega arith)
 mixed-zeros k (t ∷ s) zero e = absurd (omega arith)
-mixed-zeros k (t ∷ s) (suc n) e = ap₂ ◌∷◌ (same_number (dv k ⊗ dv (pos 0) ⊕ dneg (dv (pos 0)) ⊗ dv t) (dv (pos 0)) (omega arith)) (mixed-zeros k s n (omega arith))
+mixed-zeros k (t ∷ s) (suc n) e = ap₂ ◌∷◌ (same_number (dv k ⊗ dv (pos 0) ⊕ dneg (dv (pos 0)) ⊗ dv t) (dv (pos 0)) (omega arith))
+    (mixed-zeros k s n (omega arith))
 
 mixed-back : (k m : ℤ) (x s : List ℤ) → length x ≡ length s → negated (mixed k x m s) ≡ mixed m s k x
 unfolding mixed
@@ -61,11 +65,13 @@ mixed-back k m [] [] e = refl
 mixed-back k m [] (t ∷ s) e = absurd (omega arith)
 mixed-back k m (a ∷ x) [] e = absurd (omega arith)
 mixed-back k m (a ∷ x) (t ∷ s) e =
-    ap₂ ◌∷◌ (same_number (dv (negsuc 0) ⊗ (dv k ⊗ dv a ⊕ dneg (dv m) ⊗ dv t)) (dv m ⊗ dv t ⊕ dneg (dv k) ⊗ dv a) (omega arith)) (mixed-back k m x s (omega arith))
+    ap₂ ◌∷◌ (same_number (dv (negsuc 0) ⊗ (dv k ⊗ dv a ⊕ dneg (dv m) ⊗ dv t)) (dv m ⊗ dv t ⊕ dneg (dv k) ⊗ dv a) (omega arith))
+    (mixed-back k m x s (omega arith))
 
 chain_entry : (p q s b c d : ℤ) → q *ℤ (p *ℤ d +ℤ neg_ℤ s *ℤ b) ≡ p *ℤ (q *ℤ d +ℤ neg_ℤ s *ℤ c) +ℤ s *ℤ (p *ℤ c +ℤ neg_ℤ q *ℤ b)
 chain_entry p q s b c d =
-    same_number (dv q ⊗ (dv p ⊗ dv d ⊕ dneg (dv s) ⊗ dv b)) (dv p ⊗ (dv q ⊗ dv d ⊕ dneg (dv s) ⊗ dv c) ⊕ dv s ⊗ (dv p ⊗ dv c ⊕ dneg (dv q) ⊗ dv b)) (omega arith)
+    same_number (dv q ⊗ (dv p ⊗ dv d ⊕ dneg (dv s) ⊗ dv b)) (dv p ⊗ (dv q ⊗ dv d ⊕ dneg (dv s) ⊗ dv c) ⊕ dv s ⊗ (dv p ⊗ dv c ⊕ dneg (dv q) ⊗ dv b))
+    (omega arith)
 
 mixed-chain : (p q s : ℤ) (b c d : List ℤ) → length b ≡ length d → length c ≡ length d →
     scaled q (mixed p d s b) ≡ vector_sum (scaled p (mixed q d s c)) (scaled s (mixed p c q b))
@@ -93,22 +99,26 @@ mixed-equal k m (a ∷ x) (t ∷ s) e z =
 -- k x - m s is lex-positive where x and the negative of s are
 mixed-positive : (k m : ℤ) (x s : List ℤ) → pos 0 <ℤ k → pos 0 <ℤ m → IsLexPositive x → IsLexPositive (negated s) → IsLexPositive (mixed k x m s)
 unfolding mixed
-mixed-positive k m x s hk hm p q = subst (λ v. IsLexPositive (vector_sum (scaled k x) v)) (turn s) (lex-plus (scaled k x) (scaled m (negated s)) (lex-times k x hk p) (lex-times m (negated s) hm q))
+mixed-positive k m x s hk hm p q = subst (λ v. IsLexPositive (vector_sum (scaled k x) v)) (turn s)
+    (lex-plus (scaled k x) (scaled m (negated s)) (lex-times k x hk p) (lex-times m (negated s) hm q))
   where
     turn : (s : List ℤ) → scaled m (negated s) ≡ scaled (neg_ℤ m) s
     turn [] = refl
     turn (t ∷ s) = ap₂ ◌∷◌ (same_number (dv m ⊗ (dv (negsuc 0) ⊗ dv t)) (dneg (dv m) ⊗ dv t) (omega arith)) (turn s)
 
 -- k x - m s is lex-positive, and so is the negative of x: then that of s is
-mixed-negative : (k m : ℤ) (x s : List ℤ) → length x ≡ length s → pos 0 <ℤ k → pos 0 <ℤ m → IsLexPositive (mixed k x m s) → IsLexPositive (negated x) → IsLexPositive (negated s)
+mixed-negative : (k m : ℤ) (x s : List ℤ) → length x ≡ length s → pos 0 <ℤ k → pos 0 <ℤ m → IsLexPositive (mixed k x m s) → IsLexPositive (negated x) →
+    IsLexPositive (negated s)
 unfolding mixed
-mixed-negative k m x s e hk hm p q = lex-untimes m (negated s) hm (subst IsLexPositive (sums x s e) (lex-plus (vector_sum (scaled k x) (scaled (neg_ℤ m) s)) (scaled k (negated x)) p (lex-times k (negated x) hk q)))
+mixed-negative k m x s e hk hm p q = lex-untimes m (negated s) hm
+    (subst IsLexPositive (sums x s e) (lex-plus (vector_sum (scaled k x) (scaled (neg_ℤ m) s)) (scaled k (negated x)) p (lex-times k (negated x) hk q)))
   where
     sums : (x s : List ℤ) → length x ≡ length s → vector_sum (vector_sum (scaled k x) (scaled (neg_ℤ m) s)) (scaled k (negated x)) ≡ scaled m (negated s)
     sums [] [] e = refl
     sums [] (t ∷ s) e = absurd (omega arith)
     sums (a ∷ x) [] e = absurd (omega arith)
-    sums (a ∷ x) (t ∷ s) e = ap₂ ◌∷◌ (same_number ((dv k ⊗ dv a ⊕ dneg (dv m) ⊗ dv t) ⊕ dv k ⊗ (dv (negsuc 0) ⊗ dv a)) (dv m ⊗ (dv (negsuc 0) ⊗ dv t)) (omega arith)) (sums x s (omega arith))
+    sums (a ∷ x) (t ∷ s) e = ap₂ ◌∷◌ (same_number ((dv k ⊗ dv a ⊕ dneg (dv m) ⊗ dv t) ⊕ dv k ⊗ (dv (negsuc 0) ⊗ dv a)) (dv m ⊗ (dv (negsuc 0) ⊗ dv t))
+        (omega arith)) (sums x s (omega arith))
 
 -- ---- turning from w to the root
 unfoldable pub turned : List ℤ → List ℤ → List ℤ → List ℤ → List ℤ
@@ -133,10 +143,12 @@ unfolding turned
 turned-self n w r b e = mixed-self (dot b w) (rooted r b) ∙ ap (λ k. zeros (suc k)) e
 
 -- one is crossed first, or the two are proportional
-pub turned_cases : (w r b c : List ℤ) → length b ≡ length c → (scaled (dot b w) c ≡ scaled (dot c w) b) ⊎ (IsLexPositive (turned w r b c) ⊎ IsLexPositive (turned w r c b))
+pub turned_cases : (w r b c : List ℤ) → length b ≡ length c →
+    (scaled (dot b w) c ≡ scaled (dot c w) b) ⊎ (IsLexPositive (turned w r b c) ⊎ IsLexPositive (turned w r c b))
 unfolding turned
 turned_cases w r b c e = elim (lex-cases (mixed (dot b w) (rooted r c) (dot c w) (rooted r b))) [
-  | inl z ↦ inl (tails (mixed-equal (dot b w) (dot c w) (rooted r c) (rooted r b) (omega (arith, e)) (z ∙ ap zeros (length-mixed (dot b w) (dot c w) (rooted r c) (rooted r b) (omega (arith, e))))))
+  | inl z ↦ inl (tails (mixed-equal (dot b w) (dot c w) (rooted r c) (rooted r b)
+      (omega (arith, e)) (z ∙ ap zeros (length-mixed (dot b w) (dot c w) (rooted r c) (rooted r b) (omega (arith, e))))))
   | inr k ↦ inr (elim k [
     | inl p ↦ inl p
     | inr q ↦ inr (subst IsLexPositive (mixed-back (dot b w) (dot c w) (rooted r c) (rooted r b) (omega (arith, e))) q)
@@ -150,11 +162,13 @@ pub turned_trans : (w r b c d : List ℤ) → length b ≡ length d → length c
     IsLexPositive (turned w r b c) → IsLexPositive (turned w r c d) → IsLexPositive (turned w r b d)
 unfolding turned
 turned_trans w r b c d e f pb pc pd h k =
-    lex-untimes (dot c w) _ pc (subst IsLexPositive (sym (mixed-chain (dot b w) (dot c w) (dot d w) (rooted r b) (rooted r c) (rooted r d) (omega (arith, e)) (omega (arith, f))))
+    lex-untimes (dot c w) _ pc (subst IsLexPositive (sym (mixed-chain (dot b w) (dot c w) (dot d w) (rooted r b) (rooted r c) (rooted r d)
+    (omega (arith, e)) (omega (arith, f))))
     (lex-plus _ _ (lex-times (dot b w) _ pb k) (lex-times (dot d w) _ pd h)))
 
 -- what is crossed before a negative normal is negative
-pub turned_negative : (w r a b : List ℤ) → length a ≡ length b → pos 0 <ℤ dot a w → pos 0 <ℤ dot b w → IsLexPositive (turned w r a b) → IsNegative r b → IsNegative r a
+pub turned_negative : (w r a b : List ℤ) → length a ≡ length b → pos 0 <ℤ dot a w → pos 0 <ℤ dot b w → IsLexPositive (turned w r a b) → IsNegative r b →
+    IsNegative r a
 unfolding turned
 turned_negative w r a b e pa pb h k = mixed-negative (dot a w) (dot b w) (rooted r b) (rooted r a) (omega (arith, e)) pa pb h k
 

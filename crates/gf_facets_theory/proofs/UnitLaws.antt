@@ -1,6 +1,7 @@
 -- Unit vectors: what they give, and which vectors they are positive on.
 -- To cite: length-unit, dot-unit, unit_of, unit_there, units_wide, units_on_positive, positive_by_units.
-use Rattle.std.proofs.Common.{◌≡◌, ℕ, zero, suc, ◌<◌, List, [], ◌∷◌, ◌++◌, length, Contains, All, ℤ, pos, ◌+ℤ◌, ◌*ℤ◌, ◌<ℤ◌, arith, refl, sym, ap, ◌∙◌, subst, inl, inr, get_or}
+use Rattle.std.proofs.Common.{◌≡◌, ℕ, zero, suc, ◌<◌, List, [], ◌∷◌, ◌++◌, length, Contains, All, ℤ, pos, ◌+ℤ◌, ◌*ℤ◌, ◌<ℤ◌, arith, refl, sym, ap, ◌∙◌, subst}
+use Rattle.std.proofs.Common.{inl, inr, get_or}
 use Rattle.std.proofs.lemmas.Bool.{cases_lt}
 use Rattle.std.proofs.lemmas.Int.{ints}
 use Rattle.std.proofs.lemmas.List.{get_or_default}
@@ -36,7 +37,8 @@ pub unit_there : (n k i : ℕ) → i < k → Contains (units n k) (unit n i)
 unit_there n zero i l = absurd (omega arith)
 unit_there n (suc k) i l = elim (cases_lt i k) [
   | inl s ↦ Contains-append_left (units n k) (unit n k ∷ []) (unit n i) (unit_there n k i s)
-  | inr g ↦ (let e : k ≡ i = omega arith in subst (λ (j : ℕ). Contains (units n k ++ unit n k ∷ []) (unit n j)) e (Contains-append_right (units n k) (unit n k ∷ []) (unit n k) (Contains-here (unit n k) [])))
+  | inr g ↦ (let e : k ≡ i = omega arith in subst (λ (j : ℕ). Contains (units n k ++ unit n k ∷ []) (unit n j)) e
+      (Contains-append_right (units n k) (unit n k ∷ []) (unit n k) (Contains-here (unit n k) [])))
 ]
 
 pub units_wide : (n k : ℕ) (t : List ℤ) → Contains (units n k) t → length t ≡ n

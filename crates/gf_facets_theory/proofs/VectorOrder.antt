@@ -33,7 +33,8 @@ vectors_compare [] (y ∷ b) = tt
 vectors_compare (x ∷ a) [] = tt
 vectors_compare (x ∷ a) (y ∷ b) = at (int_cmp x y) (int_ranked x y (int_cmp x y) refl) (vectors_compare a b)
   where
-    tail : (p : Ordering) → x ≡ y → MatchOrdering p (IsBefore a b) (a ≡ b) (IsBefore b a) → MatchOrdering p (IsBefore (x ∷ a) (y ∷ b)) ((x ∷ a) ≡ (y ∷ b)) (IsBefore (y ∷ b) (x ∷ a))
+    tail : (p : Ordering) → x ≡ y → MatchOrdering p (IsBefore a b) (a ≡ b) (IsBefore b a) →
+        MatchOrdering p (IsBefore (x ∷ a) (y ∷ b)) ((x ∷ a) ≡ (y ∷ b)) (IsBefore (y ∷ b) (x ∷ a))
     tail Less e h = inr (e, h)
     tail Equal e h = ap₂ ◌∷◌ e h
     tail Greater e h = inr (sym e, h)

@@ -33,7 +33,8 @@ weight-sum [] [] x e = refl
 weight-sum [] (b ∷ w) x e = absurd (omega arith)
 weight-sum (a ∷ v) [] x e = absurd (omega arith)
 weight-sum (a ∷ v) (b ∷ w) [] e = refl
-weight-sum (a ∷ v) (b ∷ w) (c ∷ x) e = ap (λ z. (a +ℤ b) *ℤ pos c +ℤ z) (weight-sum v w x (omega arith)) ∙ spread a b (pos c) (whole_weight v x) (whole_weight w x)
+weight-sum (a ∷ v) (b ∷ w) (c ∷ x) e = ap (λ z. (a +ℤ b) *ℤ pos c +ℤ z) (weight-sum v w x (omega arith)) ∙ spread a b (pos c) (whole_weight v x)
+    (whole_weight w x)
 
 pub weight-multiple : (k : ℤ) (v : List ℤ) (x : Exponents) → whole_weight (scaled k v) x ≡ k *ℤ whole_weight v x
 weight-multiple k [] x = sym (*ℤ-zero k)
@@ -60,7 +61,8 @@ weight-apart v [] x y k h =
     omega (arith, ints, whole_weight-same v x y s, *ℤ-zero k)
 weight-apart [] (b ∷ a) x y k h = omega (arith, ints, *ℤ-zero k)
 weight-apart (w ∷ v) (b ∷ a) x y k h =
-    let r = weight-apart v a (rest x) (rest y) k (λ i. ap pos (entry-rest x i) ∙ h (suc i) ∙ ap (λ z. pos z +ℤ k *ℤ get_or a i (pos 0)) (sym (entry-rest y i))) in
+    let r = weight-apart v a (rest x) (rest y) k (λ i. ap pos (entry-rest x i) ∙ h (suc i) ∙ ap (λ z. pos z +ℤ k *ℤ get_or a i (pos 0))
+    (sym (entry-rest y i))) in
     omega (arith, ints, front_weight w v x, front_weight w v y, scaled_number w (pos (entry x 0)) (pos (entry y 0)) k b (h 0), r, *ℤ-+ℤ k (b *ℤ w) (dot a v))
 
 -- further along a vector that v is orthogonal to: of the same weight
@@ -125,7 +127,12 @@ sums a b c x j k p q = p ∙ ap (λ z. z +ℤ pos j *ℤ x) q ∙ same_number (d
 pub further-strict : (a : List ℤ) → IsNonzero a → IsStrict (IsFurther a)
 further-strict a n = record {
   irreflexive = λ x y s h. n.1 (no_multiple h.0 (get_or a n.0 (pos 0)) h.1 (omega (arith, ints, h.2 n.0, entries_same x y s n.0)));
-  transitive = λ x y z h k. (h.0 + k.0, omega (arith, h.1), λ i. sums (pos (entry x i)) (pos (entry y i)) (pos (entry z i)) (get_or a i (pos 0)) h.0 k.0 (h.2 i) (k.2 i));
+  transitive = λ x y z h k. (
+    h.0 + k.0,
+    omega (arith, h.1),
+    λ i. sums (pos (entry x i)) (pos (entry y i)) (pos (entry z i)) (get_or a i (pos 0)) h.0 k.0 (h.2 i)
+        (k.2 i),
+  );
   invariant = λ z x y h. (h.0, h.1, λ i. omega (arith, ints, h.2 i, entry-plus z x i, entry-plus z y i));
   along_left = λ x y z s h. (h.0, h.1, λ i. ap pos (sym (entries_same x y s i)) ∙ h.2 i);
   along_right = λ x y z s h. (h.0, h.1, λ i. h.2 i ∙ ap (λ e. pos e +ℤ pos h.0 *ℤ get_or a i (pos 0)) (entries_same y z s i));

@@ -32,7 +32,8 @@ use Rattle.gf_fan.proofs.UnderMaximal.{lists_less_never}
 -- ---- lists
 
 -- the ranks of cones that stand by them ascend
-ranks_ascend : (cones : List FanCone) → AllPairs (λ (k l : FanCone). slice_cmp nat_cmp (rank_of k) (rank_of l) ≡ Less) cones → AllPairs (λ x y. slice_cmp nat_cmp x y ≡ Less) (map rank_of cones)
+ranks_ascend : (cones : List FanCone) → AllPairs (λ (k l : FanCone). slice_cmp nat_cmp (rank_of k) (rank_of l) ≡ Less) cones →
+    AllPairs (λ x y. slice_cmp nat_cmp x y ≡ Less) (map rank_of cones)
 ranks_ascend [] a i j d h l = absurd (omega (arith, l))
 ranks_ascend (c ∷ cs) a i j d h l =
     let long = length-map (c ∷ cs) rank_of in
@@ -63,10 +64,13 @@ number_listed rays numbers v a c =
     subst (Contains rays) m.1.1 (Contains-get_or rays m.0 [] h)
 
 -- numbers of the same vectors
-same_numbered : (rays : List (List ℤ)) (xs ys : List ℕ) → AllPairs (λ x y. slice_cmp int_cmp x y ≡ Less) rays → AreNumbers rays xs → AreNumbers rays ys → numbered rays xs ≡ numbered rays ys → xs ≡ ys
+same_numbered : (rays : List (List ℤ)) (xs ys : List ℕ) → AllPairs (λ x y. slice_cmp int_cmp x y ≡ Less) rays → AreNumbers rays xs → AreNumbers rays ys →
+    numbered rays xs ≡ numbered rays ys → xs ≡ ys
 same_numbered rays xs ys a p q e = same_numbers xs ys p.ascending q.ascending
-    (λ i c. number_in rays ys i a q (All-contains (λ j. j < length rays) xs i p.inside c) (subst (λ l. Contains l (get_or rays i [])) e (at_number rays xs i c)))
-    (λ i c. number_in rays xs i a p (All-contains (λ j. j < length rays) ys i q.inside c) (subst (λ l. Contains l (get_or rays i [])) (sym e) (at_number rays ys i c)))
+    (λ i c. number_in rays ys i a q (All-contains (λ j. j < length rays) xs i p.inside c)
+    (subst (λ l. Contains l (get_or rays i [])) e (at_number rays xs i c)))
+    (λ i c. number_in rays xs i a p (All-contains (λ j. j < length rays) ys i q.inside c) (subst (λ l. Contains l (get_or rays i [])) (sym e)
+    (at_number rays ys i c)))
 
 none_given : {X : Type 0} (xs : List X) → ((x : X) → Contains xs x → ⊥) → xs ≡ []
 none_given [] f = refl
@@ -82,7 +86,8 @@ one_complement n lin lines xs ys e a b = one_basis n ys xs c.width a.width c.ech
     within : (us vs : List (List ℤ)) → IsComplementBasis n lin us → IsComplementBasis n lin vs → (v : List ℤ) → Contains us v → Made n [] vs v
     within us vs p q v k =
         let lv : length v ≡ n = All-contains (λ t. length t ≡ n) us v p.width k in
-        generated-made n [] vs v (no_widths n) q.width ((q.spans v lv).0 ((p.spans v lv).1 (made-generated n [] us v (no_widths n) p.width (own_member n us v lv k))))
+        generated-made n [] vs v (no_widths n) q.width ((q.spans v lv).0
+        ((p.spans v lv).1 (made-generated n [] us v (no_widths n) p.width (own_member n us v lv k))))
 
 -- ---- one way
 
@@ -91,16 +96,19 @@ abbrev AreAmong : ℕ → FanLists → FanLists → Type 0
 AreAmong n f g = (k : FanCone) → Contains f.cones k → (l : FanCone) × (Contains g.cones l × SameCone n (rows_of k.cone) (rows_of l.cone))
 
 -- a cone that a fan is of is one of its cones
-given_cone : (n : ℕ) (given : List RowsAndRays) (f : FanLists) (c : RowsAndRays) → IsFanOf n given f → Contains given c → (k : FanCone) × (Contains f.cones k × (c.rays ≡ numbered f.rays k.numbers))
+given_cone : (n : ℕ) (given : List RowsAndRays) (f : FanLists) (c : RowsAndRays) → IsFanOf n given f → Contains given c →
+    (k : FanCone) × (Contains f.cones k × (c.rays ≡ numbered f.rays k.numbers))
 given_cone n given f c s i =
     let a = s.cones.every c [] i (all_by (Contains c.inequalities) [] (λ t k. absurd (none_in t k))) in
     let k : FanCone = a.1 in let some : List (List ℤ) = numbered f.rays k.numbers in
-    let r : IsRays n c.inequalities c.equations f.lineality some = subst (λ z. IsRays n c.inequalities z f.lineality some) (append-nil c.equations) a.4.are_rays in
+    let r : IsRays n c.inequalities c.equations f.lineality some =
+    subst (λ z. IsRays n c.inequalities z f.lineality some) (append-nil c.equations) a.4.are_rays in
     (k, ((a.0, a.2, a.3), (rays_determined n (rows_of c) (rows_of c) c.lineality c.rays f.lineality some (λ v l. (λ x. x, λ x. x)) (s.own c i) r).1))
 
 module _ (n : ℕ) (ps qs : List RowsAndRays) (f g : FanLists) (s : IsFanOf n ps f) (t : IsFanOf n qs g) where
   -- the lineality basis and the rays of a cone
-  parts_of : (k l : FanCone) → Contains f.cones k → Contains g.cones l → SameCone n (rows_of k.cone) (rows_of l.cone) → (f.lineality ≡ g.lineality) × (numbered f.rays k.numbers ≡ numbered g.rays l.numbers)
+  parts_of : (k l : FanCone) → Contains f.cones k → Contains g.cones l → SameCone n (rows_of k.cone) (rows_of l.cone) →
+      (f.lineality ≡ g.lineality) × (numbered f.rays k.numbers ≡ numbered g.rays l.numbers)
   parts_of k l ck cl w = rays_determined n (rows_of k.cone) (rows_of l.cone) f.lineality (numbered f.rays k.numbers) g.lineality (numbered g.rays l.numbers) w
       (own_rays n ps f.lineality f.rays k (s.cones.each k ck)) (own_rays n qs g.lineality g.rays l (t.cones.each l cl))
 
@@ -126,15 +134,19 @@ module _ (n : ℕ) (ps qs : List RowsAndRays) (f g : FanLists) (s : IsFanOf n ps
       (parts_of k l.0 c l.1.0 l.1.1).0
 
   -- where it stands
-  same_rank : f.lineality ≡ g.lineality → f.rays ≡ g.rays → (k l : FanCone) → Contains f.cones k → Contains g.cones l → SameCone n (rows_of k.cone) (rows_of l.cone) → rank_of k ≡ rank_of l
+  same_rank : f.lineality ≡ g.lineality → f.rays ≡ g.rays → (k l : FanCone) → Contains f.cones k → Contains g.cones l →
+      SameCone n (rows_of k.cone) (rows_of l.cone) → rank_of k ≡ rank_of l
   same_rank el er k l ck cl w =
       let a = s.cones.each k ck in let b = t.cones.each l cl in
       let listed : AreNumbers f.rays l.numbers = subst (λ z. AreNumbers z l.numbers) (sym er) b.face.listed in
-      let spans : HasDimension n (numbered f.rays l.numbers ++ f.lineality) l.dim = subst (λ z. HasDimension n (numbered f.rays l.numbers ++ z) l.dim) (sym el) (subst (λ z. HasDimension n (numbered z l.numbers ++ g.lineality) l.dim) (sym er) b.face.spans) in
-      let e : numbered f.rays k.numbers ≡ numbered f.rays l.numbers = subst (λ z. numbered f.rays k.numbers ≡ numbered z l.numbers) (sym er) (parts_of k l ck cl w).1 in
+      let spans : HasDimension n (numbered f.rays l.numbers ++ f.lineality) l.dim = subst (λ z. HasDimension n (numbered f.rays l.numbers ++ z) l.dim) (sym el)
+      (subst (λ z. HasDimension n (numbered z l.numbers ++ g.lineality) l.dim) (sym er) b.face.spans) in
+      let e : numbered f.rays k.numbers ≡ numbered f.rays l.numbers =
+      subst (λ z. numbered f.rays k.numbers ≡ numbered z l.numbers) (sym er) (parts_of k l ck cl w).1 in
       one_dimension n ps f.lineality f.rays k l a spans (same_numbered f.rays k.numbers l.numbers s.rays.ascending a.face.listed listed e)
 
-  ranks_among : f.lineality ≡ g.lineality → f.rays ≡ g.rays → AreAmong n f g → (x : List ℕ) → Contains (map rank_of f.cones) x → Contains (map rank_of g.cones) x
+  ranks_among : f.lineality ≡ g.lineality → f.rays ≡ g.rays → AreAmong n f g → (x : List ℕ) → Contains (map rank_of f.cones) x →
+      Contains (map rank_of g.cones) x
   ranks_among el er w x c =
       let k = of_map rank_of f.cones x c in
       let l = w k.0 k.1.0 in
@@ -142,16 +154,20 @@ module _ (n : ℕ) (ps qs : List RowsAndRays) (f g : FanLists) (s : IsFanOf n ps
 
 -- ---- both ways
 
-turned : (n : ℕ) (f g : FanLists) → ((k : FanCone) → Contains g.cones k → (l : FanCone) × (Contains f.cones l × SameCone n (rows_of l.cone) (rows_of k.cone))) → AreAmong n g f
+turned : (n : ℕ) (f g : FanLists) → ((k : FanCone) → Contains g.cones k → (l : FanCone) × (Contains f.cones l × SameCone n (rows_of l.cone) (rows_of k.cone))) →
+    AreAmong n g f
 turned n f g w k c = let l = w k c in (l.0, (l.1.0, same_turned n (rows_of l.0.cone) (rows_of k.cone) l.1.1))
 
 lists_of : (n : ℕ) (ps qs : List RowsAndRays) (f g : FanLists) → IsFanOf n ps f → IsFanOf n qs g → AreAmong n f g → AreAmong n g f → HaveSameLists f g
 lists_of n ps qs f g s t w u =
     let own : f.cones ≡ [] → ps ≡ [] = λ e. none_given ps (λ c i. (let k = given_cone n ps f c s i in none_in k.0 (subst (λ z. Contains z k.0) e k.1.0))) in
     let el : f.lineality ≡ g.lineality = same_lineality n ps qs f g s t w u own f.cones refl in
-    let er : f.rays ≡ g.rays = same_ordered (λ x y. slice_cmp int_cmp x y ≡ Less) f.rays g.rays (λ x y cx cy a b. less_never x y a b) s.rays.ascending t.rays.ascending (rays_among n ps qs f g s t w) (rays_among n qs ps g f t s u) in
-    let ranks : map rank_of g.cones ≡ map rank_of f.cones = same_ordered (λ x y. slice_cmp nat_cmp x y ≡ Less) (map rank_of g.cones) (map rank_of f.cones) (λ x y cx cy a b. lists_less_never x y a b)
-    (ranks_ascend g.cones t.cones.ordered) (ranks_ascend f.cones s.cones.ordered) (ranks_among n qs ps g f t s (sym el) (sym er) u) (ranks_among n ps qs f g s t el er w) in
+    let er : f.rays ≡ g.rays = same_ordered (λ x y. slice_cmp int_cmp x y ≡ Less) f.rays g.rays (λ x y cx cy a b. less_never x y a b)
+    s.rays.ascending t.rays.ascending (rays_among n ps qs f g s t w) (rays_among n qs ps g f t s u) in
+    let ranks : map rank_of g.cones ≡ map rank_of f.cones = same_ordered (λ x y. slice_cmp nat_cmp x y ≡ Less) (map rank_of g.cones) (map rank_of f.cones)
+    (λ x y cx cy a b. lists_less_never x y a b)
+    (ranks_ascend g.cones t.cones.ordered) (ranks_ascend f.cones s.cones.ordered) (ranks_among n qs ps g f t s (sym el) (sym er) u)
+    (ranks_among n ps qs f g s t el er w) in
     let numbers : numbers_of g.cones ≡ numbers_of f.cones = sym (numbers_behind g.cones) ∙ ap (map behind) ranks ∙ numbers_behind f.cones in
     record {
       ambient = t.ambient ∙ sym s.ambient;

@@ -1,6 +1,7 @@
 -- What is written of a fan is read again.
 -- To cite: fans_again. The rest are steps.
-use Rattle.std.proofs.Common.{◌≡◌, ◌≤◌, ◌<◌, ℕ, ℤ, ◌+◌, ◌-◌, ◌==◌, Bool, true, false, List, [], ◌∷◌, ◌++◌, length, map, fold, max, take, codes, decimal, Option, None, Some, refl, sym, ap, ◌∙◌, inr, subst, bytes_eq, nat_le, append-nil, get_or, arith, All, if◌then◌else◌}
+use Rattle.std.proofs.Common.{◌≡◌, ◌≤◌, ◌<◌, ℕ, ℤ, ◌+◌, ◌-◌, ◌==◌, Bool, true, false, List, [], ◌∷◌, ◌++◌, length, map, fold, max, take, codes, decimal, Option}
+use Rattle.std.proofs.Common.{None, Some, refl, sym, ap, ◌∙◌, inr, subst, bytes_eq, nat_le, append-nil, get_or, arith, All, if◌then◌else◌}
 use Rattle.std.specs.List.{AllByRecursion, range_with_len}
 use Rattle.std.proofs.lemmas.List.Elements.{recursion_from_All}
 use Rattle.std.proofs.lemmas.List.Sums.{count_by-le-length}
@@ -43,7 +44,8 @@ abbrev IsGoodCone : ListedCone → Type 0
 IsGoodCone c = IsNumber c.dim × AreNumbers c.rays
 
 good_cones : (cs : List ListedCone) → All IsWritableCone cs → AllByRecursion (λ c. IsGoodCone c) cs
-good_cones cs h = recursion_from_All (λ c. IsGoodCone c) cs (λ k d below. let w = h k d below in (w.dim, recursion_from_All (λ n. IsNumber n) (get_or cs k d).rays w.rays))
+good_cones cs h = recursion_from_All (λ c. IsGoodCone c) cs (λ k d below. let w = h k d below in
+    (w.dim, recursion_from_All (λ n. IsNumber n) (get_or cs k d).rays w.rays))
 
 greatest_from : (d : ℕ) (cs : List ListedCone) → IsNumber d → AllByRecursion (λ c. IsGoodCone c) cs → IsNumber (fold (λ e (c : ListedCone). max e c.dim) d cs)
 greatest_from d [] small h = small
@@ -67,13 +69,17 @@ row_lines ((z ∷ zs) ∷ rs) h = (subst (λ l. IsRowLine l (z ∷ zs)) (append-
 rays_lines : (i : ℕ) (rs : List (List ℤ)) → i + length rs ≤ most_number → AllByRecursion (λ r. IsGood r) rs → AreRowLines (ray_lines i rs) rs
 rays_lines i [] few h = tt
 rays_lines i ([] ∷ rs) few h = absurd (let some = h.0.0 in omega (arith, some))
-rays_lines i ((z ∷ zs) ∷ rs) few h = (row_as_line z zs (comment (decimal i)) h.0.1 (comment_tail (decimal i) (number_no 10 i (omega arith) refl)), rays_lines (i + 1) rs (omega arith) h.1)
+rays_lines i ((z ∷ zs) ∷ rs) few h = (
+  row_as_line z zs (comment (decimal i)) h.0.1 (comment_tail (decimal i) (number_no 10 i (omega arith) refl)),
+  rays_lines (i + 1) rs (omega arith) h.1,
+)
 
 bare_cone : (c : ListedCone) → IsGoodCone c → IsConeLine (cone_text c.rays) c.rays
 bare_cone c h = subst (λ l. IsConeLine l c.rays) (append-nil (cone_text c.rays)) (cone_as_line c.rays [] h.1 no_tail)
 
 told_as_line : (c : ListedCone) → IsGoodCone c → IsConeLine (told_cone c) c.rays
-told_as_line c h = cone_as_line c.rays (comment (codes "Dimension " ++ decimal c.dim)) h.1 (comment_tail (codes "Dimension " ++ decimal c.dim) (number_no 10 c.dim h.0 refl))
+told_as_line c h = cone_as_line c.rays (comment (codes "Dimension " ++ decimal c.dim)) h.1 (comment_tail (codes "Dimension " ++ decimal c.dim)
+    (number_no 10 c.dim h.0 refl))
 
 one_line : (before : Option ℕ) (c : ListedCone) → IsGoodCone c → IsConeLine (cone_line before c) c.rays
 one_line None c h = told_as_line c h
@@ -83,7 +89,8 @@ one_line (Some d) c h = by (d == c.dim)
     by true = bare_cone c h
     by false = told_as_line c h
 
-lines_of : (before : Option ℕ) (cs : List ListedCone) → AllByRecursion (λ c. IsGoodCone c) cs → AreConeLines (cone_lines before cs) (map (λ (c : ListedCone). c.rays) cs)
+lines_of : (before : Option ℕ) (cs : List ListedCone) → AllByRecursion (λ c. IsGoodCone c) cs →
+    AreConeLines (cone_lines before cs) (map (λ (c : ListedCone). c.rays) cs)
 lines_of before [] h = tt
 lines_of before (c ∷ cs) h = (one_line before c h.0, lines_of (Some c.dim) cs h.1)
 
@@ -104,9 +111,19 @@ record IsNew (seen : List (List ℕ)) (n : List ℕ) : Type 0 where
   bare : before_comment n ≡ n
   one_line : no_byte 10 n ≡ true
 
-is_said : (seen : List (List ℕ)) (n : List ℕ) (ls : List (List ℕ)) (c : Content) → IsNew seen n → Lines ls → ((end at : ℕ) → IsContentText (kind_in second_table n) (texts (content_tokens end (contents at ls))) c)
+is_said : (seen : List (List ℕ)) (n : List ℕ) (ls : List (List ℕ)) (c : Content) → IsNew seen n → Lines ls →
+    ((end at : ℕ) → IsContentText (kind_in second_table n) (texts (content_tokens end (contents at ls))) c)
     → IsSaid second_table seen (section n ls) c
-is_said seen n ls c is lines holds = record { new = is.new; name = is.name; word = is.word; bare = is.bare; one_line = is.one_line; lines = lines.0; plain = lines.1; holds = holds }
+is_said seen n ls c is lines holds = record {
+  new = is.new;
+  name = is.name;
+  word = is.word;
+  bare = is.bare;
+  one_line = is.one_line;
+  lines = lines.0;
+  plain = lines.1;
+  holds = holds;
+}
 
 decimal_lines : (n : ℕ) → IsNumber n → Lines (decimal n ∷ [])
 decimal_lines n h = ((subst IsContentLine (append-nil (decimal n)) (first_digit (decimal n) [] (number_is n h).0), tt), (number_no 10 n h refl, tt))
@@ -130,27 +147,34 @@ lines_of_cones : (ls cs : List (List ℕ)) → AreConeLines ls cs → Lines ls
 lines_of_cones ls cs h = (cones_content ls cs h, cones_plain ls cs h)
 
 -- a section that isn't looked at
-is_passed : (seen : List (List ℕ)) (n : List ℕ) (ls : List (List ℕ)) → IsNew seen n → kind_in second_table n ≡ any → Lines ls → IsSaid second_table seen (section n ls) passed
+is_passed : (seen : List (List ℕ)) (n : List ℕ) (ls : List (List ℕ)) → IsNew seen n → kind_in second_table n ≡ any → Lines ls →
+    IsSaid second_table seen (section n ls) passed
 is_passed seen n ls is kind lines = is_said seen n ls passed is lines (λ end at. kind)
 
 -- rows, lists, a number
-are_rows : (seen : List (List ℕ)) (n : List ℕ) (ls : List (List ℕ)) (rs : List (List ℤ)) → IsNew seen n → kind_in second_table n ≡ rows → AreRowLines ls rs → IsSaid second_table seen (section n ls) (the_rows rs)
+are_rows : (seen : List (List ℕ)) (n : List ℕ) (ls : List (List ℕ)) (rs : List (List ℤ)) → IsNew seen n → kind_in second_table n ≡ rows → AreRowLines ls rs →
+    IsSaid second_table seen (section n ls) (the_rows rs)
 are_rows seen n ls rs is kind lines = is_said seen n ls (the_rows rs) is (lines_of_rows ls rs lines) (λ end at. (kind, rows_hold ls rs lines end at))
 
-are_cones : (seen : List (List ℕ)) (n : List ℕ) (ls cs : List (List ℕ)) → IsNew seen n → kind_in second_table n ≡ cones → AreConeLines ls cs → IsSaid second_table seen (section n ls) (the_cones cs)
+are_cones : (seen : List (List ℕ)) (n : List ℕ) (ls cs : List (List ℕ)) → IsNew seen n → kind_in second_table n ≡ cones → AreConeLines ls cs →
+    IsSaid second_table seen (section n ls) (the_cones cs)
 are_cones seen n ls cs is kind lines = is_said seen n ls (the_cones cs) is (lines_of_cones ls cs lines) (λ end at. (kind, cones_hold ls cs lines end at))
 
-is_number_to : (seen : List (List ℕ)) (n : List ℕ) (limit k : ℕ) → IsNew seen n → kind_in second_table n ≡ number_to limit → IsNumber k → k ≤ limit → IsSaid second_table seen (section n (decimal k ∷ [])) (the_number k)
-is_number_to seen n limit k is kind small below = is_said seen n (decimal k ∷ []) (the_number k) is (decimal_lines k small) (λ end at. (limit, kind, number_holds k small end at, le_test k limit below))
+is_number_to : (seen : List (List ℕ)) (n : List ℕ) (limit k : ℕ) → IsNew seen n → kind_in second_table n ≡ number_to limit → IsNumber k → k ≤ limit →
+    IsSaid second_table seen (section n (decimal k ∷ [])) (the_number k)
+is_number_to seen n limit k is kind small below = is_said seen n (decimal k ∷ []) (the_number k) is (decimal_lines k small)
+    (λ end at. (limit, kind, number_holds k small end at, le_test k limit below))
 
 -- ---- the sections of a fan
 
-new_name : (seen : List (List ℕ)) (n : List ℕ) → has seen n ≡ false → is_section_name n ≡ true → is_name n ≡ true → before_comment n ≡ n → no_byte 10 n ≡ true → IsNew seen n
+new_name : (seen : List (List ℕ)) (n : List ℕ) → has seen n ≡ false → is_section_name n ≡ true → is_name n ≡ true → before_comment n ≡ n → no_byte 10 n ≡ true →
+    IsNew seen n
 new_name seen n new name word bare one_line = record { new = new; name = name; word = word; bare = bare; one_line = one_line }
 
 -- the names of its sections, of which the first so many stand before another
 abbrev names : ℕ → List (List ℕ)
-names k = take k (file_version ∷ ambient_dim ∷ codes "DIM" ∷ codes "LINEALITY_DIM" ∷ rays_name ∷ codes "N_RAYS" ∷ lineality_space ∷ codes "ORTH_LINEALITY_SPACE" ∷ codes "F_VECTOR" ∷ codes "SIMPLICIAL" ∷ codes "PURE" ∷ codes "CONES" ∷ maximal_cones ∷ maximal_interiors ∷ [])
+names k = take k (file_version ∷ ambient_dim ∷ codes "DIM" ∷ codes "LINEALITY_DIM" ∷ rays_name ∷ codes "N_RAYS" ∷ lineality_space ∷
+    codes "ORTH_LINEALITY_SPACE" ∷ codes "F_VECTOR" ∷ codes "SIMPLICIAL" ∷ codes "PURE" ∷ codes "CONES" ∷ maximal_cones ∷ maximal_interiors ∷ [])
 
 -- ---- the version that is told
 
@@ -203,43 +227,59 @@ module _ (f : FanWords) (h : IsWritable f) where
         is_number_to [] file_version most_number 2 (new_name [] file_version refl refl refl refl refl) refl (omega arith) (omega arith),
         (
           refl,
-          is_number_to (names 1) ambient_dim MOST_VARIABLES f.ambient (new_name (names 1) ambient_dim refl refl refl refl refl) refl (omega (arith, small)) small,
+          is_number_to (names 1) ambient_dim MOST_VARIABLES f.ambient (new_name (names 1) ambient_dim refl refl refl refl refl) refl
+              (omega (arith, small)) small,
           (
             refl,
-            is_passed (names 2) (codes "DIM") (dim_line f.cones ∷ []) (new_name (names 2) (codes "DIM") refl refl refl refl refl) refl (dim_lines f.cones every),
+            is_passed (names 2) (codes "DIM") (dim_line f.cones ∷ []) (new_name (names 2) (codes "DIM") refl refl refl refl refl) refl
+                (dim_lines f.cones every),
             (
               refl,
-              is_passed (names 3) (codes "LINEALITY_DIM") (decimal low ∷ []) (new_name (names 3) (codes "LINEALITY_DIM") refl refl refl refl refl) refl (decimal_lines low h.lineality_count),
+              is_passed (names 3) (codes "LINEALITY_DIM") (decimal low ∷ []) (new_name (names 3) (codes "LINEALITY_DIM") refl refl refl refl refl) refl
+                  (decimal_lines low h.lineality_count),
               (
                 refl,
-                are_rows (names 4) rays_name (ray_lines 0 f.rays) f.rays (new_name (names 4) rays_name refl refl refl refl refl) refl (rays_lines 0 f.rays (omega (arith, count)) rays),
+                are_rows (names 4) rays_name (ray_lines 0 f.rays) f.rays (new_name (names 4) rays_name refl refl refl refl refl) refl
+                    (rays_lines 0 f.rays (omega (arith, count)) rays),
                 (
                   refl,
-                  is_passed (names 5) (codes "N_RAYS") (decimal (length f.rays) ∷ []) (new_name (names 5) (codes "N_RAYS") refl refl refl refl refl) refl (decimal_lines (length f.rays) count),
+                  is_passed (names 5) (codes "N_RAYS") (decimal (length f.rays) ∷ []) (new_name (names 5) (codes "N_RAYS") refl refl refl refl refl) refl
+                      (decimal_lines (length f.rays) count),
                   (
                     refl,
-                    are_rows (names 6) lineality_space (map (λ r. spaced_entries r) f.lineality) f.lineality (new_name (names 6) lineality_space refl refl refl refl refl) refl lineality,
+                    are_rows (names 6) lineality_space (map (λ r. spaced_entries r) f.lineality) f.lineality
+                        (new_name (names 6) lineality_space refl refl refl refl refl) refl lineality,
                     (
                       refl,
-                      is_passed (names 7) (codes "ORTH_LINEALITY_SPACE") (map (λ r. spaced_entries r) f.orthogonal) (new_name (names 7) (codes "ORTH_LINEALITY_SPACE") refl refl refl refl refl) refl (lines_of_rows (map (λ r. spaced_entries r) f.orthogonal) f.orthogonal orthogonal),
+                      is_passed (names 7) (codes "ORTH_LINEALITY_SPACE") (map (λ r. spaced_entries r) f.orthogonal)
+                          (new_name (names 7) (codes "ORTH_LINEALITY_SPACE") refl refl refl refl refl) refl
+                          (lines_of_rows (map (λ r. spaced_entries r) f.orthogonal) f.orthogonal orthogonal),
                       (
                         refl,
-                        is_passed (names 8) (codes "F_VECTOR") (number_lines (f_vector low f.cones)) (new_name (names 8) (codes "F_VECTOR") refl refl refl refl refl) refl (numbers_lines (f_vector low f.cones) (vector_within low f.cones h.cones_count)),
+                        is_passed (names 8) (codes "F_VECTOR") (number_lines (f_vector low f.cones))
+                            (new_name (names 8) (codes "F_VECTOR") refl refl refl refl refl) refl
+                            (numbers_lines (f_vector low f.cones) (vector_within low f.cones h.cones_count)),
                         (
                           refl,
-                          is_passed (names 9) (codes "SIMPLICIAL") (truth_line (is_simplicial low f.maximal) ∷ []) (new_name (names 9) (codes "SIMPLICIAL") refl refl refl refl refl) refl (truth_lines (is_simplicial low f.maximal)),
+                          is_passed (names 9) (codes "SIMPLICIAL") (truth_line (is_simplicial low f.maximal) ∷ []) (new_name (names 9) (codes "SIMPLICIAL")
+                              refl refl refl refl refl) refl (truth_lines (is_simplicial low f.maximal)),
                           (
                             refl,
-                            is_passed (names 10) (codes "PURE") (truth_line (is_pure f.maximal) ∷ []) (new_name (names 10) (codes "PURE") refl refl refl refl refl) refl (truth_lines (is_pure f.maximal)),
+                            is_passed (names 10) (codes "PURE") (truth_line (is_pure f.maximal) ∷ []) (new_name (names 10) (codes "PURE")
+                                refl refl refl refl refl) refl (truth_lines (is_pure f.maximal)),
                             (
                               refl,
-                              is_passed (names 11) (codes "CONES") (cone_lines None f.cones) (new_name (names 11) (codes "CONES") refl refl refl refl refl) refl (lines_of_cones (cone_lines None f.cones) (map (λ (c : ListedCone). c.rays) f.cones) (lines_of None f.cones every)),
+                              is_passed (names 11) (codes "CONES") (cone_lines None f.cones) (new_name (names 11) (codes "CONES") refl refl refl refl refl) refl
+                                  (lines_of_cones (cone_lines None f.cones) (map (λ (c : ListedCone). c.rays) f.cones) (lines_of None f.cones every)),
                               (
                                 refl,
-                                are_cones (names 12) maximal_cones (cone_lines None f.maximal) (map (λ (c : ListedCone). c.rays) f.maximal) (new_name (names 12) maximal_cones refl refl refl refl refl) refl (lines_of None f.maximal (good_cones f.maximal h.maximal)),
+                                are_cones (names 12) maximal_cones (cone_lines None f.maximal) (map (λ (c : ListedCone). c.rays) f.maximal)
+                                    (new_name (names 12) maximal_cones refl refl refl refl refl) refl
+                                    (lines_of None f.maximal (good_cones f.maximal h.maximal)),
                                 (
                                   refl,
-                                  are_rows (names 13) maximal_interiors (map (λ r. spaced_entries r) f.interiors) f.interiors (new_name (names 13) maximal_interiors refl refl refl refl refl) refl interiors,
+                                  are_rows (names 13) maximal_interiors (map (λ r. spaced_entries r) f.interiors) f.interiors
+                                      (new_name (names 13) maximal_interiors refl refl refl refl refl) refl interiors,
                                   refl,
                                 ),
                               ),
@@ -271,7 +311,10 @@ module _ (f : FanWords) (h : IsWritable f) where
     rays = refl;
     lineality = refl;
     cones = refl;
-    interiors = subst (λ (v : Option ℕ). AreInteriorsOf (is_second v) (found maximal_interiors said_of) (Some f.interiors)) (sym told) (f.interiors, (refl, refl));
+    interiors = subst (λ (v : Option ℕ). AreInteriorsOf (is_second v) (found maximal_interiors said_of) (Some f.interiors)) (sym told) (
+      f.interiors,
+      (refl, refl),
+    );
   }
 
 pub fans_again : FansAreReadAgain

@@ -1,6 +1,7 @@
 -- The machine of lists of ray numbers reads exactly what their grammar says.
 -- To cite: cone_machine. The rest are steps.
-use Rattle.std.proofs.Common.{◌≡◌, ℕ, Bool, true, false, nat_le, List, [], ◌∷◌, ◌++◌, refl, sym, ap, subst, ◌∙◌, ◌⊎◌, inl, inr, append_assoc, append-nil, bytes_eq, arith, if◌then◌else◌}
+use Rattle.std.proofs.Common.{◌≡◌, ℕ, Bool, true, false, nat_le, List, [], ◌∷◌, ◌++◌, refl, sym, ap, subst, ◌∙◌, ◌⊎◌, inl, inr, append_assoc, append-nil}
+use Rattle.std.proofs.Common.{bytes_eq, arith, if◌then◌else◌}
 use Rattle.gf_text.specs.declared.error.Cause.{Cause}
 use Rattle.gf_text.specs.declared.error.Cause.TheVariants.{Ended, Unexpected, TooWide}
 use Rattle.gf_text.specs.Machine.{go, done, halt, after, followed}
@@ -40,7 +41,8 @@ move : (s : ConeState) (t : List ℕ) (ts : Texts) (all : Cones) → From s (t �
 unfolding after
 move s t ts all e = e
 
-chosen : (b : Bool) (x y : ConeMove) (ts : Texts) (all : Cones) → Then (if b then x else y) ts all → ((b ≡ true) × Then x ts all) ⊎ ((b ≡ false) × Then y ts all)
+chosen : (b : Bool) (x y : ConeMove) (ts : Texts) (all : Cones) → Then (if b then x else y) ts all →
+    ((b ≡ true) × Then x ts all) ⊎ ((b ≡ false) × Then y ts all)
 chosen true x y ts all e = inl (refl, e)
 chosen false x y ts all e = inr (refl, e)
 
@@ -106,7 +108,8 @@ list_ended cs ns t ts all is c = record {
   whole = c.more.whole ∙ append_assoc cs (ns ∷ []) c.more.later ∙ ap (λ l. cs ++ l ∷ c.more.later) (sym (append-nil ns));
 }
 
-one_number : (cs : Cones) (ns : List ℕ) (t : List ℕ) (ts : Texts) (all : Cones) → IsNumberText t (decimal_value t) most_number → Opened cs (ns ++ decimal_value t ∷ []) ts all → Opened cs ns (t ∷ ts) all
+one_number : (cs : Cones) (ns : List ℕ) (t : List ℕ) (ts : Texts) (all : Cones) → IsNumberText t (decimal_value t) most_number →
+    Opened cs (ns ++ decimal_value t ∷ []) ts all → Opened cs ns (t ∷ ts) all
 one_number cs ns t ts all is o = record {
   ms = decimal_value t ∷ o.ms;
   first = t ∷ o.first;
@@ -119,12 +122,14 @@ one_number cs ns t ts all is o = record {
 }
 
 module _ (t : List ℕ) (ts : Texts) (later : Later ts) where
-  number_on : (cs : Cones) (ns : List ℕ) (all : Cones) → Then (if nat_le (decimal_value t) most_number then goes (cs, inside (ns ++ decimal_value t ∷ [])) else stops TooWide) ts all → is_number t ≡ true → Opened cs ns (t ∷ ts) all
+  number_on : (cs : Cones) (ns : List ℕ) (all : Cones) → Then (if nat_le (decimal_value t) most_number then goes (cs, inside (ns ++ decimal_value t ∷ [])) else
+      stops TooWide) ts all → is_number t ≡ true → Opened cs ns (t ∷ ts) all
   unfolding Said Later
-  number_on cs ns all e digits = elim (chosen (nat_le (decimal_value t) most_number) (goes (cs, inside (ns ++ decimal_value t ∷ []))) (stops TooWide) ts all e) [
-    | inl h ↦ one_number cs ns t ts all (digits, refl, le_from (decimal_value t) most_number h.0) (later cs (inside (ns ++ decimal_value t ∷ [])) all h.1)
-    | inr h ↦ halted TooWide ts all h.1
-  ]
+  number_on cs ns all e digits = elim (chosen (nat_le (decimal_value t) most_number) (goes (cs, inside (ns ++ decimal_value t ∷ [])))
+      (stops TooWide) ts all e) [
+        | inl h ↦ one_number cs ns t ts all (digits, refl, le_from (decimal_value t) most_number h.0) (later cs (inside (ns ++ decimal_value t ∷ [])) all h.1)
+        | inr h ↦ halted TooWide ts all h.1
+      ]
 
   on_token : (cs : Cones) (place : ConePlace) (all : Cones) → Then (cone_step (cs, place) t) ts all → Said cs place (t ∷ ts) all
   unfolding Said Later
@@ -182,7 +187,8 @@ numbers_given (m ∷ ms) first (t, more, is, number, are) cs ns rest =
     ∙ numbers_given ms more are cs (ns ++ m ∷ []) rest
     ∙ ap (λ l. after cone_step (cs ++ l ∷ [], before) rest) (append_assoc ns (m ∷ []) ms)
 
-cone_given : (c : List ℕ) (first : Texts) → IsConeNumbersText first c → (cs : Cones) (rest : Texts) → after cone_step (cs, before) (first ++ rest) ≡ after cone_step (cs ++ c ∷ [], before) rest
+cone_given : (c : List ℕ) (first : Texts) → IsConeNumbersText first c → (cs : Cones) (rest : Texts) →
+    after cone_step (cs, before) (first ++ rest) ≡ after cone_step (cs ++ c ∷ [], before) rest
 cone_given c first (more, is, are) cs rest =
     ap (λ l. after cone_step (cs, before) (l ++ rest)) is
     ∙ after-go cone_step (cs, before) (cs, inside []) brace (more ++ rest) refl
@@ -228,11 +234,13 @@ either true x y h k = h
 either false x y h k = k
 
 no_end : (s : ConeState) (t : List ℕ) → IsNoEnd (cone_step s t)
-no_end (cs, before) t = either (bytes_eq t section_end) (ends cs) (if bytes_eq t brace then goes (cs, inside []) else stops Unexpected) (λ e. cc) (either (bytes_eq t brace) (goes (cs, inside [])) (stops Unexpected) (λ e. cc) (λ e. cc))
+no_end (cs, before) t = either (bytes_eq t section_end) (ends cs) (if bytes_eq t brace then goes (cs, inside []) else stops Unexpected) (λ e. cc)
+    (either (bytes_eq t brace) (goes (cs, inside [])) (stops Unexpected) (λ e. cc) (λ e. cc))
 no_end (cs, inside ns) t =
     let number = if nat_le (decimal_value t) most_number then goes (cs, inside (ns ++ decimal_value t ∷ [])) else stops TooWide in
     either (bytes_eq t brace_end) (goes (cs, closed ns)) (if is_number t then number else stops Unexpected) (λ e. cc)
-    (either (is_number t) number (stops Unexpected) (either (nat_le (decimal_value t) most_number) (goes (cs, inside (ns ++ decimal_value t ∷ []))) (stops TooWide) (λ e. cc) (λ e. cc)) (λ e. cc))
+    (either (is_number t) number (stops Unexpected) (either (nat_le (decimal_value t) most_number)
+    (goes (cs, inside (ns ++ decimal_value t ∷ []))) (stops TooWide) (λ e. cc) (λ e. cc)) (λ e. cc))
 no_end (cs, closed ns) t = either (bytes_eq t line_end) (goes (cs ++ ns ∷ [], before)) (stops Unexpected) (λ e. cc) (λ e. cc)
 
 -- the machine reads exactly the grammar

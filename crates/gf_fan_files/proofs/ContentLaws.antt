@@ -30,7 +30,8 @@ lex_some more (suc k) at [] = tt
 lex_some more zero at (b ∷ bs) = by (is_space b) (lex_some more 0 (at + 1) bs) (lex_some more (more (b ∷ bs)) (at + 1) bs)
   where
     by : (v : Bool) → AreSome (lex_tokens more 0 (at + 1) bs) → AreSome (lex_tokens more (more (b ∷ bs)) (at + 1) bs)
-        → AreSome (if v then lex_tokens more 0 (at + 1) bs else record { text = b ∷ take (more (b ∷ bs)) bs; at = at } ∷ lex_tokens more (more (b ∷ bs)) (at + 1) bs)
+        → AreSome (if v then lex_tokens more 0 (at + 1) bs else record { text = b ∷ take (more (b ∷ bs)) bs; at = at } ∷ lex_tokens more
+        (more (b ∷ bs)) (at + 1) bs)
     by true one other = one
     by false one other = ((λ e. cc), other)
 lex_some more (suc k) at (b ∷ bs) = lex_some more k (at + 1) bs
@@ -41,7 +42,10 @@ parted_by false y z h k = k
 
 parted_some : (minus : Bool) (place : ℕ) (xs : List Lexeme) → AreSome xs → AreSome (all_parted minus place xs)
 parted_some minus place [] h = tt
-parted_some minus place (x ∷ xs) h = (parted_by (minus && not (place == x.at)) (record { text = blank; at = x.at }) x (λ e. cc) h.0, parted_some (bytes_eq x.text minus_mark) (behind x) xs h.1)
+parted_some minus place (x ∷ xs) h = (
+  parted_by (minus && not (place == x.at)) (record { text = blank; at = x.at }) x (λ e. cc) h.0,
+  parted_some (bytes_eq x.text minus_mark) (behind x) xs h.1,
+)
 
 line_some : (l : Lexeme) → AreSome (line_tokens l)
 line_some l = parted_some false l.at (lex_tokens word_more 0 l.at (before_comment l.text)) (lex_some word_more 0 l.at (before_comment l.text))
@@ -96,7 +100,8 @@ module _ {S A : Type 0} (step : S → List ℕ → Move S A) (only : (s : S) (t 
   unfolding run
   read_by s (go t) x [] end a place is once later e = cc
   read_by s (go t) x (y ∷ ys) end a place is once later e = later t once.1 e
-  read_by s (done b) x [] end a place is once later e = (let got : A × ℕ = (b, behind x) in let wanted : A × ℕ = (a, place) in let pair : got ≡ wanted = cc in ap (λ p. done (p.0)) pair)
+  read_by s (done b) x [] end a place is once later e = (let got : A × ℕ = (b, behind x) in let wanted : A × ℕ = (a, place) in let pair : got ≡ wanted = cc in
+      ap (λ p. done (p.0)) pair)
   read_by s (done b) x (y ∷ ys) end a place is once later e = absurd (once.0 (only s x.text b is))
   read_by s (halt cause) x xs end a place is once later e = cc
 

@@ -23,7 +23,9 @@ use Rattle.gf_fan_files.specs.FanWords.{FanWords}
 use Rattle.gf_fan_files.specs.FanTexts.{listed_cone, listed_cones, one_listed, listed_at, interiors_of, parts_of_fan, IsWritingStep}
 
 -- one place further
-pub listed_more : (cones : List FanCone) (places : List ℕ) (i : ℕ) (k : FanCone) (l : ListedCone) (out new : List ListedCone) → i < length places → get_or places i 0 < length cones → k ≡ get_or cones (get_or places i 0) k → l ≡ listed_cone k → new ≡ out ++ l ∷ [] → out ≡ listed_at cones (take i places) → new ≡ listed_at cones (take (i + 1) places)
+pub listed_more : (cones : List FanCone) (places : List ℕ) (i : ℕ) (k : FanCone) (l : ListedCone) (out new : List ListedCone) → i < length places →
+    get_or places i 0 < length cones → k ≡ get_or cones (get_or places i 0) k → l ≡ listed_cone k → new ≡ out ++ l ∷ [] →
+    out ≡ listed_at cones (take i places) → new ≡ listed_at cones (take (i + 1) places)
 listed_more cones places i k l out new h w is e q o =
     let p = get_or places i 0 in
     let here : slice_get cones p ≡ Some k = slice_get_read cones (length cones) p k refl w is in
@@ -34,27 +36,32 @@ listed_more cones places i k l out new h w is e q o =
     ∙ sym (more ∙ ap (λ (x : List ListedCone). listed_at cones (take i places) ++ x) one)
 
 -- and of the sums of their rays
-pub interiors_more : (n : ℕ) (rays : List (List ℤ)) (cones : List FanCone) (places : List ℕ) (i : ℕ) (k : FanCone) (v : List ℤ) (out new : List (List ℤ)) → i < length places → get_or places i 0 < length cones → k ≡ get_or cones (get_or places i 0) k → v ≡ sum_of n (numbered rays k.numbers) → new ≡ out ++ v ∷ []
+pub interiors_more : (n : ℕ) (rays : List (List ℤ)) (cones : List FanCone) (places : List ℕ) (i : ℕ) (k : FanCone) (v : List ℤ) (out new : List (List ℤ)) →
+    i < length places → get_or places i 0 < length cones → k ≡ get_or cones (get_or places i 0) k → v ≡ sum_of n (numbered rays k.numbers) → new ≡ out ++ v ∷ []
     → out ≡ interiors_of n rays (listed_at cones (take i places)) → new ≡ interiors_of n rays (listed_at cones (take (i + 1) places))
 interiors_more n rays cones places i k v out new h w is e q o =
     let value : ListedCone → List ℤ = λ c. sum_of n (numbered rays c.rays) in
     let before = listed_at cones (take i places) in
-    let more : before ++ listed_cone k ∷ [] ≡ listed_at cones (take (i + 1) places) = listed_more cones places i k (listed_cone k) before (before ++ listed_cone k ∷ []) h w is refl refl refl in
+    let more : before ++ listed_cone k ∷ [] ≡ listed_at cones (take (i + 1) places) =
+    listed_more cones places i k (listed_cone k) before (before ++ listed_cone k ∷ []) h w is refl refl refl in
     q ∙ ap (λ (x : List (List ℤ)). x ++ v ∷ []) o ∙ ap (λ (x : List ℤ). interiors_of n rays before ++ x ∷ []) e
     ∙ sym (map-append value before (listed_cone k ∷ [])) ∙ ap (λ (x : List ListedCone). interiors_of n rays x) more
 
 -- a cone at one of these places is one of those that are listed
-in_listed : (cones : List FanCone) (places : List ℕ) (p : ℕ) (k : FanCone) → Contains places p → slice_get cones p ≡ Some k → Contains (listed_at cones places) (listed_cone k)
+in_listed : (cones : List FanCone) (places : List ℕ) (p : ℕ) (k : FanCone) → Contains places p → slice_get cones p ≡ Some k →
+    Contains (listed_at cones places) (listed_cone k)
 in_listed cones [] p k c e = absurd (none_in p c)
 in_listed cones (q ∷ places) p k c e = elim (in_cons q places p c) [
   | inl same ↦
       let here : slice_get cones q ≡ Some k = ap (slice_get cones) (sym same) ∙ e in
-      subst (λ (o : Option FanCone). Contains (one_listed o ++ listed_at cones places) (listed_cone k)) (sym here) (Contains-here (listed_cone k) (listed_at cones places))
+      subst (λ (o : Option FanCone). Contains (one_listed o ++ listed_at cones places) (listed_cone k)) (sym here)
+      (Contains-here (listed_cone k) (listed_at cones places))
   | inr later ↦ Contains-append_right (one_listed (slice_get cones q)) (listed_at cones places) (listed_cone k) (in_listed cones places p k later e)
 ]
 
 -- why the sum of the rays of one isn't worked out
-pub writing_step : (f : FanLists) (places : List ℕ) (cones : List FanCone) (i : ℕ) (k : FanCone) (e : VecError) → IsFan f → places ≡ f.maximal → cones ≡ f.cones → i < length places → get_or places i 0 < length cones → k ≡ get_or cones (get_or places i 0) k
+pub writing_step : (f : FanLists) (places : List ℕ) (cones : List FanCone) (i : ℕ) (k : FanCone) (e : VecError) → IsFan f → places ≡ f.maximal →
+    cones ≡ f.cones → i < length places → get_or places i 0 < length cones → k ≡ get_or cones (get_or places i 0) k
     → IfWide (λ w. IsFirstWide w (adding_steps (zeros k.cone.ambient) k.cone.rays)) e → IfWide (IsWritingStep f) e
 writing_step f places cones i k vec_errors.Memory h p c l w is step = tt
 writing_step f places cones i k (vec_errors.Wide x) h p c l w is step =
@@ -63,18 +70,27 @@ writing_step f places cones i k (vec_errors.Wide x) h p c l w is step =
     let there : Contains f.cones k = subst (λ (ks : List FanCone). Contains ks k) c (place, w, sym is) in
     let own = h.1.cones.each k there in
     let listed : Contains (listed_at f.cones f.maximal) (listed_cone k) = subst (λ (ks : List FanCone). Contains (listed_at ks f.maximal) (listed_cone k)) c
-    (subst (λ (ps : List ℕ). Contains (listed_at cones ps) (listed_cone k)) p (in_listed cones places place k (i, l, get_or_default places i place 0 l) at)) in
-    (listed_cone k, (listed, subst (λ (xs : List (List ℤ)). IsFirstWide x (adding_steps (zeros f.ambient) xs)) own.rays_of (subst (λ n. IsFirstWide x (adding_steps (zeros n) k.cone.rays)) own.ambient step)))
+    (subst (λ (ps : List ℕ). Contains (listed_at cones ps) (listed_cone k)) p
+    (in_listed cones places place k (i, l, get_or_default places i place 0 l) at)) in (
+      listed_cone k,
+      (
+        listed,
+        subst (λ (xs : List (List ℤ)). IsFirstWide x (adding_steps (zeros f.ambient) xs)) own.rays_of
+            (subst (λ n. IsFirstWide x (adding_steps (zeros n) k.cone.rays)) own.ambient step),
+      ),
+    )
 
 -- what is worked out
-pub interior_value : (f : FanLists) (cones : List FanCone) (place : ℕ) (k : FanCone) (v : List ℤ) → IsFan f → cones ≡ f.cones → place < length cones → k ≡ get_or cones place k → v ≡ sum_of k.cone.ambient k.cone.rays → v ≡ sum_of f.ambient (numbered f.rays k.numbers)
+pub interior_value : (f : FanLists) (cones : List FanCone) (place : ℕ) (k : FanCone) (v : List ℤ) → IsFan f → cones ≡ f.cones → place < length cones →
+    k ≡ get_or cones place k → v ≡ sum_of k.cone.ambient k.cone.rays → v ≡ sum_of f.ambient (numbered f.rays k.numbers)
 interior_value f cones place k v h c w is e =
     let there : Contains f.cones k = subst (λ (ks : List FanCone). Contains ks k) c (place, w, sym is) in
     let own = h.1.cones.each k there in
     e ∙ ap (λ n. sum_of n k.cone.rays) own.ambient ∙ ap (λ (xs : List (List ℤ)). sum_of f.ambient xs) own.rays_of
 
 -- the places of the maximal cones are places of cones
-pub maximal_inside : (f : FanLists) (places : List ℕ) (cones : List FanCone) → IsFan f → places ≡ f.maximal → cones ≡ f.cones → All (λ i. i < length cones) places
+pub maximal_inside : (f : FanLists) (places : List ℕ) (cones : List FanCone) → IsFan f → places ≡ f.maximal → cones ≡ f.cones →
+    All (λ i. i < length cones) places
 maximal_inside f places cones h p c =
     subst (λ (ks : List FanCone). All (λ i. i < length ks) places) (sym c) (subst (λ (ps : List ℕ). All (λ i. i < length f.cones) ps) (sym p) inside)
   where
@@ -86,8 +102,26 @@ maximal_inside f places cones h p c =
 
 -- its parts
 abbrev pub words_from : ℕ → List (List ℤ) → List (List ℤ) → List (List ℤ) → List ListedCone → List ListedCone → List (List ℤ) → FanWords
-words_from n rays lineality orthogonal cones maximal interiors = record { ambient = n; rays = rays; lineality = lineality; orthogonal = orthogonal; cones = cones; maximal = maximal; interiors = interiors }
+words_from n rays lineality orthogonal cones maximal interiors = record {
+  ambient = n;
+  rays = rays;
+  lineality = lineality;
+  orthogonal = orthogonal;
+  cones = cones;
+  maximal = maximal;
+  interiors = interiors;
+}
 
-pub parts_same : (f : FanLists) (n : ℕ) (rays lineality orthogonal : List (List ℤ)) (cones maximal : List ListedCone) (interiors : List (List ℤ)) → n ≡ f.ambient → rays ≡ f.rays → lineality ≡ f.lineality → orthogonal ≡ f.orthogonal → cones ≡ listed_cones f.cones → maximal ≡ listed_at f.cones f.maximal → interiors ≡ interiors_of f.ambient f.rays (listed_at f.cones f.maximal)
+pub parts_same : (f : FanLists) (n : ℕ) (rays lineality orthogonal : List (List ℤ)) (cones maximal : List ListedCone) (interiors : List (List ℤ)) →
+    n ≡ f.ambient → rays ≡ f.rays → lineality ≡ f.lineality → orthogonal ≡ f.orthogonal → cones ≡ listed_cones f.cones → maximal ≡ listed_at f.cones f.maximal →
+    interiors ≡ interiors_of f.ambient f.rays (listed_at f.cones f.maximal)
     → words_from n rays lineality orthogonal cones maximal interiors ≡ parts_of_fan f
-parts_same f n rays lineality orthogonal cones maximal interiors a r l o c m s = λ i. record { ambient = a i; rays = r i; lineality = l i; orthogonal = o i; cones = c i; maximal = m i; interiors = s i }
+parts_same f n rays lineality orthogonal cones maximal interiors a r l o c m s = λ i. record {
+  ambient = a i;
+  rays = r i;
+  lineality = l i;
+  orthogonal = o i;
+  cones = c i;
+  maximal = m i;
+  interiors = s i;
+}

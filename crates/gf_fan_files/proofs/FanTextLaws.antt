@@ -1,6 +1,7 @@
 -- Sections are read as the grammar says, and the first fault is what is refused.
 -- To cite: text_said, text_given, text_fault, text_sound, content_given. The rest are steps.
-use Rattle.std.proofs.Common.{◌≡◌, ◌≤◌, ℕ, ◌+◌, Bool, true, false, ◌&&◌, nat_le, List, [], ◌∷◌, ◌++◌, length, Result, Ok, Err, refl, sym, ap, subst, ◌∙◌, inl, inr, append-nil, bytes_eq, arith, if◌then◌else◌, ℤ}
+use Rattle.std.proofs.Common.{◌≡◌, ◌≤◌, ℕ, ◌+◌, Bool, true, false, ◌&&◌, nat_le, List, [], ◌∷◌, ◌++◌, length, Result, Ok, Err, refl, sym, ap, subst, ◌∙◌, inl}
+use Rattle.std.proofs.Common.{inr, append-nil, bytes_eq, arith, if◌then◌else◌, ℤ}
 use Rattle.gf_text.specs.declared.error.Cause.{Cause}
 use Rattle.gf_text.specs.declared.error.Cause.TheVariants.{Unexpected, TooWide, RepeatedName}
 use Rattle.gf_fan_files.specs.declared.error.FanFileError.{FanFileError}
@@ -58,28 +59,34 @@ size_only rs zs m t =
     let u : RowMove = go (row_state rs (zs ++ signed_entry m (decimal_value t) ∷ []) false) in
     let wide : RowMove = halt TooWide in
     let unexpected : RowMove = halt Unexpected in
-    only_by t (is_number t) (if nat_le (decimal_value t) most_row_entry then u else wide) unexpected (λ d. only_by t (nat_le (decimal_value t) most_row_entry) u wide (λ w. only_go t (row_state rs (zs ++ signed_entry m (decimal_value t) ∷ []) false)) (only_halt t wide (λ a e. cc))) (only_halt t unexpected (λ a e. cc))
+    only_by t (is_number t) (if nat_le (decimal_value t) most_row_entry then u else wide) unexpected (λ d. only_by t (nat_le (decimal_value t) most_row_entry)
+    u wide (λ w. only_go t (row_state rs (zs ++ signed_entry m (decimal_value t) ∷ []) false)) (only_halt t wide (λ a e. cc)))
+    (only_halt t unexpected (λ a e. cc))
 
 entry_only : (rs : List (List ℤ)) (zs : List ℤ) (t : List ℕ) → Only t (row_entry_step rs zs t)
-entry_only rs zs t = only_by t (bytes_eq t minus_mark) (go (row_state rs zs true)) (row_size_step rs zs false t) (λ h. only_go t (row_state rs zs true)) (size_only rs zs false t)
+entry_only rs zs t = only_by t (bytes_eq t minus_mark) (go (row_state rs zs true)) (row_size_step rs zs false t) (λ h. only_go t (row_state rs zs true))
+    (size_only rs zs false t)
 
 row_only : (rs : List (List ℤ)) (zs : List ℤ) (m : Bool) (t : List ℕ) → Only t (row_step_at rs zs m t)
 row_only rs zs true t = size_only rs zs true t
 row_only rs [] false t = only_done t (bytes_eq t section_end) rs (row_entry_step rs [] t) (λ h. is_mark t section_end h) (entry_only rs [] t)
-row_only rs (z ∷ zs) false t = only_by t (bytes_eq t line_end) (go (row_state (rs ++ (z ∷ zs) ∷ []) [] false)) (row_entry_step rs (z ∷ zs) t) (λ h. only_go t (row_state (rs ++ (z ∷ zs) ∷ []) [] false)) (entry_only rs (z ∷ zs) t)
+row_only rs (z ∷ zs) false t = only_by t (bytes_eq t line_end) (go (row_state (rs ++ (z ∷ zs) ∷ []) [] false)) (row_entry_step rs (z ∷ zs) t)
+    (λ h. only_go t (row_state (rs ++ (z ∷ zs) ∷ []) [] false)) (entry_only rs (z ∷ zs) t)
 
 cone_only : (s : ConeState) (t : List ℕ) → Only t (cone_step s t)
 cone_only (cs, before) t =
     let u : ConeMove = go (cs, inside []) in
     let unexpected : ConeMove = halt Unexpected in
-    only_done t (bytes_eq t section_end) cs (if bytes_eq t brace then u else unexpected) (λ h. is_mark t section_end h) (only_by t (bytes_eq t brace) u unexpected (λ h. only_go t (cs, inside [])) (only_halt t unexpected (λ a e. cc)))
+    only_done t (bytes_eq t section_end) cs (if bytes_eq t brace then u else unexpected) (λ h. is_mark t section_end h)
+    (only_by t (bytes_eq t brace) u unexpected (λ h. only_go t (cs, inside [])) (only_halt t unexpected (λ a e. cc)))
 cone_only (cs, inside ns) t =
     let u : ConeMove = go (cs, inside (ns ++ decimal_value t ∷ [])) in
     let wide : ConeMove = halt TooWide in
     let unexpected : ConeMove = halt Unexpected in
     let number = if nat_le (decimal_value t) most_number then u else wide in
     only_by t (bytes_eq t brace_end) (go (cs, closed ns)) (if is_number t then number else unexpected) (λ h. only_go t (cs, closed ns))
-    (only_by t (is_number t) number unexpected (λ d. only_by t (nat_le (decimal_value t) most_number) u wide (λ h. only_go t (cs, inside (ns ++ decimal_value t ∷ []))) (only_halt t wide (λ a e. cc))) (only_halt t unexpected (λ a e. cc)))
+    (only_by t (is_number t) number unexpected (λ d. only_by t (nat_le (decimal_value t) most_number) u wide
+    (λ h. only_go t (cs, inside (ns ++ decimal_value t ∷ []))) (only_halt t wide (λ a e. cc))) (only_halt t unexpected (λ a e. cc)))
 cone_only (cs, closed ns) t =
     let unexpected : ConeMove = halt Unexpected in
     only_by t (bytes_eq t line_end) (go (cs ++ ns ∷ [], before)) unexpected (λ h. only_go t (cs ++ ns ∷ [], before)) (only_halt t unexpected (λ a e. cc))
@@ -92,7 +99,8 @@ number_only Unread t =
     let u : NumberMove = go (Read (decimal_value t)) in
     let wide : NumberMove = halt TooWide in
     let unexpected : NumberMove = halt Unexpected in
-    only_by t (is_number t) (if nat_le (decimal_value t) most_number then u else wide) unexpected (λ d. only_by t (nat_le (decimal_value t) most_number) u wide (λ h. only_go t (Read (decimal_value t))) (only_halt t wide (λ a e. cc))) (only_halt t unexpected (λ a e. cc))
+    only_by t (is_number t) (if nat_le (decimal_value t) most_number then u else wide) unexpected (λ d. only_by t (nat_le (decimal_value t) most_number) u wide
+    (λ h. only_go t (Read (decimal_value t))) (only_halt t wide (λ a e. cc))) (only_halt t unexpected (λ a e. cc))
 number_only (Read n) t =
     let unexpected : NumberMove = halt Unexpected in
     only_by t (bytes_eq t line_end) (go (Finished n)) unexpected (λ h. only_go t (Finished n)) (only_halt t unexpected (λ a e. cc))
@@ -105,8 +113,10 @@ number_only (Finished n) t =
 result_apart : {A E : Type 0} (a : A) (e : E) → Ok a ≡ Err e → ⊥
 result_apart a e is = cc
 
-module _ {S A : Type 0} {step : S → List ℕ → Move S A} {start : S} {grammar : List (List ℕ) → A → Type 0} (is : IsMachineOf step start grammar) (make : A → Content) where
-  held_said : ((s : S) (t : List ℕ) (a : A) → step s t ≡ done a → t ≡ section_end) → (end : ℕ) (xs : List Lexeme) (c : Content) → EndsOnce xs → held make end (run step start end xs) ≡ Ok c → (a : A) × grammar (texts xs) a × (c ≡ make a)
+module _ {S A : Type 0} {step : S → List ℕ → Move S A} {start : S} {grammar : List (List ℕ) → A → Type 0} (is : IsMachineOf step start grammar) (make : A →
+    Content) where
+  held_said : ((s : S) (t : List ℕ) (a : A) → step s t ≡ done a → t ≡ section_end) → (end : ℕ) (xs : List Lexeme) (c : Content) → EndsOnce xs →
+      held make end (run step start end xs) ≡ Ok c → (a : A) × grammar (texts xs) a × (c ≡ make a)
   held_said only end xs c once e = by (run step start end xs) refl e
     where
       by : (r : Result (A × ℕ) Fault) → run step start end xs ≡ r → held make end r ≡ Ok c → (a : A) × grammar (texts xs) a × (c ≡ make a)
@@ -116,16 +126,24 @@ module _ {S A : Type 0} {step : S → List ℕ → Move S A} {start : S} {gramma
   held_given : (end : ℕ) (xs : List Lexeme) (a : A) → grammar (texts xs) a → held make end (run step start end xs) ≡ Ok (make a)
   held_given end xs a g = ap (held make end) (ap (run step start end) (sym (append-nil xs)) ∙ read step start 0 end xs [] a (is.given (texts xs) a g))
 
-  held_fault : ((ts : List (List ℕ)) (s : S) (t : List ℕ) (cause : Cause) → after step start ts ≡ go s → step s t ≡ halt cause → IsNumberKind grammar ts t cause) → (end : ℕ) (xs : List Lexeme) (e : FanFileError) → held make end (run step start end xs) ≡ Err e → IsFaultOf grammar end xs e
+  held_fault : ((ts : List (List ℕ)) (s : S) (t : List ℕ) (cause : Cause) → after step start ts ≡ go s → step s t ≡ halt cause →
+      IsNumberKind grammar ts t cause) → (end : ℕ) (xs : List Lexeme) (e : FanFileError) → held make end (run step start end xs) ≡ Err e →
+      IsFaultOf grammar end xs e
   held_fault kind end xs e h = by (run step start end xs) refl h
     where
       by : (r : Result (A × ℕ) Fault) → run step start end xs ≡ r → held make end r ≡ Err e → IsFaultOf grammar end xs e
       by (Ok a) is_read f = cc
-      by (Err g) is_read f = (g, (λ a text. result_apart (make a) e (sym (held_given end xs a text) ∙ h)), fault is (IsNumberKind grammar) kind end xs g is_read, cc)
+      by (Err g) is_read f = (
+        g,
+        (λ a text. result_apart (make a) e (sym (held_given end xs a text) ∙ h)),
+        fault is (IsNumberKind grammar) kind end xs g is_read,
+        cc,
+      )
 
 -- ---- a number up to a limit
 
-above_by : (limit : ℕ) (t : List ℕ) → is_number t ≡ true → decimal_value t ≤ most_number → (is_number t && (nat_le (decimal_value t) most_number && nat_le (limit + 1) (decimal_value t))) ≡ false → nat_le (decimal_value t) limit ≡ true
+above_by : (limit : ℕ) (t : List ℕ) → is_number t ≡ true → decimal_value t ≤ most_number →
+    (is_number t && (nat_le (decimal_value t) most_number && nat_le (limit + 1) (decimal_value t))) ≡ false → nat_le (decimal_value t) limit ≡ true
 above_by limit t digits small none =
     let within = le_test (decimal_value t) most_number small in
     let here : nat_le (limit + 1) (decimal_value t) ≡ false = rw (digits, within) at none in
@@ -159,7 +177,8 @@ limit_given limit n (x ∷ xs) (t, is, (digits, same, small)) h =
 -- ---- contents
 
 number_said : (end limit : ℕ) (xs : List Lexeme) (c : Content) (v : Bool) → is_above limit xs ≡ v → EndsOnce xs
-    → (if v then Err (errors.TooManyVariables (first_value xs)) else held (λ n. the_number n) end (run one.number_step Unread end xs)) ≡ Ok c → IsContentText (number_to limit) (texts xs) c
+    → (if v then Err (errors.TooManyVariables (first_value xs)) else held (λ n. the_number n) end (run one.number_step Unread end xs)) ≡ Ok c →
+    IsContentText (number_to limit) (texts xs) c
 number_said end limit xs c true is once e = cc
 number_said end limit xs c false is once e =
     let h = held_said number_machine (λ n. the_number n) (λ s t. only_is t (one.number_step s t) (number_only s t)) end xs c once e in
@@ -185,7 +204,8 @@ content_given end k xs (the_cones cs) (is, text) = ap (λ j. content_read end j 
 content_given end k xs passed is = ap (λ j. content_read end j xs) is
 
 number_fault : (end limit : ℕ) (xs : List Lexeme) (e : FanFileError) (v : Bool) → is_above limit xs ≡ v
-    → (if v then Err (errors.TooManyVariables (first_value xs)) else held (λ n. the_number n) end (run one.number_step Unread end xs)) ≡ Err e → IsContentFault end (number_to limit) xs e
+    → (if v then Err (errors.TooManyVariables (first_value xs)) else held (λ n. the_number n) end (run one.number_step Unread end xs)) ≡ Err e →
+    IsContentFault end (number_to limit) xs e
 number_fault end limit xs e true is h = inl (is, cc)
 number_fault end limit xs e false is h = inr (is, held_fault number_machine (λ n. the_number n) number_kind end xs e h)
 
@@ -196,7 +216,8 @@ content_fault end cones xs e h = held_fault cone_machine (λ cs. the_cones cs) c
 content_fault end any xs e h = cc
 
 -- a content of its kind isn't refused
-pub content_sound : (end : ℕ) (k : ContentKind) (xs : List Lexeme) (c : Content) (e : FanFileError) → IsContentText k (texts xs) c → IsContentFault end k xs e → ⊥
+pub content_sound : (end : ℕ) (k : ContentKind) (xs : List Lexeme) (c : Content) (e : FanFileError) → IsContentText k (texts xs) c → IsContentFault end k xs e →
+    ⊥
 content_sound end (number_to limit) xs (the_number n) e (most, is, text, small) (inl h) =
     let same : limit ≡ most = cc in
     let none : is_above limit xs ≡ false = ap (λ l. is_above l xs) same ∙ limit_given most n xs text small in
@@ -224,7 +245,8 @@ module _ (table : Table) (end : ℕ) where
   abbrev Holding : Section → List Section → Result Content FanFileError
   Holding s ss = content_read end (kind_in table s.name) (content_tokens (end_before end ss) s.content)
 
-  said_by : (seen : List (List ℕ)) (s : Section) (ss : List Section) (all : Named) (v : Bool) (c : Result Content FanFileError) (l : Result Named FanFileError) → has seen s.name ≡ v → Holding s ss ≡ c → Reading (seen ++ s.name ∷ []) ss ≡ l
+  said_by : (seen : List (List ℕ)) (s : Section) (ss : List Section) (all : Named) (v : Bool) (c : Result Content FanFileError)
+      (l : Result Named FanFileError) → has seen s.name ≡ v → Holding s ss ≡ c → Reading (seen ++ s.name ∷ []) ss ≡ l
       → EndsOnce (content_tokens (end_before end ss) s.content)
       → ((hs : Named) → Reading (seen ++ s.name ∷ []) ss ≡ Ok hs → AreHeld table end (seen ++ s.name ∷ []) ss hs)
       → (if v then Err (refused_at s.at RepeatedName) else then_content c s.name l) ≡ Ok all → AreHeld table end seen (s ∷ ss) all
@@ -233,7 +255,13 @@ module _ (table : Table) (end : ℕ) where
   said_by seen s ss all false (Ok c) (Err g) new one more once later e = cc
   said_by seen s ss all false (Ok c) (Ok hs) new one more once later e =
       let whole : (s.name, c) ∷ hs ≡ all = cc in
-      subst (λ l. AreHeld table end seen (s ∷ ss) l) whole (new, refl, content_said end (kind_in table s.name) (content_tokens (end_before end ss) s.content) c once one, later hs more)
+      subst (λ l. AreHeld table end seen (s ∷ ss) l) whole (
+        new,
+        refl,
+        content_said end (kind_in table s.name) (content_tokens (end_before end ss) s.content)
+            c once one,
+        later hs more,
+      )
 
   sections_said : (seen : List (List ℕ)) (ss : List Section) (all : Named) → SectionsSome ss → Reading seen ss ≡ Ok all → AreHeld table end seen ss all
   sections_said seen [] all some e = cc
@@ -250,15 +278,25 @@ module _ (table : Table) (end : ℕ) where
       let here : Reading seen (s ∷ ss) ≡ Ok ((s.name, k.1) ∷ ks) = rw (new, one, more) refl in
       here ∙ ap (λ n. Ok ((n, k.1) ∷ ks)) (sym name)
 
-  fault_by : (seen : List (List ℕ)) (s : Section) (ss : List Section) (g : FanFileError) (v : Bool) (c : Result Content FanFileError) (l : Result Named FanFileError) → has seen s.name ≡ v → Holding s ss ≡ c → Reading (seen ++ s.name ∷ []) ss ≡ l
+  fault_by : (seen : List (List ℕ)) (s : Section) (ss : List Section) (g : FanFileError) (v : Bool) (c : Result Content FanFileError)
+      (l : Result Named FanFileError) → has seen s.name ≡ v → Holding s ss ≡ c → Reading (seen ++ s.name ∷ []) ss ≡ l
       → EndsOnce (content_tokens (end_before end ss) s.content)
       → ((f : FanFileError) → Reading (seen ++ s.name ∷ []) ss ≡ Err f → IsFirstFault table end (seen ++ s.name ∷ []) ss f)
       → (if v then Err (refused_at s.at RepeatedName) else then_content c s.name l) ≡ Err g → IsFirstFault table end seen (s ∷ ss) g
   fault_by seen s ss g true c l new one more once later e = inl (new, cc)
-  fault_by seen s ss g false (Err f) l new one more once later e = (let same : f ≡ g = cc in inr (inl (new, content_fault end (kind_in table s.name) (content_tokens (end_before end ss) s.content) g (one ∙ ap (λ x. Err x) same))))
+  fault_by seen s ss g false (Err f) l new one more once later e =
+      (let same : f ≡ g = cc in inr (inl (
+        new,
+        content_fault end (kind_in table s.name) (content_tokens (end_before end ss) s.content) g
+            (one ∙ ap (λ x. Err x) same),
+      )))
   fault_by seen s ss g false (Ok c) (Err f) new one more once later e = (
       let same : f ≡ g = cc in
-      inr (inr (new, (c, content_said end (kind_in table s.name) (content_tokens (end_before end ss) s.content) c once one), later g (more ∙ ap (λ x. Err x) same)))
+      inr (inr (
+        new,
+        (c, content_said end (kind_in table s.name) (content_tokens (end_before end ss) s.content) c once one),
+        later g (more ∙ ap (λ x. Err x) same),
+      ))
       )
   fault_by seen s ss g false (Ok c) (Ok hs) new one more once later e = cc
 
@@ -268,11 +306,13 @@ module _ (table : Table) (end : ℕ) where
       fault_by seen s ss g (has seen s.name) (Holding s ss) (Reading (seen ++ s.name ∷ []) ss) refl refl refl (ends_once (end_before end ss) s.content some.0)
       (λ f h. sections_fault (seen ++ s.name ∷ []) ss f some.1 h) e
 
-  sections_sound : (seen : List (List ℕ)) (ss : List Section) (all : Named) (e : FanFileError) → AreHeld table end seen ss all → IsFirstFault table end seen ss e → ⊥
+  sections_sound : (seen : List (List ℕ)) (ss : List Section) (all : Named) (e : FanFileError) → AreHeld table end seen ss all →
+      IsFirstFault table end seen ss e → ⊥
   sections_sound seen [] all e held f = f
   sections_sound seen (s ∷ ss) [] e held f = held
   sections_sound seen (s ∷ ss) (k ∷ ks) e (new, name, content, later) (inl f) = cc
-  sections_sound seen (s ∷ ss) (k ∷ ks) e (new, name, content, later) (inr (inl f)) = content_sound end (kind_in table s.name) (content_tokens (end_before end ss) s.content) k.1 e content f.1
+  sections_sound seen (s ∷ ss) (k ∷ ks) e (new, name, content, later) (inr (inl f)) =
+      content_sound end (kind_in table s.name) (content_tokens (end_before end ss) s.content) k.1 e content f.1
   sections_sound seen (s ∷ ss) (k ∷ ks) e (new, name, content, later) (inr (inr f)) = sections_sound (seen ++ s.name ∷ []) ss ks e later f.2
 
 -- ---- texts
@@ -285,9 +325,11 @@ pub text_given : (table : Table) (source : List ℕ) (all : Named) → AreHeld t
 text_given table source all h = sections_given table (length source) [] (sections source) all h
 
 -- what is refused is the first fault
-pub text_fault : (table : Table) (source : List ℕ) (e : FanFileError) → text_read table source ≡ Err e → IsFirstFault table (length source) [] (sections source) e
+pub text_fault : (table : Table) (source : List ℕ) (e : FanFileError) → text_read table source ≡ Err e →
+    IsFirstFault table (length source) [] (sections source) e
 text_fault table source e h = sections_fault table (length source) [] (sections source) e (sections_some source) h
 
 -- a text whose sections hold what they should has no fault
-pub text_sound : (table : Table) (source : List ℕ) (all : Named) (e : FanFileError) → AreHeld table (length source) [] (sections source) all → IsFirstFault table (length source) [] (sections source) e → ⊥
+pub text_sound : (table : Table) (source : List ℕ) (all : Named) (e : FanFileError) → AreHeld table (length source) [] (sections source) all →
+    IsFirstFault table (length source) [] (sections source) e → ⊥
 text_sound table source all e held f = sections_sound table (length source) [] (sections source) all e held f

@@ -1,6 +1,7 @@
 -- Steps of writing a fan: numbers of cones, lines, and sections one after another.
 -- To cite: f_vector_of, counts_more, rows_text, none_yet, one_more, both_parts, three_parts. The rest are steps.
-use Rattle.std.proofs.Common.{ap₂, ◌≤◌, ◌≡◌, ◌<◌, ℕ, ◌+◌, ◌-◌, List, [], ◌∷◌, ◌++◌, length, map, flat_map, refl, sym, ap, ◌∙◌, append_assoc, append-nil, arith, ℤ}
+use Rattle.std.proofs.Common.{ap₂, ◌≤◌, ◌≡◌, ◌<◌, ℕ, ◌+◌, ◌-◌, List, [], ◌∷◌, ◌++◌, length, map, flat_map, refl, sym, ap, ◌∙◌, append_assoc, append-nil, arith}
+use Rattle.std.proofs.Common.{ℤ}
 use Rattle.std.specs.List.{range_with_len}
 use Rattle.std.proofs.lemmas.List.FromFn.{map-range_with_len_more}
 use Rattle.gf_fan_files.specs.declared.parts.ListedCone.{ListedCone}
@@ -12,11 +13,13 @@ f_vector_of low [] h = absurd (omega arith)
 f_vector_of low (c ∷ cs) h = refl
 
 -- numbers of one dimension after another, and one more
-pub counts_more : (f : ℕ → ℕ) (low dim n : ℕ) (old new : List ℕ) → low ≤ dim → old ≡ map f (range_with_len low (dim - low)) → n ≡ f dim → new ≡ old ++ n ∷ [] → new ≡ map f (range_with_len low (dim + 1 - low))
+pub counts_more : (f : ℕ → ℕ) (low dim n : ℕ) (old new : List ℕ) → low ≤ dim → old ≡ map f (range_with_len low (dim - low)) → n ≡ f dim → new ≡ old ++ n ∷ [] →
+    new ≡ map f (range_with_len low (dim + 1 - low))
 counts_more f low dim n old new from before here is =
     let next : dim + 1 - low ≡ (dim - low) + 1 = omega (arith, from) in
     let place : low + (dim - low) ≡ dim = omega (arith, from) in
-    is ∙ ap₂ (λ (xs : List ℕ) (m : ℕ). xs ++ m ∷ []) before here ∙ sym (map-range_with_len_more f low (dim - low) dim place) ∙ ap (λ k. map f (range_with_len low k)) (sym next)
+    is ∙ ap₂ (λ (xs : List ℕ) (m : ℕ). xs ++ m ∷ []) before here ∙ sym (map-range_with_len_more f low (dim - low) dim place) ∙
+    ap (λ k. map f (range_with_len low k)) (sym next)
 
 -- rows, each with the end of its line
 pub rows_text : (rs : List (List ℤ)) → flat_map (λ r. spaced_entries r ++ 10 ∷ []) rs ≡ lines_text (map (λ r. spaced_entries r) rs)
@@ -32,7 +35,8 @@ pub none_yet : (front : List ℕ) → front ≡ front ++ sections_text []
 none_yet front = sym (append-nil front)
 
 -- behind these sections, one more
-pub one_more : (front now next : List ℕ) (ss : List TextSection) (s : TextSection) → now ≡ front ++ sections_text ss → next ≡ now ++ section_text s → next ≡ front ++ sections_text (ss ++ s ∷ [])
+pub one_more : (front now next : List ℕ) (ss : List TextSection) (s : TextSection) → now ≡ front ++ sections_text ss → next ≡ now ++ section_text s →
+    next ≡ front ++ sections_text (ss ++ s ∷ [])
 one_more front now next ss s e f =
     f ∙ ap (λ l. l ++ section_text s) e ∙ append_assoc front (sections_text ss) (section_text s)
     ∙ ap (λ l. front ++ l) (ap (λ l. sections_text ss ++ l) (sym (append-nil (section_text s))) ∙ sym (sections-++ ss (s ∷ [])))

@@ -1,6 +1,7 @@
 -- Of which kind a fault is where numbers are taken up to a limit.
 -- To cite: row_kind, cone_kind, number_kind. The rest are steps.
-use Rattle.std.proofs.Common.{◌≡◌, ℕ, ℤ, Bool, true, false, nat_le, List, [], ◌∷◌, ◌++◌, Option, Some, refl, sym, ap, ◌∙◌, subst, ◌⊎◌, inl, inr, bytes_eq, if◌then◌else◌}
+use Rattle.std.proofs.Common.{◌≡◌, ℕ, ℤ, Bool, true, false, nat_le, List, [], ◌∷◌, ◌++◌, Option, Some, refl, sym, ap, ◌∙◌, subst, ◌⊎◌, inl, inr, bytes_eq}
+use Rattle.std.proofs.Common.{if◌then◌else◌}
 use Rattle.gf_text.specs.declared.error.Cause.{Cause}
 use Rattle.gf_text.specs.declared.error.Cause.TheVariants.{Unexpected, TooWide}
 use Rattle.gf_text.specs.Machine.{Move, go, done, halt, after}
@@ -68,7 +69,8 @@ module _ {S A : Type 0} (step : List ℕ → Move S A) where
     limit = k.limit;
     takes = ap (λ m. refused_by m) (k.number one refl ∙ ap (λ b. Chosen b (k.next one)) k.one_fits);
     wide = λ n digits above. ap (λ m. refused_by m) (k.number n digits ∙ ap (λ b. Chosen b (k.next n)) (le_false (decimal_value n) k.limit above));
-    small = λ n digits e. not_le (decimal_value n) k.limit (not_within (k.next n) (nat_le (decimal_value n) k.limit) (ap (λ m. refused_by m) (sym (k.number n digits)) ∙ e));
+    small = λ n digits e. not_le (decimal_value n) k.limit (not_within (k.next n) (nat_le (decimal_value n) k.limit)
+        (ap (λ m. refused_by m) (sym (k.number n digits)) ∙ e));
     expected = λ n digits e. not_unexpected (k.next n) (nat_le (decimal_value n) k.limit) (ap (λ m. refused_by m) (sym (k.number n digits)) ∙ e);
   }
 
@@ -77,7 +79,8 @@ module _ {S A : Type 0} (step : List ℕ → Move S A) where
   Which t cause = (cause ≡ Unexpected) ⊎ ((cause ≡ TooWide) × (is_number t ≡ true) × Takes)
 
   which : Takes ⊎ TakesNone → Others → (t : List ℕ) (cause : Cause) (b : Bool) → is_number t ≡ b → gate t ≡ Some cause → Which t cause
-  which (inl k) others t cause true digits e = inr (too_wide (k.next t) (nat_le (decimal_value t) k.limit) cause (ap (λ m. refused_by m) (sym (k.number t digits)) ∙ e), digits, k)
+  which (inl k) others t cause true digits e =
+      inr (too_wide (k.next t) (nat_le (decimal_value t) k.limit) cause (ap (λ m. refused_by m) (sym (k.number t digits)) ∙ e), digits, k)
   which (inr none) others t cause true digits e = inl (sym (same_cause Unexpected cause (ap (λ m. refused_by m) (sym (none t digits)) ∙ e)))
   which k others t cause false digits e = inl (others t digits cause (halts (step t) cause e))
 
@@ -109,7 +112,8 @@ module _ {S A : Type 0} (step : List ℕ → Move S A) where
   pub is_cause : Refuses → (t : List ℕ) (cause : Cause) → step t ≡ halt cause → IsNumberCause cause
   is_cause r t cause e = cause_by t cause (which r.numbers r.others t cause (is_number t) refl (ap (λ m. refused_by m) e))
 
-module _ {S A : Type 0} {step : S → List ℕ → Move S A} {start : S} {grammar : List (List ℕ) → A → Type 0} (is : IsMachineOf step start grammar) (refuses : (s : S) → Refuses (step s)) where
+module _ {S A : Type 0} {step : S → List ℕ → Move S A} {start : S} {grammar : List (List ℕ) → A → Type 0} (is : IsMachineOf step start grammar)
+    (refuses : (s : S) → Refuses (step s)) where
   -- so the faults of a machine are of these kinds
   kind_of : (ts : List (List ℕ)) (s : S) (t : List ℕ) (cause : Cause) → after step start ts ≡ go s → step s t ≡ halt cause → IsNumberKind grammar ts t cause
   kind_of = gate_number_kind is (λ s. is_gate (step s) (refuses s)) (λ s t cause e. is_cause (step s) (refuses s) t cause e)
@@ -142,7 +146,9 @@ word_some (b ∷ bs) h = refl
 -- ---- rows
 
 module _ (rs : List (List ℤ)) (zs : List ℤ) where
-  size_number : (m : Bool) (t : List ℕ) → is_number t ≡ true → row_size_step rs zs m t ≡ (if nat_le (decimal_value t) most_row_entry then go (row_state rs (zs ++ signed_entry m (decimal_value t) ∷ []) false) else halt TooWide)
+  size_number : (m : Bool) (t : List ℕ) → is_number t ≡ true →
+      row_size_step rs zs m t ≡ (if nat_le (decimal_value t) most_row_entry then go (row_state rs (zs ++ signed_entry m (decimal_value t) ∷ []) false)
+      else halt TooWide)
   size_number m t digits = rw digits refl
 
   size_other : (m : Bool) (t : List ℕ) → is_number t ≡ false → IsOnlyUnexpected (row_size_step rs zs m t)
@@ -152,19 +158,31 @@ module _ (rs : List (List ℤ)) (zs : List ℤ) where
   size_word m t word = let none = word_no_number t word in rw none refl
 
   entry_other : (t : List ℕ) → is_number t ≡ false → IsOnlyUnexpected (row_entry_step rs zs t)
-  entry_other t none = either (bytes_eq t minus_mark) (go (row_state rs zs true)) (row_size_step rs zs false t) (goes_on (row_state rs zs true)) (size_other false t none)
+  entry_other t none = either (bytes_eq t minus_mark) (go (row_state rs zs true)) (row_size_step rs zs false t) (goes_on (row_state rs zs true))
+      (size_other false t none)
 
   entry_word : (t : List ℕ) → is_word t ≡ true → row_entry_step rs zs t ≡ halt Unexpected
   entry_word t word = let mark = word_no_mark t 45 word refl in rw mark (size_word false t word)
 
 row_takes : (rs : List (List ℤ)) (zs : List ℤ) (m : Bool) → Takes (row_step (row_state rs zs m))
-row_takes rs zs true = record { limit = most_row_entry; next = λ t. row_state rs (zs ++ signed_entry true (decimal_value t) ∷ []) false; one_fits = refl; number = size_number rs zs true }
-row_takes rs zs false = record { limit = most_row_entry; next = λ t. row_state rs (zs ++ signed_entry false (decimal_value t) ∷ []) false; one_fits = refl; number = λ t digits. number_on rs zs t digits ∙ size_number rs zs false t digits }
+row_takes rs zs true = record {
+  limit = most_row_entry;
+  next = λ t. row_state rs (zs ++ signed_entry true (decimal_value t) ∷ []) false;
+  one_fits = refl;
+  number = size_number rs zs true;
+}
+row_takes rs zs false = record {
+  limit = most_row_entry;
+  next = λ t. row_state rs (zs ++ signed_entry false (decimal_value t) ∷ []) false;
+  one_fits = refl;
+  number = λ t digits. number_on rs zs t digits ∙ size_number rs zs false t digits;
+}
 
 row_others : (rs : List (List ℤ)) (zs : List ℤ) (m : Bool) (t : List ℕ) → is_number t ≡ false → IsOnlyUnexpected (row_step_at rs zs m t)
 row_others rs zs true t none = size_other rs zs true t none
 row_others rs [] false t none = either (bytes_eq t section_end) (done rs) (row_entry_step rs [] t) (is_done rs) (entry_other rs [] t none)
-row_others rs (z ∷ zs) false t none = either (bytes_eq t line_end) (go (row_state (rs ++ (z ∷ zs) ∷ []) [] false)) (row_entry_step rs (z ∷ zs) t) (goes_on (row_state (rs ++ (z ∷ zs) ∷ []) [] false)) (entry_other rs (z ∷ zs) t none)
+row_others rs (z ∷ zs) false t none = either (bytes_eq t line_end) (go (row_state (rs ++ (z ∷ zs) ∷ []) [] false)) (row_entry_step rs (z ∷ zs) t)
+    (goes_on (row_state (rs ++ (z ∷ zs) ∷ []) [] false)) (entry_other rs (z ∷ zs) t none)
 
 row_words : (rs : List (List ℤ)) (zs : List ℤ) (m : Bool) (t : List ℕ) → is_word t ≡ true → row_step_at rs zs m t ≡ halt Unexpected
 row_words rs zs true t word = size_word rs zs true t word
@@ -178,7 +196,8 @@ row_refuses s = record {
   words = λ t word. row_words s.rows s.entries s.negative t word;
 }
 
-pub row_kind : (ts : List (List ℕ)) (s : RowState) (t : List ℕ) (cause : Cause) → after row_step row_start ts ≡ go s → row_step s t ≡ halt cause → IsNumberKind AreRowTexts ts t cause
+pub row_kind : (ts : List (List ℕ)) (s : RowState) (t : List ℕ) (cause : Cause) → after row_step row_start ts ≡ go s → row_step s t ≡ halt cause →
+    IsNumberKind AreRowTexts ts t cause
 row_kind = kind_of row_machine row_refuses
 
 -- ---- lists of ray numbers
@@ -186,14 +205,23 @@ row_kind = kind_of row_machine row_refuses
 cone_refuses : (s : ConeState) → Refuses (cone_step s)
 cone_refuses (cs, before) = record {
   numbers = inr (λ t digits. let some = number_some t digits in let mark = number_no_mark t 123 digits refl in rw (some, mark) refl);
-  others = λ t none. either (bytes_eq t section_end) (done cs) (if bytes_eq t brace then go (cs, inside []) else halt Unexpected) (is_done cs) (either (bytes_eq t brace) (go (cs, inside [])) (halt Unexpected) (goes_on (cs, inside [])) refuses_it);
+  others = λ t none. either (bytes_eq t section_end) (done cs) (if bytes_eq t brace then go (cs, inside []) else halt Unexpected) (is_done cs)
+      (either (bytes_eq t brace) (go (cs, inside [])) (halt Unexpected) (goes_on (cs, inside [])) refuses_it);
   words = λ t word. let some = word_some t word in let mark = word_no_mark t 123 word refl in rw (some, mark) refl;
 }
 cone_refuses (cs, inside ns) = record {
-  numbers = inl (record { limit = most_number; next = λ t. (cs, inside (ns ++ decimal_value t ∷ [])); one_fits = refl; number = λ t digits. let mark = number_no_mark t 125 digits refl in rw (mark, digits) refl });
+  numbers = inl (record {
+    limit = most_number;
+    next = λ t. (cs, inside (ns ++ decimal_value t ∷ []));
+    one_fits = refl;
+    number = λ t digits. let mark = number_no_mark t 125 digits refl in rw (mark, digits) refl;
+  });
   others = λ t none. (
-      let unexpected : (if is_number t then (if nat_le (decimal_value t) most_number then go (cs, inside (ns ++ decimal_value t ∷ [])) else halt TooWide) else halt Unexpected) ≡ halt Unexpected = rw none refl in
-      either (bytes_eq t brace_end) (go (cs, closed ns)) (if is_number t then (if nat_le (decimal_value t) most_number then go (cs, inside (ns ++ decimal_value t ∷ [])) else halt TooWide) else halt Unexpected) (goes_on (cs, closed ns)) (subst (λ m. IsOnlyUnexpected m) (sym unexpected) refuses_it)
+      let unexpected : (if is_number t then (if nat_le (decimal_value t) most_number then go (cs, inside (ns ++ decimal_value t ∷ [])) else halt TooWide)
+      else halt Unexpected) ≡ halt Unexpected = rw none refl in
+      either (bytes_eq t brace_end) (go (cs, closed ns)) (if is_number t then
+      (if nat_le (decimal_value t) most_number then go (cs, inside (ns ++ decimal_value t ∷ [])) else halt TooWide) else halt Unexpected)
+      (goes_on (cs, closed ns)) (subst (λ m. IsOnlyUnexpected m) (sym unexpected) refuses_it)
       );
   words = λ t word. let mark = word_no_mark t 125 word refl in let none = word_no_number t word in rw (mark, none) refl;
 }
@@ -203,7 +231,8 @@ cone_refuses (cs, closed ns) = record {
   words = λ t word. let mark = word_no_mark t 10 word refl in rw mark refl;
 }
 
-pub cone_kind : (ts : List (List ℕ)) (s : ConeState) (t : List ℕ) (cause : Cause) → after cone_step cone_start ts ≡ go s → cone_step s t ≡ halt cause → IsNumberKind AreConeTexts ts t cause
+pub cone_kind : (ts : List (List ℕ)) (s : ConeState) (t : List ℕ) (cause : Cause) → after cone_step cone_start ts ≡ go s → cone_step s t ≡ halt cause →
+    IsNumberKind AreConeTexts ts t cause
 cone_kind = kind_of cone_machine cone_refuses
 
 -- ---- a number
@@ -228,5 +257,6 @@ number_refuses (Finished n) = record {
   words = λ t word. let some = word_some t word in rw some refl;
 }
 
-pub number_kind : (ts : List (List ℕ)) (s : NumberState) (t : List ℕ) (cause : Cause) → after number_step Unread ts ≡ go s → number_step s t ≡ halt cause → IsNumberKind IsOneNumberText ts t cause
+pub number_kind : (ts : List (List ℕ)) (s : NumberState) (t : List ℕ) (cause : Cause) → after number_step Unread ts ≡ go s → number_step s t ≡ halt cause →
+    IsNumberKind IsOneNumberText ts t cause
 number_kind = kind_of number_machine number_refuses

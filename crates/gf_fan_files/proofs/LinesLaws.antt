@@ -1,6 +1,7 @@
 -- Lines are found from left to right, and what is read of them.
 -- To cite: line_first, lines_ended, first_token, is_name, cut_lexeme, left_word. The rest are steps.
-use Rattle.std.proofs.Common.{◌≡◌, ◌<◌, ◌≤◌, ℕ, suc, ◌+◌, ◌-◌, Bool, true, false, cond, ◌&&◌, ◌==◌, not, min, List, [], ◌∷◌, length, take, drop, take_while, refl, sym, ap, ◌∙◌, ◌⊎◌, inl, inr, bytes_eq, arith, if◌then◌else◌}
+use Rattle.std.proofs.Common.{◌≡◌, ◌<◌, ◌≤◌, ℕ, suc, ◌+◌, ◌-◌, Bool, true, false, cond, ◌&&◌, ◌==◌, not, min, List, [], ◌∷◌, length, take, drop, take_while}
+use Rattle.std.proofs.Common.{refl, sym, ap, ◌∙◌, ◌⊎◌, inl, inr, bytes_eq, arith, if◌then◌else◌}
 use Rattle.std.proofs.lemmas.List.{drop-drop, drop-take, take-take, take_all, drop_all, length-drop}
 use Rattle.std.proofs.lemmas.Bool.{cases_lt}
 use Rattle.std.proofs.lemmas.List.Sums.{prefix_len-le-length}
@@ -20,10 +21,14 @@ use Rattle.gf_fan_files.specs.Lines.{Sections, no_sections, with_name, with_line
 lines_behind : ℕ → List ℕ → ℕ → List Lexeme
 lines_behind at bs k = lines (at + suc k) (drop (suc k) bs)
 
-more_by : (b at : ℕ) (bs : List ℕ) (v : Bool) → (prefix_len goes_on_line bs < length bs → lines (at + 1) bs ≡ record { text = take (prefix_len goes_on_line bs) bs; at = at + 1 } ∷ lines_behind (at + 1) bs (prefix_len goes_on_line bs))
+more_by : (b at : ℕ) (bs : List ℕ) (v : Bool) → (prefix_len goes_on_line bs < length bs →
+    lines (at + 1) bs ≡ record { text = take (prefix_len goes_on_line bs) bs; at = at + 1 } ∷ lines_behind (at + 1) bs (prefix_len goes_on_line bs))
     → cond (not v) (1 + prefix_len goes_on_line bs) 0 < suc (length bs)
     → (if v then record { text = []; at = at } ∷ lines (at + 1) bs else before_line b at (lines (at + 1) bs))
-    ≡ record { text = take (cond (not v) (1 + prefix_len goes_on_line bs) 0) (b ∷ bs); at = at } ∷ lines_behind at (b ∷ bs) (cond (not v) (1 + prefix_len goes_on_line bs) 0)
+    ≡ record {
+      text = take (cond (not v) (1 + prefix_len goes_on_line bs) 0) (b ∷ bs);
+      at = at;
+    } ∷ lines_behind at (b ∷ bs) (cond (not v) (1 + prefix_len goes_on_line bs) 0)
 unfolding lines_behind
 more_by b at bs true later h = refl
 more_by b at bs false later h =
@@ -33,7 +38,11 @@ more_by b at bs false later h =
     let place : (at + 1) + suc k ≡ at + suc (suc k) = omega arith in
     rw (later fits, next, place) refl
 
-first_more : (at : ℕ) (bs : List ℕ) → prefix_len goes_on_line bs < length bs → lines at bs ≡ record { text = take (prefix_len goes_on_line bs) bs; at = at } ∷ lines_behind at bs (prefix_len goes_on_line bs)
+first_more : (at : ℕ) (bs : List ℕ) → prefix_len goes_on_line bs < length bs → lines at bs ≡ record {
+  text = take (prefix_len goes_on_line bs) bs;
+  at =
+      at;
+} ∷ lines_behind at bs (prefix_len goes_on_line bs)
 unfolding lines
 first_more at [] h = absurd (omega arith)
 first_more at (b ∷ bs) h = more_by b at bs (b == 10) (first_more (at + 1) bs) h
@@ -65,8 +74,10 @@ between source text at k is front =
     ap (take n) (sym front) ∙ take-take n (length text) (drop at source) fits ∙ ap (λ m. take m (drop at source)) size ∙ sym (drop-take at k source) in
     ap (λ l. all_parted false at (lex_tokens word_more 0 at l)) cut
 
-module _ (source : List ℕ) (at whole text : ℕ) (within : at ≤ length source) (is_whole : whole ≡ length (take_while goes_on_line (drop at source))) (is_text : text ≡ length (take_while is_no_comment (take whole (drop at source)))) where
-  line_more : prefix_len goes_on_line (drop at source) < length (drop at source) → sections_from source at ≡ with_tokens (tokens_between source at (at + text)) (sections_from source (min (at + whole + 1) (length source)))
+module _ (source : List ℕ) (at whole text : ℕ) (within : at ≤ length source) (is_whole : whole ≡ length (take_while goes_on_line (drop at source)))
+    (is_text : text ≡ length (take_while is_no_comment (take whole (drop at source)))) where
+  line_more : prefix_len goes_on_line (drop at source) < length (drop at source) →
+      sections_from source at ≡ with_tokens (tokens_between source at (at + text)) (sections_from source (min (at + whole + 1) (length source)))
   unfolding lines_behind
   line_more h =
       let bs = drop at source in
@@ -75,13 +86,15 @@ module _ (source : List ℕ) (at whole text : ℕ) (within : at ≤ length sourc
       let some = length-drop at source in
       let place : at + suc k ≡ min (at + whole + 1) (length source) = omega arith in
       let front : take (length (take k bs)) bs ≡ take k bs = ap (λ n. take n bs) (length-prefix_len goes_on_line bs) in
-      let tokens : line_tokens (record { text = take k bs; at = at }) ≡ tokens_between source at (at + text) = between source (take k bs) at text (is_text ∙ ap (λ n. length (take_while is_no_comment (take n bs))) (sym size)) front in
+      let tokens : line_tokens (record { text = take k bs; at = at }) ≡ tokens_between source at (at + text) =
+      between source (take k bs) at text (is_text ∙ ap (λ n. length (take_while is_no_comment (take n bs))) (sym size)) front in
       ap sections_of (first_more at bs h)
       ∙ ap (λ l. with_tokens l (sections_of (lines (at + suc k) (drop (suc k) bs)))) tokens
       ∙ ap (λ l. with_tokens (tokens_between source at (at + text)) (sections_of (lines (at + suc k) l))) (drop-drop (suc k) at source)
       ∙ ap (λ n. with_tokens (tokens_between source at (at + text)) (sections_from source n)) place
 
-  line_last : length (drop at source) ≤ prefix_len goes_on_line (drop at source) → sections_from source at ≡ with_tokens (tokens_between source at (at + text)) (sections_from source (min (at + whole + 1) (length source)))
+  line_last : length (drop at source) ≤ prefix_len goes_on_line (drop at source) →
+      sections_from source at ≡ with_tokens (tokens_between source at (at + text)) (sections_from source (min (at + whole + 1) (length source)))
   line_last h =
       let bs = drop at source in
       let k = prefix_len goes_on_line bs in
@@ -91,14 +104,17 @@ module _ (source : List ℕ) (at whole text : ℕ) (within : at ≤ length sourc
       let all : take whole bs ≡ bs = take_all whole bs (omega arith) in
       let front : take (length bs) bs ≡ bs = take_all (length bs) bs (omega arith) in
       let end : length source ≤ min (at + whole + 1) (length source) = omega arith in
-      let tokens : line_tokens (record { text = bs; at = at }) ≡ tokens_between source at (at + text) = between source bs at text (is_text ∙ ap (λ l. length (take_while is_no_comment l)) all) front in
+      let tokens : line_tokens (record { text = bs; at = at }) ≡ tokens_between source at (at + text) =
+      between source bs at text (is_text ∙ ap (λ l. length (take_while is_no_comment l)) all) front in
       ap sections_of (first_last at bs h)
       ∙ ap (λ l. with_tokens l no_sections) tokens
       ∙ ap (λ s. with_tokens (tokens_between source at (at + text)) s) (sym (lines_ended source (min (at + whole + 1) (length source)) end))
 
   -- the line that stands at a place, and what stands behind it
-  pub line_first : (next : ℕ) → next ≡ min (at + whole + 1) (length source) → sections_from source at ≡ with_tokens (tokens_between source at (at + text)) (sections_from source next)
-  line_first next e = elim (cases_lt (prefix_len goes_on_line (drop at source)) (length (drop at source))) [ inl h ↦ line_more h | inr h ↦ line_last h ] ∙ ap (λ n. with_tokens (tokens_between source at (at + text)) (sections_from source n)) (sym e)
+  pub line_first : (next : ℕ) → next ≡ min (at + whole + 1) (length source) →
+      sections_from source at ≡ with_tokens (tokens_between source at (at + text)) (sections_from source next)
+  line_first next e = elim (cases_lt (prefix_len goes_on_line (drop at source)) (length (drop at source))) [ inl h ↦ line_more h | inr h ↦ line_last h ] ∙
+      ap (λ n. with_tokens (tokens_between source at (at + text)) (sections_from source n)) (sym e)
 
 -- ---- what a line is
 
@@ -121,22 +137,26 @@ cut_lexeme source end s b rises within =
     let whole : s + (end - s) ≡ end = omega arith in
     let short : b - s ≤ end - s = omega arith in
     let cut : take (b - s) (drop s (take end source)) ≡ take (b - s) (drop s source) =
-    ap (λ n. take (b - s) (drop s (take n source))) (sym whole) ∙ ap (take (b - s)) (drop-take s (end - s) source) ∙ take-take (b - s) (end - s) (drop s source) short in
+    ap (λ n. take (b - s) (drop s (take n source))) (sym whole) ∙ ap (take (b - s)) (drop-take s (end - s) source) ∙ take-take (b - s) (end - s) (drop s source)
+    short in
     ap (λ t. record { text = t; at = s }) cut
 
 -- ---- the next token of a line
 
-module _ (source : List ℕ) (at end s b : ℕ) (is_behind_minus : Bool) (here : lexemes word_more (take end source) at ≡ lexeme (take end source) s b ∷ lexemes word_more (take end source) b) where
+module _ (source : List ℕ) (at end s b : ℕ) (is_behind_minus : Bool) (here : lexemes word_more (take end source) at ≡ lexeme (take end source) s b ∷
+    lexemes word_more (take end source) b) where
   -- nothing parts the token from a minus before it
   not_parted : (place : ℕ) (x : Lexeme) → ((is_behind_minus ≡ true) × (place ≡ x.at)) ⊎ (is_behind_minus ≡ false) → parted is_behind_minus place x ≡ x
-  not_parted place x (inl (is, same)) = ap (λ n. if is_behind_minus && not (n == x.at) then record { text = blank; at = x.at } else x) same ∙ ap (λ v. if is_behind_minus && not v then record { text = blank; at = x.at } else x) (byte_itself x.at) ∙ never is_behind_minus
+  not_parted place x (inl (is, same)) = ap (λ n. if is_behind_minus && not (n == x.at) then record { text = blank; at = x.at } else x) same ∙
+      ap (λ v. if is_behind_minus && not v then record { text = blank; at = x.at } else x) (byte_itself x.at) ∙ never is_behind_minus
     where
       never : (v : Bool) → (if v && false then record { text = blank; at = x.at } else x) ≡ x
       never true = refl
       never false = refl
   not_parted place x (inr none) = ap (λ v. if v && not (place == x.at) then record { text = blank; at = x.at } else x) none
 
-  pub left_word : s < b → b ≤ length (take end source) → b ≤ end → (m : Bool) → m ≡ bytes_eq (take (b - s) (drop s (take end source))) minus_mark → ((is_behind_minus ≡ true) × (at ≡ s)) ⊎ (is_behind_minus ≡ false)
+  pub left_word : s < b → b ≤ length (take end source) → b ≤ end → (m : Bool) → m ≡ bytes_eq (take (b - s) (drop s (take end source))) minus_mark →
+      ((is_behind_minus ≡ true) × (at ≡ s)) ⊎ (is_behind_minus ≡ false)
       → all_parted is_behind_minus at (lexemes word_more (take end source) at) ≡ lexeme source s b ∷ all_parted m b (lexemes word_more (take end source) b)
   left_word rises within fits m is apart =
       let x = lexeme (take end source) s b in

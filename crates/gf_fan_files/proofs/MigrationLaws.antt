@@ -31,7 +31,8 @@ use Rattle.gf_fan_files.proofs.ReadAgainLaws.{of_text, written_refused, written_
 -- ---- fans of one file have the same cones
 
 -- each cone of the second is a part of a cone of the file, and so it is one of the first
-one_of : (k : FanFile) (f g : FanLists) (cs ds : List RowsAndRays) → AreConesOfFile k cs → AreConesOfFile k ds → IsFanOf k.ambient cs f → IsFanOf k.ambient ds g → (l : FanCone) → Contains g.cones l
+one_of : (k : FanFile) (f g : FanLists) (cs ds : List RowsAndRays) → AreConesOfFile k cs → AreConesOfFile k ds → IsFanOf k.ambient cs f →
+    IsFanOf k.ambient ds g → (l : FanCone) → Contains g.cones l
     → (m : FanCone) × (Contains f.cones m × SameCone k.ambient (rows_of m.cone) (rows_of l.cone))
 one_of k f g cs ds a b s t l i =
     let n = k.ambient in
@@ -56,8 +57,14 @@ one_file source f g s t =
           let m = one_of k f g s.of_file.cones t.of_file.cones s.of_file.of_file there s.of_file.is_fan fan l i in
           (m.0, (m.1.0, subst (λ n. SameCone n (rows_of m.0.cone) (rows_of l.cone)) (sym ambient) m.1.1));
       every = λ l i.
-          let m = one_of k g f t.of_file.cones s.of_file.cones there s.of_file.of_file fan s.of_file.is_fan l i in
-          (m.0, (m.1.0, subst (λ n. SameCone n (rows_of l.cone) (rows_of m.0.cone)) (sym ambient) (same_turned k.ambient (rows_of m.0.cone) (rows_of l.cone) m.1.1)));
+          let m = one_of k g f t.of_file.cones s.of_file.cones there s.of_file.of_file fan s.of_file.is_fan l i in (
+            m.0,
+            (
+              m.1.0,
+              subst (λ n. SameCone n (rows_of l.cone) (rows_of m.0.cone)) (sym ambient) (same_turned k.ambient (rows_of m.0.cone) (rows_of l.cone)
+                  m.1.1),
+            ),
+          );
     }
 
 -- what has the same cones as something that has the same cones
@@ -95,7 +102,8 @@ migrated_whole source text m =
     record {
       migrated = m;
       second = ap (λ (t : List ℕ). is_second (told_version t)) m.is_text ∙ second_written (parts_of_fan f) m.writable;
-      cones = λ g h s t. through g f h (one_file source g f s m.of_source) (written_read f h fan m.writable (subst (λ (z : List ℕ). IsFanOfText z h) m.is_text t));
+      cones = λ g h s t. through g f h (one_file source g f s m.of_source)
+          (written_read f h fan m.writable (subst (λ (z : List ℕ). IsFanOfText z h) m.is_text t));
       twice = λ again a.
           let g : FanLists = a.fan in
           let read : IsFanOfText (fan_text (parts_of_fan f)) g = subst (λ (z : List ℕ). IsFanOfText z g) m.is_text a.of_source in
@@ -109,6 +117,7 @@ migrated_whole source text m =
 pub fan_positive : (source : List ℕ) (f : FanLists) → IsFanOfText source f → 0 < f.ambient
 fan_positive source f t = subst (λ n. 0 < n) (sym t.of_file.is_fan.ambient) t.sound.positive
 
-pub not_migrated : (source : List ℕ) (f : FanLists) (v : VecError) (e : FanFileError) → IsFanOfText source f → IfWide (IsWritingStep f) v → e ≡ refusal_of_vectors v → IsMigrationRefusal source e
+pub not_migrated : (source : List ℕ) (f : FanLists) (v : VecError) (e : FanFileError) → IsFanOfText source f → IfWide (IsWritingStep f) v →
+    e ≡ refusal_of_vectors v → IsMigrationRefusal source e
 not_migrated source f (vec_errors.Wide w) e t h q = unwritten f w t h q
 not_migrated source f vec_errors.Memory e t h q = no_memory q

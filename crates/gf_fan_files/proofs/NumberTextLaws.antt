@@ -114,7 +114,8 @@ either true x y h k = h
 either false x y h k = k
 
 no_end : (s : NumberState) (t : List ℕ) → IsNoEnd (number_step s t)
-no_end Unread t = either (is_number t) (if nat_le (decimal_value t) most_number then goes (Read (decimal_value t)) else stops TooWide) (stops Unexpected) (either (nat_le (decimal_value t) most_number) (goes (Read (decimal_value t))) (stops TooWide) (λ e. cc) (λ e. cc)) (λ e. cc)
+no_end Unread t = either (is_number t) (if nat_le (decimal_value t) most_number then goes (Read (decimal_value t)) else stops TooWide) (stops Unexpected)
+    (either (nat_le (decimal_value t) most_number) (goes (Read (decimal_value t))) (stops TooWide) (λ e. cc) (λ e. cc)) (λ e. cc)
 no_end (Read n) t = either (bytes_eq t line_end) (goes (Finished n)) (stops Unexpected) (λ e. cc) (λ e. cc)
 no_end (Finished n) t = either (bytes_eq t section_end) (ends n) (stops Unexpected) (λ e. cc) (λ e. cc)
 

@@ -25,8 +25,10 @@ use Rattle.gf_fan_files.proofs.FilesLaws.{sections_once, file_once, behind_holds
 
 -- ---- the first fault of the text
 
-of_once : {A : Type 0} (grammar : List (List ℕ) → A → Type 0) (end : ℕ) (xs : List Lexeme) (e d : FanFileError) → IsFaultOf grammar end xs e → IsFaultOf grammar end xs d → d ≡ e
-of_once grammar end xs e d (f, never, here, is) (g, neither, there, so) = so ∙ ap (refused_before end) (sym (fault_once grammar (IsNumberKind grammar) (number_kind_once grammar) xs end f g here there)) ∙ sym is
+of_once : {A : Type 0} (grammar : List (List ℕ) → A → Type 0) (end : ℕ) (xs : List Lexeme) (e d : FanFileError) → IsFaultOf grammar end xs e →
+    IsFaultOf grammar end xs d → d ≡ e
+of_once grammar end xs e d (f, never, here, is) (g, neither, there, so) =
+    so ∙ ap (refused_before end) (sym (fault_once grammar (IsNumberKind grammar) (number_kind_once grammar) xs end f g here there)) ∙ sym is
 
 content_once : (end : ℕ) (k : ContentKind) (xs : List Lexeme) (e d : FanFileError) → IsContentFault end k xs e → IsContentFault end k xs d → d ≡ e
 content_once end (number_to limit) xs e d (inl h) (inl g) = g.1 ∙ sym h.1
@@ -37,16 +39,20 @@ content_once end rows xs e d h g = of_once AreRowTexts end xs e d h g
 content_once end cones xs e d h g = of_once AreConeTexts end xs e d h g
 content_once end any xs e d h g = absurd h
 
-first_once : (table : Table) (end : ℕ) (seen : List (List ℕ)) (ss : List TextSection) (e d : FanFileError) → IsFirstFault table end seen ss e → IsFirstFault table end seen ss d → d ≡ e
+first_once : (table : Table) (end : ℕ) (seen : List (List ℕ)) (ss : List TextSection) (e d : FanFileError) → IsFirstFault table end seen ss e →
+    IsFirstFault table end seen ss d → d ≡ e
 first_once table end seen [] e d h g = absurd h
 first_once table end seen (s ∷ ss) e d (inl h) (inl g) = g.1 ∙ sym h.1
 first_once table end seen (s ∷ ss) e d (inl h) (inr (inl g)) = (let a = h.0 in let b = g.0 in cc)
 first_once table end seen (s ∷ ss) e d (inl h) (inr (inr g)) = (let a = h.0 in let b = g.0 in cc)
 first_once table end seen (s ∷ ss) e d (inr (inl h)) (inl g) = (let a = h.0 in let b = g.0 in cc)
-first_once table end seen (s ∷ ss) e d (inr (inl h)) (inr (inl g)) = content_once end (kind_in table s.name) (content_tokens (end_before end ss) s.content) e d h.1 g.1
-first_once table end seen (s ∷ ss) e d (inr (inl h)) (inr (inr g)) = absurd (content_sound end (kind_in table s.name) (content_tokens (end_before end ss) s.content) g.1.0 e g.1.1 h.1)
+first_once table end seen (s ∷ ss) e d (inr (inl h)) (inr (inl g)) =
+    content_once end (kind_in table s.name) (content_tokens (end_before end ss) s.content) e d h.1 g.1
+first_once table end seen (s ∷ ss) e d (inr (inl h)) (inr (inr g)) =
+    absurd (content_sound end (kind_in table s.name) (content_tokens (end_before end ss) s.content) g.1.0 e g.1.1 h.1)
 first_once table end seen (s ∷ ss) e d (inr (inr h)) (inl g) = (let a = h.0 in let b = g.0 in cc)
-first_once table end seen (s ∷ ss) e d (inr (inr h)) (inr (inl g)) = absurd (content_sound end (kind_in table s.name) (content_tokens (end_before end ss) s.content) h.1.0 d h.1.1 g.1)
+first_once table end seen (s ∷ ss) e d (inr (inr h)) (inr (inl g)) =
+    absurd (content_sound end (kind_in table s.name) (content_tokens (end_before end ss) s.content) h.1.0 d h.1.1 g.1)
 first_once table end seen (s ∷ ss) e d (inr (inr h)) (inr (inr g)) = first_once table end (seen ++ s.name ∷ []) ss e d h.2 g.2
 
 -- ---- the first of a list
@@ -72,7 +78,8 @@ length_once n rs e d h g =
     let same = behind_once (λ (t : List ℤ). length t ≡ n) rs h.place g.place h.row g.row h.first g.first h.other g.other in
     g.refused ∙ ap (λ (r : List ℤ). errors.Dimensions (length r) n) same.1 ∙ sym h.refused
 
-ray_once : (n : ℕ) (lineality rays : List (List ℤ)) (e d : FanFileError) → (IsOfLimits e → ⊥) → IsRayFault n lineality rays e → IsRayFault n lineality rays d → (d ≡ e) ⊎ IsOfLimits d
+ray_once : (n : ℕ) (lineality rays : List (List ℤ)) (e d : FanFileError) → (IsOfLimits e → ⊥) → IsRayFault n lineality rays e → IsRayFault n lineality rays d →
+    (d ≡ e) ⊎ IsOfLimits d
 ray_once n lineality rays e d told h g = elim h.refused [
   | inr s ↦ absurd (told (subst IsOfLimits (sym s.2) tt))
   | inl k ↦ elim g.refused [
@@ -96,9 +103,11 @@ below_refutes count ns i k b above all = (let small : k < count = behind_holds (
 number_once : (count : ℕ) (cs : List (List ℕ)) (e d : FanFileError) → IsNumberFault count cs e → IsNumberFault count cs d → d ≡ e
 number_once count cs e d h g =
     let above = h.above in let over = g.above in
-    let cone = behind_once (AreBelow count) cs h.place g.place h.cone g.cone h.first g.first (λ b. below_refutes count h.cone h.within h.number h.first_within above b) (λ b. below_refutes count g.cone g.within g.number g.first_within over b) in
+    let cone = behind_once (AreBelow count) cs h.place g.place h.cone g.cone h.first g.first
+    (λ b. below_refutes count h.cone h.within h.number h.first_within above b) (λ b. below_refutes count g.cone g.within g.number g.first_within over b) in
     let there : IsBehind (λ k. k < count) h.cone g.within g.number = subst (λ c. IsBehind (λ k. k < count) c g.within g.number) cone.1 g.first_within in
-    let number = behind_once (λ k. k < count) h.cone h.within g.within h.number g.number h.first_within there (λ b. omega (arith, above, b)) (λ b. omega (arith, over, b)) in
+    let number = behind_once (λ k. k < count) h.cone h.within g.within h.number g.number h.first_within there (λ b. omega (arith, above, b)) (λ b.
+    omega (arith, over, b)) in
     g.refused ∙ ap (λ i. errors.BadRay i) number.1 ∙ sym h.refused
 
 form_once : (f : FanFile) (e d : FanFileError) → (IsOfLimits e → ⊥) → IsFormFault f e → IsFormFault f d → (d ≡ e) ⊎ IsOfLimits d
@@ -173,10 +182,12 @@ named_once names.MaximalInteriors names.MaximalInteriors e = refl
 version_once : (source : List ℕ) (number other : ℕ) → told_version source ≡ Some number → told_version source ≡ Some other → other ≡ number
 version_once source number other h g = cc
 
-version_unknown : (source : List ℕ) (number : ℕ) → told_version source ≡ Some number → (number ≡ 1 → ⊥) → (number ≡ 2 → ⊥) → IsKnownVersion (told_version source) → ⊥
+version_unknown : (source : List ℕ) (number : ℕ) → told_version source ≡ Some number → (number ≡ 1 → ⊥) → (number ≡ 2 → ⊥) →
+    IsKnownVersion (told_version source) → ⊥
 version_unknown source number is no_first no_second k = elim (subst IsKnownVersion is k) [ inl e ↦ no_first e | inr e ↦ no_second e ]
 
-missing_same : (source : List ℕ) (all other : Named) → AreSectionsOf source all → AreSectionsOf source other → first_missing (wanted (told_version source)) all ≡ first_missing (wanted (told_version source)) other
+missing_same : (source : List ℕ) (all other : Named) → AreSectionsOf source all → AreSectionsOf source other →
+    first_missing (wanted (told_version source)) all ≡ first_missing (wanted (told_version source)) other
 missing_same source all other h g = ap (first_missing (wanted (told_version source))) (sections_once source all other h g)
 
 pub refused_once : (source : List ℕ) (e d : FanFileError) → (IsOfLimits e → ⊥) → IsFileRefused source e → IsFileRefused source d → (d ≡ e) ⊎ IsOfLimits d
@@ -187,11 +198,14 @@ refused_once source e d told (in_text h) (bad_version all number held v a b is) 
 refused_once source e d told (in_text h) (not_there all section held known missing is) = absurd (text_sound (told_table source) source all e held h)
 refused_once source e d told (in_text h) (in_form f is g) = absurd (text_sound (told_table source) source is.all e is.held h)
 refused_once source e d told (bad_version all number held v a b is) (in_text g) = absurd (text_sound (told_table source) source all d held g)
-refused_once source e d told (bad_version all number held v a b is) (bad_version some other holds w p q so) = inl (so ∙ ap (λ n. errors.BadVersion n) (version_once source number other v w) ∙ sym is)
-refused_once source e d told (bad_version all number held v a b is) (not_there some section holds known missing so) = absurd (version_unknown source number v a b known)
+refused_once source e d told (bad_version all number held v a b is) (bad_version some other holds w p q so) =
+    inl (so ∙ ap (λ n. errors.BadVersion n) (version_once source number other v w) ∙ sym is)
+refused_once source e d told (bad_version all number held v a b is) (not_there some section holds known missing so) =
+    absurd (version_unknown source number v a b known)
 refused_once source e d told (bad_version all number held v a b is) (in_form f said g) = absurd (version_known source f number said v a b)
 refused_once source e d told (not_there all section held known missing is) (in_text g) = absurd (text_sound (told_table source) source all d held g)
-refused_once source e d told (not_there all section held known missing is) (bad_version some other holds w p q so) = absurd (version_unknown source other w p q known)
+refused_once source e d told (not_there all section held known missing is) (bad_version some other holds w p q so) =
+    absurd (version_unknown source other w p q known)
 refused_once source e d told (not_there all section held known missing is) (not_there other name there also none so) =
     let same = missing_same source other all there held in
     let first : section_name section ≡ section_name name = cc in

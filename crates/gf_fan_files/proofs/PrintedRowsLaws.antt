@@ -1,6 +1,8 @@
 -- The tokens of printed rows, with or without a comment behind.
--- To cite: no_byte-++, digits_no, number_digits, IsTail, no_tail, comment_tail, IsSmall, AreSmall, IsRowLine, AreRowLines, row_as_line, rows_hold, rows_content, rows_plain, line_texts, first_digit. The rest are steps.
-use Rattle.std.proofs.Common.{◌≡◌, ◌≤◌, ℕ, suc, ◌+◌, Bool, true, false, ◌==◌, not, List, [], ◌∷◌, ◌++◌, length, flat_map, decimal, refl, sym, ap, subst, ◌∙◌, inl, inr, append_assoc, bytes_eq, arith, if◌then◌else◌, ℤ, pos, negsuc, unsigned_abs}
+-- To cite: no_byte-++, digits_no, number_digits, IsTail, no_tail, comment_tail, IsSmall, AreSmall, IsRowLine, AreRowLines, row_as_line, rows_hold,
+-- rows_content, rows_plain, line_texts, first_digit. The rest are steps.
+use Rattle.std.proofs.Common.{◌≡◌, ◌≤◌, ℕ, suc, ◌+◌, Bool, true, false, ◌==◌, not, List, [], ◌∷◌, ◌++◌, length, flat_map, decimal, refl, sym, ap, subst, ◌∙◌}
+use Rattle.std.proofs.Common.{inl, inr, append_assoc, bytes_eq, arith, if◌then◌else◌, ℤ, pos, negsuc, unsigned_abs}
 use Rattle.std.proofs.lemmas.Bool.Decides.{nat_tests, eqb_tells}
 use Rattle.std.proofs.lemmas.Bool.{and_parts}
 use Rattle.std.specs.List.{list_all, prefix_len, AllByRecursion}
@@ -62,7 +64,8 @@ tab_left rest = refl
 
 uncommented_front : (bs rest : List ℕ) → no_byte 35 bs ≡ true → before_comment (bs ++ (9 ∷ 35 ∷ rest)) ≡ bs ++ 9 ∷ []
 uncommented_front [] rest h = tab_left rest
-uncommented_front (b ∷ bs) rest h = let both = and_parts (not (b == 35)) (no_byte 35 bs) h in left_by b bs (9 ∷ 35 ∷ rest) (bs ++ 9 ∷ []) both.0 (uncommented_front bs rest both.1)
+uncommented_front (b ∷ bs) rest h = let both = and_parts (not (b == 35)) (no_byte 35 bs) h in left_by b bs (9 ∷ 35 ∷ rest) (bs ++ 9 ∷ []) both.0
+    (uncommented_front bs rest both.1)
 
 no_lexed : (at : ℕ) → lex_tokens word_more 0 at [] ≡ []
 unfolding lex_tokens
@@ -97,16 +100,21 @@ digits_number z h = decimal_number (unsigned_abs z) (omega arith)
 
 -- the tokens of an entry that stands here
 abbrev entry_tokens : ℕ → ℤ → List Lexeme
-entry_tokens at z = if is_below_zero z then record { text = minus_mark; at = at } ∷ record { text = digits z; at = at + 1 } ∷ [] else record { text = digits z; at = at } ∷ []
+entry_tokens at z = if is_below_zero z then record { text = minus_mark; at = at } ∷ record { text = digits z; at = at + 1 } ∷ [] else record {
+  text = digits z;
+  at = at;
+} ∷ []
 
-entry_lexed : (at : ℕ) (z : ℤ) (rest : List ℕ) → IsSmall z → goes_on rest ≡ false → lex_tokens word_more 0 at (entry_text z ++ rest) ≡ entry_tokens at z ++ lex_tokens word_more 0 (at + length (entry_text z)) rest
+entry_lexed : (at : ℕ) (z : ℤ) (rest : List ℕ) → IsSmall z → goes_on rest ≡ false →
+    lex_tokens word_more 0 at (entry_text z ++ rest) ≡ entry_tokens at z ++ lex_tokens word_more 0 (at + length (entry_text z)) rest
 entry_lexed at z rest small stops = by (is_below_zero z)
   where
     number : (p : ℕ) → lex_tokens word_more 0 p (digits z ++ rest) ≡ record { text = digits z; at = p } ∷ lex_tokens word_more 0 (p + length (digits z)) rest
     number p = lex-token word_more p (digits z) rest (number_word (digits z) rest (digits_number z small).0 stops)
 
     by : (v : Bool) → lex_tokens word_more 0 at ((if v then 45 ∷ digits z else digits z) ++ rest)
-        ≡ (if v then record { text = minus_mark; at = at } ∷ record { text = digits z; at = at + 1 } ∷ [] else record { text = digits z; at = at } ∷ []) ++ lex_tokens word_more 0 (at + length (if v then 45 ∷ digits z else digits z)) rest
+        ≡ (if v then record { text = minus_mark; at = at } ∷ record { text = digits z; at = at + 1 } ∷ [] else record { text = digits z; at = at } ∷ []) ++
+        lex_tokens word_more 0 (at + length (if v then 45 ∷ digits z else digits z)) rest
     by true =
         let place : (at + 1) + length (digits z) ≡ at + length (45 ∷ digits z) = omega arith in
         lex-token word_more at minus_mark (digits z ++ rest) (mark_token 45 (digits z ++ rest) refl refl)
@@ -129,12 +137,14 @@ entry_kept at z ys small kept place = by (is_below_zero z)
     last : bytes_eq (digits z) minus_mark ≡ false
     last = number_no_mark (digits z) 45 (digits_number z small).0 refl
 
-    by : (v : Bool) → all_parted false place ((if v then record { text = minus_mark; at = at } ∷ record { text = digits z; at = at + 1 } ∷ [] else record { text = digits z; at = at } ∷ []) ++ ys)
+    by : (v : Bool) → all_parted false place ((if v then record { text = minus_mark; at = at } ∷ record { text = digits z; at = at + 1 } ∷
+        [] else record { text = digits z; at = at } ∷ []) ++ ys)
         ≡ (if v then record { text = minus_mark; at = at } ∷ record { text = digits z; at = at + 1 } ∷ [] else record { text = digits z; at = at } ∷ []) ++ ys
     by true =
         let m : Lexeme = record { text = minus_mark; at = at } in
         let d : Lexeme = record { text = digits z; at = at + 1 } in
-        ap (λ y. m ∷ y ∷ all_parted (bytes_eq (digits z) minus_mark) (behind d) ys) (parted_next at (digits z)) ∙ ap (λ v. m ∷ d ∷ all_parted v (behind d) ys) last ∙ ap (λ l. m ∷ d ∷ l) (kept (behind d))
+        ap (λ y. m ∷ y ∷ all_parted (bytes_eq (digits z) minus_mark) (behind d) ys) (parted_next at (digits z)) ∙ ap (λ v. m ∷ d ∷ all_parted v (behind d) ys)
+        last ∙ ap (λ l. m ∷ d ∷ l) (kept (behind d))
     by false =
         let d : Lexeme = record { text = digits z; at = at } in
         ap (λ v. d ∷ all_parted v (behind d) ys) last ∙ ap (λ l. d ∷ l) (kept (behind d))
@@ -157,7 +167,8 @@ more_stops : (zs : List ℤ) (rest : List ℕ) → goes_on rest ≡ false → go
 more_stops [] rest h = h
 more_stops (z ∷ zs) rest h = refl
 
-more_lexed : (at : ℕ) (zs : List ℤ) (rest : List ℕ) → AreSmall zs → goes_on rest ≡ false → ((p : ℕ) → lex_tokens word_more 0 p rest ≡ []) → lex_tokens word_more 0 at (more_text zs ++ rest) ≡ more_tokens at zs
+more_lexed : (at : ℕ) (zs : List ℤ) (rest : List ℕ) → AreSmall zs → goes_on rest ≡ false → ((p : ℕ) → lex_tokens word_more 0 p rest ≡ []) →
+    lex_tokens word_more 0 at (more_text zs ++ rest) ≡ more_tokens at zs
 more_lexed at [] rest small stops none = none at
 more_lexed at (z ∷ zs) rest small stops none =
     lex-space word_more 32 at ((entry_text z ++ more_text zs) ++ rest) refl
@@ -168,15 +179,25 @@ more_lexed at (z ∷ zs) rest small stops none =
 more_kept : (at : ℕ) (zs : List ℤ) → AreSmall zs → Kept (more_tokens at zs)
 unfolding Kept
 more_kept at [] small place = refl
-more_kept at (z ∷ zs) small place = entry_kept (at + 1) z (more_tokens ((at + 1) + length (entry_text z)) zs) small.0 (more_kept ((at + 1) + length (entry_text z)) zs small.1) place
+more_kept at (z ∷ zs) small place = entry_kept (at + 1) z (more_tokens ((at + 1) + length (entry_text z)) zs) small.0
+    (more_kept ((at + 1) + length (entry_text z)) zs small.1) place
 
 -- tokens of an entry, and of entries behind it
-said_by : (first : List Lexeme) (later : List Lexeme) (z : ℤ) (zs : List ℤ) → IsRowEntryText (texts first) z → AreRowEntryTexts (texts later ++ line_end ∷ []) zs → AreRowEntryTexts (texts (first ++ later) ++ line_end ∷ []) (z ∷ zs)
-said_by first later z zs one more = (texts first, texts later ++ line_end ∷ [], ap (λ l. l ++ line_end ∷ []) (texts-++ first later) ∙ append_assoc (texts first) (texts later) (line_end ∷ []), one, more)
+said_by : (first : List Lexeme) (later : List Lexeme) (z : ℤ) (zs : List ℤ) → IsRowEntryText (texts first) z →
+    AreRowEntryTexts (texts later ++ line_end ∷ []) zs → AreRowEntryTexts (texts (first ++ later) ++ line_end ∷ []) (z ∷ zs)
+said_by first later z zs one more = (
+  texts first,
+  texts later ++ line_end ∷ [],
+  ap (λ l. l ++ line_end ∷ []) (texts-++ first later) ∙ append_assoc (texts first)
+      (texts later) (line_end ∷ []),
+  one,
+  more,
+)
 
 more_said : (at : ℕ) (zs : List ℤ) → AreSmall zs → AreRowEntryTexts (texts (more_tokens at zs) ++ line_end ∷ []) zs
 more_said at [] small = refl
-more_said at (z ∷ zs) small = said_by (entry_tokens (at + 1) z) (more_tokens ((at + 1) + length (entry_text z)) zs) z zs (entry_said (at + 1) z small.0) (more_said ((at + 1) + length (entry_text z)) zs small.1)
+more_said at (z ∷ zs) small = said_by (entry_tokens (at + 1) z) (more_tokens ((at + 1) + length (entry_text z)) zs) z zs (entry_said (at + 1) z small.0)
+    (more_said ((at + 1) + length (entry_text z)) zs small.1)
 
 -- ---- bytes of rows
 
@@ -192,9 +213,11 @@ integer_no c z small other line = by (is_below_zero z)
 
 more_no : (c : ℕ) (zs : List ℤ) → AreSmall zs → is_digit c ≡ false → not (45 == c) ≡ true → not (32 == c) ≡ true → no_byte c (more_text zs) ≡ true
 more_no c [] small other line space = refl
-more_no c (z ∷ zs) small other line space = rw space (no_byte-++ c (entry_text z) (more_text zs) (integer_no c z small.0 other line) (more_no c zs small.1 other line space))
+more_no c (z ∷ zs) small other line space =
+    rw space (no_byte-++ c (entry_text z) (more_text zs) (integer_no c z small.0 other line) (more_no c zs small.1 other line space))
 
-row_no : (c : ℕ) (z : ℤ) (zs : List ℤ) → AreSmall (z ∷ zs) → is_digit c ≡ false → not (45 == c) ≡ true → not (32 == c) ≡ true → no_byte c (spaced_entries (z ∷ zs)) ≡ true
+row_no : (c : ℕ) (z : ℤ) (zs : List ℤ) → AreSmall (z ∷ zs) → is_digit c ≡ false → not (45 == c) ≡ true → not (32 == c) ≡ true →
+    no_byte c (spaced_entries (z ∷ zs)) ≡ true
 row_no c z zs small other line space = no_byte-++ c (entry_text z) (more_text zs) (integer_no c z small.0 other line) (more_no c zs small.1 other line space)
 
 digit_small : (b : ℕ) → is_digit b ≡ true → is_capital b ≡ false
@@ -240,8 +263,10 @@ row_as_line z zs tail small is = record {
       ∙ entry_lexed at z (more_text zs ++ is.blank) small.0 (more_stops zs is.blank is.stops)
       ∙ ap (λ l. entry_tokens at z ++ l) (more_lexed p zs is.blank small.1 is.stops is.none) in
       let tokens : line_tokens (record { text = row ++ tail; at = at }) ≡ entry_tokens at z ++ more_tokens p zs =
-      ap (λ t. all_parted false at (lex_tokens word_more 0 at t)) left ∙ ap (all_parted false at) lexed ∙ row_kept at z (more_tokens p zs) small.0 (more_kept p zs small.1) in
-      subst (λ xs. IsRowText (texts xs ++ line_end ∷ []) (z ∷ zs)) (sym tokens) (said_by (entry_tokens at z) (more_tokens p zs) z zs (entry_said at z small.0) (more_said p zs small.1))
+      ap (λ t. all_parted false at (lex_tokens word_more 0 at t)) left ∙ ap (all_parted false at) lexed ∙ row_kept at z (more_tokens p zs) small.0
+      (more_kept p zs small.1) in
+      subst (λ xs. IsRowText (texts xs ++ line_end ∷ []) (z ∷ zs)) (sym tokens) (said_by (entry_tokens at z) (more_tokens p zs) z zs (entry_said at z small.0)
+      (more_said p zs small.1))
       );
   content = subst IsContentLine (sym (append_assoc (entry_text z) (more_text zs) tail)) (first_integer z (more_text zs ++ tail) small.0);
   plain = no_byte-++ 10 (spaced_entries (z ∷ zs)) tail (row_no 10 z zs small refl refl refl) is.plain;
@@ -255,8 +280,10 @@ AreRowLines (l ∷ ls) [] = ⊥
 AreRowLines (l ∷ ls) (r ∷ rs) = IsRowLine l r × AreRowLines ls rs
 
 -- the texts of a content that begins with a line
-pub line_texts : (end : ℕ) (l : List Lexeme) (ls : List (List Lexeme)) → texts (content_tokens end (l ∷ ls)) ≡ (texts l ++ line_end ∷ []) ++ texts (content_tokens end ls)
-line_texts end l ls = texts-++ l (record { text = line_end; at = place_from end ls } ∷ content_tokens end ls) ∙ sym (append_assoc (texts l) (line_end ∷ []) (texts (content_tokens end ls)))
+pub line_texts : (end : ℕ) (l : List Lexeme) (ls : List (List Lexeme)) →
+    texts (content_tokens end (l ∷ ls)) ≡ (texts l ++ line_end ∷ []) ++ texts (content_tokens end ls)
+line_texts end l ls = texts-++ l (record { text = line_end; at = place_from end ls } ∷ content_tokens end ls) ∙
+    sym (append_assoc (texts l) (line_end ∷ []) (texts (content_tokens end ls)))
 
 pub rows_hold : (ls : List (List ℕ)) (rs : List (List ℤ)) → AreRowLines ls rs → (end at : ℕ) → AreRowTexts (texts (content_tokens end (contents at ls))) rs
 rows_hold [] [] h end at = refl

@@ -31,7 +31,8 @@ is_refused (errors.Wide w) read e = e
 is_refused errors.Memory read e = tt
 
 -- where what is refused there is refused here too
-pub refused_on : {X Y : Type 0} (e : FanFileError) (there : Result X FanFileError) (read : Result Y FanFileError) → ((d : FanFileError) → there ≡ Err d → read ≡ Err d) → IsRefusedSo e there → IsRefusedSo e read
+pub refused_on : {X Y : Type 0} (e : FanFileError) (there : Result X FanFileError) (read : Result Y FanFileError) →
+    ((d : FanFileError) → there ≡ Err d → read ≡ Err d) → IsRefusedSo e there → IsRefusedSo e read
 refused_on (errors.Syntax s) there read on h = on (errors.Syntax s) h
 refused_on (errors.TooWide at) there read on h = on (errors.TooWide at) h
 refused_on (errors.TooManyVariables count) there read on h = on (errors.TooManyVariables count) h
@@ -51,16 +52,19 @@ ended_there length c d =
     ap (λ b. if b then refused_at length Ended else refused_at length c) (byte_itself length)
     ∙ sym (ap (λ b. if b then refused_at length Ended else refused_at length d) (byte_itself length))
 
-module _ {S A : Type 0} (step : S → List ℕ → Move S A) (make : A → Content) (length : ℕ) (read : Result Content FanFileError) (start : S) (content : List Lexeme) (is_read : read ≡ held make length (run step start length content)) where
+module _ {S A : Type 0} (step : S → List ℕ → Move S A) (make : A → Content) (length : ℕ) (read : Result Content FanFileError) (start : S)
+    (content : List Lexeme) (is_read : read ≡ held make length (run step start length content)) where
   module _ (s : S) (all : List Lexeme) (same : run step s length all ≡ run step start length content) where
     here : (r : Result (A × ℕ) Fault) → run step s length all ≡ r → read ≡ held make length r
     here r e = is_read ∙ ap (held make length) (sym same ∙ e)
 
     pub read_ended : (e : FanFileError) → all ≡ [] → e ≡ refused_before length (record { at = length; cause = Unexpected }) → IsRefusedSo e read
-    read_ended e none is = is_refused e read (here (Err (record { at = length; cause = Ended })) (run_ended step s length all none) ∙ ap (λ x. Err x) (ended_there length Ended Unexpected ∙ sym is))
+    read_ended e none is = is_refused e read (here (Err (record { at = length; cause = Ended })) (run_ended step s length all none) ∙ ap (λ x. Err x)
+        (ended_there length Ended Unexpected ∙ sym is))
 
     module _ (x : Lexeme) (xs : List Lexeme) (first : all ≡ x ∷ xs) where
-      pub read_halted : (e : FanFileError) (place : ℕ) (reason : Reason) → step s x.text ≡ halt (cause_of reason) → place ≡ x.at → e ≡ refused_before length (record { at = place; cause = cause_of reason }) → IsRefusedSo e read
+      pub read_halted : (e : FanFileError) (place : ℕ) (reason : Reason) → step s x.text ≡ halt (cause_of reason) → place ≡ x.at →
+          e ≡ refused_before length (record { at = place; cause = cause_of reason }) → IsRefusedSo e read
       read_halted e place reason halts at is = is_refused e read (
           here (Err (record { at = x.at; cause = cause_of reason })) (run_halt step s (cause_of reason) length all x xs first halts)
           ∙ ap (λ n. Err (refused_before length (record { at = n; cause = cause_of reason }))) (sym at) ∙ ap (λ y. Err y) (sym is)
@@ -70,5 +74,7 @@ module _ {S A : Type 0} (step : S → List ℕ → Move S A) (make : A → Conte
       read_done a is_done = here (Ok (a, behind x)) (run_done step s a length all x xs first is_done)
 
 -- a number that isn't above the limit is read by its machine
-pub below_read : (length limit : ℕ) (xs : List Lexeme) → is_above limit xs ≡ false → content_read length (number_to limit) xs ≡ held (λ n. the_number n) length (run number_step Unread length xs)
-below_read length limit xs e = ap (λ v. if v then Err (errors.TooManyVariables (first_value xs)) else held (λ n. the_number n) length (run number_step Unread length xs)) e
+pub below_read : (length limit : ℕ) (xs : List Lexeme) → is_above limit xs ≡ false →
+    content_read length (number_to limit) xs ≡ held (λ n. the_number n) length (run number_step Unread length xs)
+below_read length limit xs e =
+    ap (λ v. if v then Err (errors.TooManyVariables (first_value xs)) else held (λ n. the_number n) length (run number_step Unread length xs)) e

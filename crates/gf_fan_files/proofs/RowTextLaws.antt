@@ -1,6 +1,7 @@
 -- The machine of rows reads exactly what the grammar of rows says.
 -- To cite: row_machine, number_some, number_on. The rest are steps.
-use Rattle.std.proofs.Common.{◌≡◌, ℕ, Bool, true, false, nat_le, List, [], ◌∷◌, ◌++◌, refl, sym, ap, subst, ◌∙◌, ◌⊎◌, inl, inr, append_assoc, append-nil, bytes_eq, arith, if◌then◌else◌, ℤ}
+use Rattle.std.proofs.Common.{◌≡◌, ℕ, Bool, true, false, nat_le, List, [], ◌∷◌, ◌++◌, refl, sym, ap, subst, ◌∙◌, ◌⊎◌, inl, inr, append_assoc, append-nil}
+use Rattle.std.proofs.Common.{bytes_eq, arith, if◌then◌else◌, ℤ}
 use Rattle.gf_text.specs.declared.error.Cause.{Cause}
 use Rattle.gf_text.specs.declared.error.Cause.TheVariants.{Ended, Unexpected, TooWide}
 use Rattle.gf_text.specs.Machine.{go, done, halt, after, followed}
@@ -172,19 +173,20 @@ pushed rs (y ∷ ys) z ts all s = s
 module _ (t : List ℕ) (ts : Texts) (later : Later ts) where
   size_on : (m : Bool) (rs : Rows) (zs : Entries) (all : Rows) → Then (row_size_step rs zs m t) ts all → Sized m rs zs (t ∷ ts) all
   unfolding Later
-  size_on m rs zs all e = let u = row_state rs (zs ++ signed_entry m (decimal_value t) ∷ []) false in elim (chosen (is_number t) (if nat_le (decimal_value t) most_row_entry then goes u else stops TooWide) (stops Unexpected) ts all e) [
-    | inr h ↦ halted Unexpected ts all h.1
-    | inl h ↦ elim (chosen (nat_le (decimal_value t) most_row_entry) (goes u) (stops TooWide) ts all h.1) [
-      | inr k ↦ halted TooWide ts all k.1
-      | inl k ↦ record {
-        t = t;
-        rest = ts;
-        tokens = refl;
-        size = (h.0, refl, le_from (decimal_value t) most_row_entry k.0);
-        more = pushed rs zs (signed_entry m (decimal_value t)) ts all (later rs (zs ++ signed_entry m (decimal_value t) ∷ []) false all k.1);
-      }
-    ]
-  ]
+  size_on m rs zs all e = let u = row_state rs (zs ++ signed_entry m (decimal_value t) ∷ []) false in
+      elim (chosen (is_number t) (if nat_le (decimal_value t) most_row_entry then goes u else stops TooWide) (stops Unexpected) ts all e) [
+        | inr h ↦ halted Unexpected ts all h.1
+        | inl h ↦ elim (chosen (nat_le (decimal_value t) most_row_entry) (goes u) (stops TooWide) ts all h.1) [
+          | inr k ↦ halted TooWide ts all k.1
+          | inl k ↦ record {
+            t = t;
+            rest = ts;
+            tokens = refl;
+            size = (h.0, refl, le_from (decimal_value t) most_row_entry k.0);
+            more = pushed rs zs (signed_entry m (decimal_value t)) ts all (later rs (zs ++ signed_entry m (decimal_value t) ∷ []) false all k.1);
+          }
+        ]
+      ]
 
   entry_on : (rs : Rows) (zs : Entries) (all : Rows) → Then (row_entry_step rs zs t) ts all → Entered rs zs (t ∷ ts) all
   unfolding Said Later
@@ -200,10 +202,11 @@ module _ (t : List ℕ) (ts : Texts) (later : Later ts) where
     | inl h ↦ (let end = ended rs ts all h.1 in all_ended rs t ts all (is_mark t section_end h.0) end.0 end.1)
     | inr h ↦ one_row rs (t ∷ ts) all (entry_on rs [] all h.1)
   ]
-  on_token rs (z ∷ zs) false all e = elim (chosen (bytes_eq t line_end) (goes (row_state (rs ++ (z ∷ zs) ∷ []) [] false)) (row_entry_step rs (z ∷ zs) t) ts all e) [
-    | inl h ↦ row_ended rs (z ∷ zs) t ts all (is_mark t line_end h.0) (later (rs ++ (z ∷ zs) ∷ []) [] false all h.1)
-    | inr h ↦ one_more rs (z ∷ zs) (t ∷ ts) all (entry_on rs (z ∷ zs) all h.1)
-  ]
+  on_token rs (z ∷ zs) false all e = elim (chosen (bytes_eq t line_end) (goes (row_state (rs ++ (z ∷ zs) ∷ []) [] false)) (row_entry_step rs (z ∷ zs) t)
+      ts all e) [
+        | inl h ↦ row_ended rs (z ∷ zs) t ts all (is_mark t line_end h.0) (later (rs ++ (z ∷ zs) ∷ []) [] false all h.1)
+        | inr h ↦ one_more rs (z ∷ zs) (t ∷ ts) all (entry_on rs (z ∷ zs) all h.1)
+      ]
 
 said : (ts : Texts) → Later ts
 unfolding Later
@@ -228,7 +231,8 @@ minus_on : (rs : Rows) (zs : Entries) → row_step (row_state rs zs false) minus
 minus_on rs [] = refl
 minus_on rs (z ∷ zs) = refl
 
-size_goes : (m : Bool) (rs : Rows) (zs : Entries) (t : List ℕ) (n : ℕ) → IsNumberText t n most_row_entry → row_size_step rs zs m t ≡ goes (row_state rs (zs ++ signed_entry m n ∷ []) false)
+size_goes : (m : Bool) (rs : Rows) (zs : Entries) (t : List ℕ) (n : ℕ) → IsNumberText t n most_row_entry →
+    row_size_step rs zs m t ≡ goes (row_state rs (zs ++ signed_entry m n ∷ []) false)
 size_goes m rs zs t n h =
     let digits = h.0 in
     let is = h.1 in
@@ -241,7 +245,8 @@ entry_read : (z : ℤ) (first : Texts) → IsRowEntryText first z → (rs : Rows
     → after row_step (row_state rs zs false) (first ++ rest) ≡ after row_step (row_state rs (zs ++ z ∷ []) false) rest
 entry_read z first (t, n, size, inl (is, e)) rs zs rest =
     ap (λ l. after row_step (row_state rs zs false) (l ++ rest)) is
-    ∙ after-go row_step (row_state rs zs false) (row_state rs (zs ++ signed_entry false n ∷ []) false) t rest (number_on rs zs t size.0 ∙ size_goes false rs zs t n size)
+    ∙ after-go row_step (row_state rs zs false) (row_state rs (zs ++ signed_entry false n ∷ []) false) t rest
+    (number_on rs zs t size.0 ∙ size_goes false rs zs t n size)
     ∙ ap (λ k. after row_step (row_state rs (zs ++ k ∷ []) false) rest) (sym e)
 entry_read z first (t, n, size, inr (is, e)) rs zs rest =
     ap (λ l. after row_step (row_state rs zs false) (l ++ rest)) is
@@ -262,7 +267,8 @@ entries_given (e ∷ es) first (one, more, is, entry, are) rs z zs rest =
     ∙ entries_given es more are rs z (zs ++ e ∷ []) rest
     ∙ ap (λ l. after row_step (row_state (rs ++ (z ∷ l) ∷ []) [] false) rest) (append_assoc zs (e ∷ []) es)
 
-row_given : (r : Entries) (first : Texts) → IsRowText first r → (rs : Rows) (rest : Texts) → after row_step (row_state rs [] false) (first ++ rest) ≡ after row_step (row_state (rs ++ r ∷ []) [] false) rest
+row_given : (r : Entries) (first : Texts) → IsRowText first r → (rs : Rows) (rest : Texts) →
+    after row_step (row_state rs [] false) (first ++ rest) ≡ after row_step (row_state (rs ++ r ∷ []) [] false) rest
 row_given [] first is rs rest = absurd is
 row_given (z ∷ zs) first (one, more, is, entry, are) rs rest =
     ap (λ l. after row_step (row_state rs [] false) (l ++ rest)) is
@@ -300,7 +306,8 @@ entries_live rs [] = begun_live rs
 entries_live rs (z ∷ zs) = by_token (row_state rs (z ∷ zs) false) (row_state (rs ++ (z ∷ zs) ∷ []) [] false) line_end refl (begun_live (rs ++ (z ∷ zs) ∷ []))
 
 all_live : (rs : Rows) (zs : Entries) (m : Bool) → Live (row_state rs zs m)
-all_live rs zs true = by_token (row_state rs zs true) (row_state rs (zs ++ signed_entry true 1 ∷ []) false) one refl (entries_live rs (zs ++ signed_entry true 1 ∷ []))
+all_live rs zs true = by_token (row_state rs zs true) (row_state rs (zs ++ signed_entry true 1 ∷ []) false) one refl
+    (entries_live rs (zs ++ signed_entry true 1 ∷ []))
 all_live rs zs false = entries_live rs zs
 
 -- ---- at no token the text has ended
@@ -315,7 +322,8 @@ either false x y h k = k
 size_no_end : (rs : Rows) (zs : Entries) (m : Bool) (t : List ℕ) → IsNoEnd (row_size_step rs zs m t)
 size_no_end rs zs m t =
     let u = row_state rs (zs ++ signed_entry m (decimal_value t) ∷ []) false in
-    either (is_number t) (if nat_le (decimal_value t) most_row_entry then goes u else stops TooWide) (stops Unexpected) (either (nat_le (decimal_value t) most_row_entry) (goes u) (stops TooWide) (λ e. cc) (λ e. cc)) (λ e. cc)
+    either (is_number t) (if nat_le (decimal_value t) most_row_entry then goes u else stops TooWide) (stops Unexpected)
+    (either (nat_le (decimal_value t) most_row_entry) (goes u) (stops TooWide) (λ e. cc) (λ e. cc)) (λ e. cc)
 
 entry_no_end : (rs : Rows) (zs : Entries) (t : List ℕ) → IsNoEnd (row_entry_step rs zs t)
 entry_no_end rs zs t = either (bytes_eq t minus_mark) (goes (row_state rs zs true)) (row_size_step rs zs false t) (λ e. cc) (size_no_end rs zs false t)
@@ -323,7 +331,8 @@ entry_no_end rs zs t = either (bytes_eq t minus_mark) (goes (row_state rs zs tru
 no_end : (rs : Rows) (zs : Entries) (m : Bool) (t : List ℕ) → IsNoEnd (row_step_at rs zs m t)
 no_end rs zs true t = size_no_end rs zs true t
 no_end rs [] false t = either (bytes_eq t section_end) (ends rs) (row_entry_step rs [] t) (λ e. cc) (entry_no_end rs [] t)
-no_end rs (z ∷ zs) false t = either (bytes_eq t line_end) (goes (row_state (rs ++ (z ∷ zs) ∷ []) [] false)) (row_entry_step rs (z ∷ zs) t) (λ e. cc) (entry_no_end rs (z ∷ zs) t)
+no_end rs (z ∷ zs) false t = either (bytes_eq t line_end) (goes (row_state (rs ++ (z ∷ zs) ∷ []) [] false)) (row_entry_step rs (z ∷ zs) t) (λ e. cc)
+    (entry_no_end rs (z ∷ zs) t)
 
 -- the machine reads exactly the grammar
 pub row_machine : IsMachineOf row_step row_start AreRowTexts

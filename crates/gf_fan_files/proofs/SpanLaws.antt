@@ -22,7 +22,8 @@ use Rattle.gf_int_theory.proofs.ListLaws.{Contains-here}
 times_sum : (k e q y : ℤ) → (k *ℤ e) *ℤ q +ℤ k *ℤ y ≡ k *ℤ (e *ℤ q +ℤ y)
 times_sum k e q y = same ((dv k ⊗ dv e) ⊗ dv q ⊕ dv k ⊗ dv y) (dv k ⊗ (dv e ⊗ dv q ⊕ dv y)) (omega arith)
 
-times_values : (n : ℕ) (k : ℤ) (es : List ℤ) (rows : List (List ℤ)) (u : List ℤ) → AllByRecursion (λ t. length t ≡ n) rows → dot (combined n (scaled k es) rows) u ≡ k *ℤ dot (combined n es rows) u
+times_values : (n : ℕ) (k : ℤ) (es : List ℤ) (rows : List (List ℤ)) (u : List ℤ) → AllByRecursion (λ t. length t ≡ n) rows →
+    dot (combined n (scaled k es) rows) u ≡ k *ℤ dot (combined n es rows) u
 times_values n k [] rows u w = let z = dot-zeros n u in rw z (sym (zero_product k (pos 0) refl))
 times_values n k (e ∷ es) [] u w = let z = dot-zeros n u in rw z (sym (zero_product k (pos 0) refl))
 times_values n k (e ∷ es) (r ∷ rows) u w =
@@ -30,10 +31,12 @@ times_values n k (e ∷ es) (r ∷ rows) u w =
     dot-plus (scaled (k *ℤ e) r) (combined n (scaled k es) rows) u (length-times (k *ℤ e) r ∙ w.0 ∙ sym (length-combined n (scaled k es) rows w.1))
     ∙ ap₂ ◌+ℤ◌ (dot-times (k *ℤ e) r u) (times_values n k es rows u w.1)
     ∙ times_sum k e (dot r u) y
-    ∙ ap (λ x. k *ℤ x) (sym (dot-plus (scaled e r) (combined n es rows) u (length-times e r ∙ w.0 ∙ sym (length-combined n es rows w.1)) ∙ ap (λ x. x +ℤ y) (dot-times e r u)))
+    ∙ ap (λ x. k *ℤ x) (sym (dot-plus (scaled e r) (combined n es rows) u (length-times e r ∙ w.0 ∙ sym (length-combined n es rows w.1)) ∙
+    ap (λ x. x +ℤ y) (dot-times e r u)))
 
 -- what is zero together with others is a combination of them by opposite multipliers
-opposite_sum : (n : ℕ) (a : List ℤ) (es : List ℤ) (rows : List (List ℤ)) → length a ≡ n → AreRows n rows → vector_sum (vector_sum a (zeros n)) (combined n es rows) ≡ zeros n
+opposite_sum : (n : ℕ) (a : List ℤ) (es : List ℤ) (rows : List (List ℤ)) → length a ≡ n → AreRows n rows →
+    vector_sum (vector_sum a (zeros n)) (combined n es rows) ≡ zeros n
     → a ≡ vector_sum (zeros n) (combined n (scaled (negsuc 0) es) rows)
 opposite_sum n a es rows la w e =
     let wr = recursion_from_All (λ t. length t ≡ n) rows w in
@@ -46,7 +49,8 @@ opposite_sum n a es rows la w e =
     let lright : length (vector_sum (zeros n) c) ≡ n = length-plus (zeros n) c (lz ∙ sym lc) ∙ lz in
     vector_ext a (vector_sum (zeros n) c) (la ∙ sym lright) (λ u.
     let right : dot (vector_sum (zeros n) c) u ≡ dot (zeros n) u +ℤ dot c u = dot-plus (zeros n) c u (lz ∙ sym lc) in
-    let left : dot (vector_sum (vector_sum a (zeros n)) b) u ≡ dot (vector_sum a (zeros n)) u +ℤ dot b u = dot-plus (vector_sum a (zeros n)) b u (lsum ∙ sym lb) in
+    let left : dot (vector_sum (vector_sum a (zeros n)) b) u ≡ dot (vector_sum a (zeros n)) u +ℤ dot b u =
+    dot-plus (vector_sum a (zeros n)) b u (lsum ∙ sym lb) in
     let first : dot (vector_sum a (zeros n)) u ≡ dot a u +ℤ dot (zeros n) u = dot-plus a (zeros n) u (la ∙ sym lz) in
     let none : dot (zeros n) u ≡ pos 0 = dot-zeros n u in
     let whole : dot (vector_sum (vector_sum a (zeros n)) b) u ≡ pos 0 = ap (λ v. dot v u) e ∙ none in
@@ -72,7 +76,8 @@ spanned_by n span v (m ∷ k ∷ ms) es l w f = absurd (let e = f.rows_len in om
 pub outside_by : (n : ℕ) (span : List (List ℤ)) (v x : List ℤ) → AreRows n span → IsSolution n (v ∷ []) span x → Generated n [] span v → ⊥
 outside_by n span v x w s g =
     let made = generated-made n [] span v (no_widths n) w g in
-    let zero : dot x v ≡ pos 0 = Made-dot_zero n [] span x v (λ t c. absurd (none_in t c)) (λ t c. dot_comm x t ∙ All-contains (λ q. dot q x ≡ pos 0) span t s.zero c) made in
+    let zero : dot x v ≡ pos 0 = Made-dot_zero n [] span x v (λ t c. absurd (none_in t c)) (λ t c. dot_comm x t ∙ All-contains (λ q. dot q x ≡ pos 0)
+    span t s.zero c) made in
     let positive : pos 0 <ℤ dot v x = All-contains (λ q. pos 0 <ℤ dot q x) (v ∷ []) v s.positive (Contains-here v []) in
     let turned : dot x v ≡ dot v x = dot_comm x v in
     omega (arith, ints, zero, positive, turned)

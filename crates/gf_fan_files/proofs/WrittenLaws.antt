@@ -1,6 +1,7 @@
 -- Sections that are written, whatever they are, are read again, where the lines of each are those of its content.
 -- To cite: no_byte, IsContentLine, AreContentLines, ArePlain, contents, IsSaid, AreSaid, written_again. The rest are steps.
-use Rattle.std.proofs.Common.{◌≡◌, ℕ, suc, ◌+◌, Bool, true, false, ◌==◌, not, List, [], ◌∷◌, ◌++◌, length, take, flat_map, refl, sym, ap, subst, ◌∙◌, append_assoc, append-nil, bytes_eq, arith}
+use Rattle.std.proofs.Common.{◌≡◌, ℕ, suc, ◌+◌, Bool, true, false, ◌==◌, not, List, [], ◌∷◌, ◌++◌, length, take, flat_map, refl, sym, ap, subst, ◌∙◌}
+use Rattle.std.proofs.Common.{append_assoc, append-nil, bytes_eq, arith}
 use Rattle.std.proofs.lemmas.Bool.{and_parts}
 use Rattle.std.specs.List.{list_all, prefix_len}
 use Rattle.gf_text.specs.Machine.{Lexeme, texts, behind}
@@ -80,7 +81,8 @@ unfolding lex_tokens
 begins l h at =
     let b = h.first in
     let rest = before_comment h.others in
-    let left : before_comment l ≡ b ∷ rest = ap before_comment h.shape ∙ (let bare = h.bare in let next : 1 + prefix_len (λ x. not (x == 35)) h.others ≡ suc (prefix_len (λ x. not (x == 35)) h.others) = omega arith in rw (bare, next) refl) in
+    let left : before_comment l ≡ b ∷ rest = ap before_comment h.shape ∙ (let bare = h.bare in let next : 1 + prefix_len (λ x. not (x == 35)) h.others ≡
+    suc (prefix_len (λ x. not (x == 35)) h.others) = omega arith in rw (bare, next) refl) in
     let x : Lexeme = record { text = b ∷ take (word_more (b ∷ rest)) rest; at = at } in
     let xs = lex_tokens word_more (word_more (b ∷ rest)) (at + 1) rest in
     let lexed : lex_tokens word_more 0 at (b ∷ rest) ≡ x ∷ xs = (let visible = h.visible in rw visible refl) in
@@ -100,10 +102,12 @@ in_front x [] s h = rw h refl
 in_front x (y ∷ ys) s h = refl
 
 -- it stands in the content of the section before
-content_stays : (l : List ℕ) → IsContentLine l → (at : ℕ) (s : Sections) → with_tokens (line_tokens (record { text = l; at = at })) s ≡ with_line (line_tokens (record { text = l; at = at })) s
+content_stays : (l : List ℕ) → IsContentLine l → (at : ℕ) (s : Sections) →
+    with_tokens (line_tokens (record { text = l; at = at })) s ≡ with_line (line_tokens (record { text = l; at = at })) s
 content_stays l h at s =
     let g = begins l h at in
-    ap (λ xs. with_tokens xs s) g.tokens ∙ in_front g.token g.later s (no_name g.token h.first g.bytes g.text h.small) ∙ ap (λ xs. with_line xs s) (sym g.tokens)
+    ap (λ xs. with_tokens xs s) g.tokens ∙ in_front g.token g.later s (no_name g.token h.first g.bytes g.text h.small) ∙ ap (λ xs. with_line xs s)
+    (sym g.tokens)
 
 -- ---- the contents of sections
 
@@ -127,7 +131,8 @@ content_front (l ∷ ls) tail at h none =
 name_line : (n : List ℕ) (at : ℕ) → is_name n ≡ true → before_comment n ≡ n → line_tokens (record { text = n; at = at }) ≡ record { text = n; at = at } ∷ []
 unfolding lex_tokens
 name_line n at word bare =
-    ap (λ t. all_parted false at (lex_tokens word_more 0 at t)) (bare ∙ sym (append-nil n)) ∙ ap (all_parted false at) (lex-token word_more at n [] (word_token n [] word refl))
+    ap (λ t. all_parted false at (lex_tokens word_more 0 at t)) (bare ∙ sym (append-nil n)) ∙ ap (all_parted false at)
+    (lex-token word_more at n [] (word_token n [] word refl))
 
 name_by : (x : Lexeme) (s : Sections) → is_section_name x.text ≡ true → with_tokens (x ∷ []) s ≡ with_name x s
 name_by x s h = rw h refl
@@ -147,7 +152,8 @@ section_as_lines w = sym (append_assoc w.name (10 ∷ []) (lines_text w.lines ++
 
 sections_as_lines : (ws : List TextSection) → sections_text ws ≡ lines_text (flat_map section_lines ws)
 sections_as_lines [] = refl
-sections_as_lines (w ∷ ws) = ap (λ t. t ++ sections_text ws) (section_as_lines w) ∙ ap (λ t. lines_text (section_lines w) ++ t) (sections_as_lines ws) ∙ sym (lines-++ (section_lines w) (flat_map section_lines ws))
+sections_as_lines (w ∷ ws) = ap (λ t. t ++ sections_text ws) (section_as_lines w) ∙ ap (λ t. lines_text (section_lines w) ++ t) (sections_as_lines ws) ∙
+    sym (lines-++ (section_lines w) (flat_map section_lines ws))
 
 -- behind sections of these names, a section is read as this content, wherever it stands
 pub record IsSaid (table : Table) (seen : List (List ℕ)) (w : TextSection) (c : Content) : Type 0 where
@@ -173,13 +179,22 @@ unfolding all_lines
 all_plain table seen [] cs h = tt
 all_plain table seen (w ∷ ws) [] h = absurd h
 all_plain table seen (w ∷ ws) (c ∷ cs) (name, said, later) =
-    plain-++ (section_lines w) (all_lines ws) (said.one_line, plain-++ w.lines ([] ∷ []) said.plain (refl, tt)) (all_plain table (seen ++ w.name ∷ []) ws cs later)
+    plain-++ (section_lines w) (all_lines ws) (said.one_line, plain-++ w.lines ([] ∷ []) said.plain (refl, tt)) (all_plain table (seen ++ w.name ∷ []) ws cs
+    later)
 
 -- one section, and those behind it
-section_again : (w : TextSection) (tail : List (List ℕ)) (at : ℕ) → is_section_name w.name ≡ true → is_name w.name ≡ true → before_comment w.name ≡ w.name → AreContentLines w.lines
+section_again : (w : TextSection) (tail : List (List ℕ)) (at : ℕ) → is_section_name w.name ≡ true → is_name w.name ≡ true → before_comment w.name ≡ w.name →
+    AreContentLines w.lines
     → (sections_of (placed (behind_lines (at + length w.name + 1) w.lines + 0 + 1) tail)).front ≡ []
     → sections_of (placed at (section_lines w ++ tail))
-    ≡ record { front = []; all = record { name = w.name; at = at; content = contents (at + length w.name + 1) w.lines } ∷ (sections_of (placed (behind_lines (at + length w.name + 1) w.lines + 0 + 1) tail)).all }
+    ≡ record {
+      front = [];
+      all = record {
+        name = w.name;
+        at = at;
+        content = contents (at + length w.name + 1) w.lines;
+      } ∷ (sections_of (placed (behind_lines (at + length w.name + 1) w.lines + 0 + 1) tail)).all;
+    }
 unfolding lex_tokens
 section_again w tail at name word bare lines none =
     let x : Lexeme = record { text = w.name; at = at } in
@@ -193,7 +208,8 @@ record AreRead (table : Table) (end : ℕ) (seen : List (List ℕ)) (s : Section
   none : s.front ≡ []
   held : AreHeld table end seen s.all cs
 
-all_read : (table : Table) (end : ℕ) (seen : List (List ℕ)) (ws : List TextSection) (cs : Named) (at : ℕ) → AreSaid table seen ws cs → AreRead table end seen (sections_of (placed at (all_lines ws))) cs
+all_read : (table : Table) (end : ℕ) (seen : List (List ℕ)) (ws : List TextSection) (cs : Named) (at : ℕ) → AreSaid table seen ws cs →
+    AreRead table end seen (sections_of (placed at (all_lines ws))) cs
 unfolding lex_tokens all_lines
 all_read table end seen [] cs at h = record { none = refl; held = h }
 all_read table end seen (w ∷ ws) [] at h = absurd h
@@ -206,10 +222,13 @@ all_read table end seen (w ∷ ws) (c ∷ cs) at (name, said, later) =
     subst (λ s. AreRead table end seen s (c ∷ cs)) (sym is) (record { none = refl; held = (said.new, name, said.holds (end_before end tail.all) p, r.held) })
 
 -- the text of sections says what they say
-pub written_again : (table : Table) (ws : List TextSection) (cs : Named) → AreSaid table [] ws cs → AreHeld table (length (sections_text ws)) [] (sections (sections_text ws)) cs
+pub written_again : (table : Table) (ws : List TextSection) (cs : Named) → AreSaid table [] ws cs →
+    AreHeld table (length (sections_text ws)) [] (sections (sections_text ws)) cs
 unfolding all_lines
 written_again table ws cs h =
     let source = lines_text (flat_map section_lines ws) in
     let r = all_read table (length source) [] ws cs 0 h in
-    let same : sections source ≡ (sections_of (placed 0 (flat_map section_lines ws))).all = ap (λ ls. (sections_of ls).all) (lines_placed (flat_map section_lines ws) 0 (all_plain table [] ws cs h)) in
-    subst (λ t. AreHeld table (length t) [] (sections t) cs) (sym (sections_as_lines ws)) (subst (λ ss. AreHeld table (length source) [] ss cs) (sym same) r.held)
+    let same : sections source ≡ (sections_of (placed 0 (flat_map section_lines ws))).all =
+    ap (λ ls. (sections_of ls).all) (lines_placed (flat_map section_lines ws) 0 (all_plain table [] ws cs h)) in
+    subst (λ t. AreHeld table (length t) [] (sections t) cs) (sym (sections_as_lines ws)) (subst (λ ss. AreHeld table (length source) [] ss cs) (sym same)
+    r.held)

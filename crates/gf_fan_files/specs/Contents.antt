@@ -11,12 +11,19 @@ no_contents v = record { version = v; ambient = None; rays = None; lineality = N
 
 -- behind these contents, that of the section of this name is kept, as it is read
 pub data IsSectionKept (name : List ℕ) (before after : Contents) (read : Result Content FanFileError) : Type 0 where
-  at_ambient : (n : ℕ) → bytes_eq ambient_dim name ≡ true → read ≡ Ok (the_number n) → after ≡ record before { ambient = Some n } → IsSectionKept name before after read
-  at_rays : (rs : List (List ℤ)) → bytes_eq rays_name name ≡ true → read ≡ Ok (the_rows rs) → after ≡ record before { rays = Some rs } → IsSectionKept name before after read
-  at_lineality : (rs : List (List ℤ)) → bytes_eq lineality_space name ≡ true → read ≡ Ok (the_rows rs) → after ≡ record before { lineality = Some rs } → IsSectionKept name before after read
-  at_cones : (cs : List (List ℕ)) → bytes_eq maximal_cones name ≡ true → read ≡ Ok (the_cones cs) → after ≡ record before { cones = Some cs } → IsSectionKept name before after read
-  at_interiors : (rs : List (List ℤ)) → bytes_eq maximal_interiors name ≡ true → is_second before.version ≡ true → read ≡ Ok (the_rows rs) → after ≡ record before { interiors = Some rs } → IsSectionKept name before after read
-  at_other : (c : Content) → bytes_eq ambient_dim name ≡ false → bytes_eq rays_name name ≡ false → bytes_eq lineality_space name ≡ false → bytes_eq maximal_cones name ≡ false → (bytes_eq maximal_interiors name ≡ false) ⊎ (is_second before.version ≡ false) → read ≡ Ok c → after ≡ before → IsSectionKept name before after read
+  at_ambient : (n : ℕ) → bytes_eq ambient_dim name ≡ true → read ≡ Ok (the_number n) → after ≡ record before { ambient = Some n } →
+      IsSectionKept name before after read
+  at_rays : (rs : List (List ℤ)) → bytes_eq rays_name name ≡ true → read ≡ Ok (the_rows rs) → after ≡ record before { rays = Some rs } →
+      IsSectionKept name before after read
+  at_lineality : (rs : List (List ℤ)) → bytes_eq lineality_space name ≡ true → read ≡ Ok (the_rows rs) → after ≡ record before { lineality = Some rs } →
+      IsSectionKept name before after read
+  at_cones : (cs : List (List ℕ)) → bytes_eq maximal_cones name ≡ true → read ≡ Ok (the_cones cs) → after ≡ record before { cones = Some cs } →
+      IsSectionKept name before after read
+  at_interiors : (rs : List (List ℤ)) → bytes_eq maximal_interiors name ≡ true → is_second before.version ≡ true → read ≡ Ok (the_rows rs) →
+      after ≡ record before { interiors = Some rs } → IsSectionKept name before after read
+  at_other : (c : Content) → bytes_eq ambient_dim name ≡ false → bytes_eq rays_name name ≡ false → bytes_eq lineality_space name ≡ false →
+      bytes_eq maximal_cones name ≡ false → (bytes_eq maximal_interiors name ≡ false) ⊎ (is_second before.version ≡ false) → read ≡ Ok c → after ≡ before →
+      IsSectionKept name before after read
 
 -- what is kept of a number, of rows, of lists
 abbrev pub number_kept : Option ℕ → Option Content

@@ -1,7 +1,8 @@
 -- What a fan file says: the sections that are looked at, read from left to right.
 -- Which sections these are, and what they hold, is a table, by the version of the file.
 -- Laws: proofs/FanTextLaws.antt.
-use Rattle.std.specs.Prelude.{◌≡◌, ◌⊎◌, ℕ, ◌+◌, ◌&&◌, nat_le, nat_eq, Bool, true, false, List, [], ◌∷◌, ◌++◌, length, bytes_eq, is_some, if◌then◌else◌, Result, Ok, Err, Option, Some, None, ℤ}
+use Rattle.std.specs.Prelude.{◌≡◌, ◌⊎◌, ℕ, ◌+◌, ◌&&◌, nat_le, nat_eq, Bool, true, false, List, [], ◌∷◌, ◌++◌, length, bytes_eq, is_some, if◌then◌else◌, Result}
+use Rattle.std.specs.Prelude.{Ok, Err, Option, Some, None, ℤ}
 use Rattle.gf_text.specs.declared.TheConstants.{MOST_VARIABLES}
 use Rattle.gf_text.specs.Machine.{Lexeme, texts, Fault, IsFault, run}
 use Rattle.gf_text.specs.Kinds.{IsNumberKind}
@@ -137,7 +138,8 @@ interiors_kind false = any
 -- the sections of a fan file of this version that are looked at: AMBIENT_DIM, RAYS, LINEALITY_SPACE, MAXIMAL_CONES; FILE_VERSION where it tells
 -- the version; and in the version 2 MAXIMAL_INTERIORS
 abbrev pub fan_table : Option ℕ → Table
-fan_table v = (ambient_dim, number_to MOST_VARIABLES) ∷ (rays_name, rows) ∷ (lineality_space, rows) ∷ (maximal_cones, cones) ∷ (file_version, version_kind v) ∷ (maximal_interiors, interiors_kind (is_second v)) ∷ []
+fan_table v = (ambient_dim, number_to MOST_VARIABLES) ∷ (rays_name, rows) ∷ (lineality_space, rows) ∷ (maximal_cones, cones) ∷ (file_version, version_kind v) ∷
+    (maximal_interiors, interiors_kind (is_second v)) ∷ []
 
 -- the table of the version that the text tells
 abbrev pub told_table : List ℕ → Table
@@ -168,7 +170,8 @@ then_content (Ok c) name (Ok all) = Ok ((name, c) ∷ all)
 abbrev pub sections_read : Table → ℕ → List (List ℕ) → List Section → Result Named FanFileError
 sections_read table length seen [] = Ok []
 sections_read table length seen (s ∷ ss) = if has seen s.name then Err (refused_at s.at causes.RepeatedName)
-    else then_content (content_read length (kind_in table s.name) (content_tokens (end_before length ss) s.content)) s.name (sections_read table length (seen ++ s.name ∷ []) ss)
+    else then_content (content_read length (kind_in table s.name) (content_tokens (end_before length ss) s.content)) s.name
+    (sections_read table length (seen ++ s.name ∷ []) ss)
 
 -- what a text says by this table
 abbrev pub text_read : Table → List ℕ → Result Named FanFileError
@@ -195,7 +198,8 @@ IsFaultOf grammar length xs e = (f : Fault) × AreNoText grammar xs × IsFault g
 
 -- a content of this kind is refused so
 abbrev pub IsContentFault : ℕ → ContentKind → List Lexeme → FanFileError → Type 0
-IsContentFault length (number_to limit) xs e = ((is_above limit xs ≡ true) × (e ≡ errors.TooManyVariables (first_value xs))) ⊎ ((is_above limit xs ≡ false) × IsFaultOf IsOneNumberText length xs e)
+IsContentFault length (number_to limit) xs e = ((is_above limit xs ≡ true) × (e ≡ errors.TooManyVariables (first_value xs))) ⊎
+    ((is_above limit xs ≡ false) × IsFaultOf IsOneNumberText length xs e)
 IsContentFault length rows xs e = IsFaultOf AreRowTexts length xs e
 IsContentFault length cones xs e = IsFaultOf AreConeTexts length xs e
 IsContentFault length any xs e = ⊥

@@ -1,6 +1,7 @@
 -- The text of a fan: its sections in order, each with its name in a line, its lines, and an empty line.
 -- Laws: proofs/AgainLaws.antt.
-use Rattle.std.specs.Prelude.{ℕ, ◌+◌, ◌-◌, ◌==◌, Bool, true, false, List, [], ◌∷◌, ◌++◌, length, map, flat_map, fold, max, count_by, decimal, codes, Option, Some, None, if◌then◌else◌, ℤ}
+use Rattle.std.specs.Prelude.{ℕ, ◌+◌, ◌-◌, ◌==◌, Bool, true, false, List, [], ◌∷◌, ◌++◌, length, map, flat_map, fold, max, count_by, decimal, codes, Option}
+use Rattle.std.specs.Prelude.{Some, None, if◌then◌else◌, ℤ}
 use Rattle.std.specs.List.{list_all, range_with_len}
 use Rattle.gf_text.specs.VectorText.{entry_text}
 use Rattle.gf_fan_files.specs.declared.parts.ListedCone.{ListedCone}

@@ -41,7 +41,13 @@ pub record IsWritable (f : FanWords) : Type 0 where
 
 -- what is read of it: the ambient dimension, the rays, the basis of the lineality space, the maximal cones, the vectors for these
 abbrev pub file_of : FanWords → FanFile
-file_of f = record { ambient = f.ambient; rays = f.rays; lineality = f.lineality; cones = map (λ (c : ListedCone). c.rays) f.maximal; interiors = Some f.interiors }
+file_of f = record {
+  ambient = f.ambient;
+  rays = f.rays;
+  lineality = f.lineality;
+  cones = map (λ (c : ListedCone). c.rays) f.maximal;
+  interiors = Some f.interiors;
+}
 
 -- the text of a fan says what was written of it
 abbrev pub FansAreReadAgain : Type 0

@@ -105,7 +105,8 @@ pub record IsRayFault (n : ℕ) (lineality rays : List (List ℤ)) (e : FanFileE
   pub place : ℕ
   pub ray : List ℤ
   pub first : IsBehind (IsOutside n lineality) rays place ray
-  pub refused : (Generated n [] lineality ray × (e ≡ errors.BadRay place)) ⊎ ((step : ConeOverflow) × IsRayTestStep n lineality ray step × (e ≡ errors.Cone step))
+  pub refused : (Generated n [] lineality ray × (e ≡ errors.BadRay place)) ⊎ ((step : ConeOverflow) × IsRayTestStep n lineality ray step ×
+      (e ≡ errors.Cone step))
 
 -- the first number in a cone that isn't below this one is refused so
 pub record IsNumberFault (count : ℕ) (cones : List (List ℕ)) (e : FanFileError) : Type 0 where
@@ -123,16 +124,21 @@ pub data IsFormFault (f : FanFile) (e : FanFileError) : Type 0 where
   zero_dimension : f.ambient ≡ 0 → e ≡ errors.Dimensions 0 1 → IsFormFault f e
   at_rays : 0 < f.ambient → IsLengthFault f.ambient f.rays e → IsFormFault f e
   at_lineality : 0 < f.ambient → AreRows f.ambient f.rays → IsLengthFault f.ambient f.lineality e → IsFormFault f e
-  at_interiors : 0 < f.ambient → AreRows f.ambient f.rays → AreRows f.ambient f.lineality → IsLengthFault f.ambient (interior_rows f.interiors) e → IsFormFault f e
-  at_ray : 0 < f.ambient → AreRows f.ambient f.rays → AreRows f.ambient f.lineality → AreRows f.ambient (interior_rows f.interiors) → IsRayFault f.ambient f.lineality f.rays e → IsFormFault f e
-  at_number : 0 < f.ambient → AreRows f.ambient f.rays → AreRows f.ambient f.lineality → AreRows f.ambient (interior_rows f.interiors) → All (IsOutside f.ambient f.lineality) f.rays → IsNumberFault (length f.rays) f.cones e → IsFormFault f e
+  at_interiors : 0 < f.ambient → AreRows f.ambient f.rays → AreRows f.ambient f.lineality → IsLengthFault f.ambient (interior_rows f.interiors) e →
+      IsFormFault f e
+  at_ray : 0 < f.ambient → AreRows f.ambient f.rays → AreRows f.ambient f.lineality → AreRows f.ambient (interior_rows f.interiors) →
+      IsRayFault f.ambient f.lineality f.rays e → IsFormFault f e
+  at_number : 0 < f.ambient → AreRows f.ambient f.rays → AreRows f.ambient f.lineality → AreRows f.ambient (interior_rows f.interiors) →
+      All (IsOutside f.ambient f.lineality) f.rays → IsNumberFault (length f.rays) f.cones e → IsFormFault f e
 
 -- the text is refused so: it has a fault, and this is the first; its version isn't known; a section isn't there, and this is the first; it
 -- says a file, which is refused; or there is no memory
 pub data IsFileRefused (source : List ℕ) (e : FanFileError) : Type 0 where
   in_text : IsFirstFault (told_table source) (length source) [] (sections source) e → IsFileRefused source e
-  bad_version : (all : Named) (number : ℕ) → AreSectionsOf source all → told_version source ≡ Some number → (number ≡ 1 → ⊥) → (number ≡ 2 → ⊥) → e ≡ errors.BadVersion number → IsFileRefused source e
-  not_there : (all : Named) (section : Section) → AreSectionsOf source all → IsKnownVersion (told_version source) → first_missing (wanted (told_version source)) all ≡ Some (section_name section) → e ≡ errors.Missing section → IsFileRefused source e
+  bad_version : (all : Named) (number : ℕ) → AreSectionsOf source all → told_version source ≡ Some number → (number ≡ 1 → ⊥) → (number ≡ 2 → ⊥) →
+      e ≡ errors.BadVersion number → IsFileRefused source e
+  not_there : (all : Named) (section : Section) → AreSectionsOf source all → IsKnownVersion (told_version source) →
+      first_missing (wanted (told_version source)) all ≡ Some (section_name section) → e ≡ errors.Missing section → IsFileRefused source e
   in_form : (f : FanFile) → IsFileOf source f → IsFormFault f e → IsFileRefused source e
   no_memory : e ≡ errors.Memory → IsFileRefused source e
 

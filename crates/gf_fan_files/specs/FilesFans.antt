@@ -120,14 +120,17 @@ refusal_of_vectors vec_errors.Memory = errors.Memory
 
 -- it says that memory is wanting, or that such an operation on the file leaves the range
 abbrev pub IsFileLimit : FanFile → FanFileError → Type 0
-IsFileLimit f e = (e ≡ errors.Memory) ⊎ ((s : ConeOverflow) × (IsFileStep f s × (e ≡ errors.Cone s))) ⊎ ((w : WideVector) × (IsFileCertificateStep f w × (e ≡ errors.Wide w)))
+IsFileLimit f e = (e ≡ errors.Memory) ⊎ ((s : ConeOverflow) × (IsFileStep f s × (e ≡ errors.Cone s))) ⊎
+    ((w : WideVector) × (IsFileCertificateStep f w × (e ≡ errors.Wide w)))
 
 -- the fan of the cones of this file is refused so: an operation of finding its cones leaves the range; or they are found, and its rows are
 -- refused so; or these lie inside the cones, and this is why the cones have no fan
 pub data IsFanFault (f : FanFile) (e : FanFileError) : Type 0 where
   in_cone : (s : ConeOverflow) → IsConesStep f s → e ≡ errors.Cone s → IsFanFault f e
-  in_certificate : (cones : List RowsAndRays) (rows : List (List ℤ)) → AreConesOfFile f cones → f.interiors ≡ Some rows → IsCertificateFault f.ambient cones rows e → IsFanFault f e
-  in_fan : (cones : List RowsAndRays) (d : FanError) → AreConesOfFile f cones → AreCertified f.ambient cones f.interiors → IsFanRefusal f.ambient cones d → e ≡ refusal_of_fan d → IsFanFault f e
+  in_certificate : (cones : List RowsAndRays) (rows : List (List ℤ)) → AreConesOfFile f cones → f.interiors ≡ Some rows →
+      IsCertificateFault f.ambient cones rows e → IsFanFault f e
+  in_fan : (cones : List RowsAndRays) (d : FanError) → AreConesOfFile f cones → AreCertified f.ambient cones f.interiors → IsFanRefusal f.ambient cones d →
+      e ≡ refusal_of_fan d → IsFanFault f e
 
 -- the text is refused so: it says no file whose cones can be built, or they have no fan; or there is no memory
 pub data IsFanFileRefusal (source : List ℕ) (e : FanFileError) : Type 0 where

@@ -25,7 +25,8 @@ BeginsAt place (x ∷ xs) = x.at ≡ place
 abbrev pub IsLineFound : List ℕ → Sections → Line → Type 0
 IsLineFound source s found.Ended = s ≡ no_sections
 IsLineFound source s (found.Name start end next) = s ≡ with_name (lexeme source start end) (sections_from source next)
-IsLineFound source s (found.Tokens start from end next) = (s ≡ with_line (tokens_between source from end) (sections_from source next)) × BeginsAt start (tokens_between source from end)
+IsLineFound source s (found.Tokens start from end next) = (s ≡ with_line (tokens_between source from end) (sections_from source next)) × BeginsAt start
+    (tokens_between source from end)
 
 -- its places are within the source
 abbrev pub IsLineWithin : List ℕ → Line → Type 0
@@ -51,7 +52,10 @@ IsTokenWithin source (tokens.SectionEnd at) = Unit {0}
 
 -- the tokens that are left in a content
 abbrev pub tokens_left : List ℕ → Place → List Lexeme
-tokens_left source (places.Within at end next minus) = all_parted minus at (lexemes word_more (take end source) at) ++ record { text = line_end; at = front_place (length source) (sections_from source next) } ∷ content_from source next
+tokens_left source (places.Within at end next minus) = all_parted minus at (lexemes word_more (take end source) at) ++ record {
+  text = line_end;
+  at = front_place (length source) (sections_from source next);
+} ∷ content_from source next
 tokens_left source (places.End at) = record { text = section_end; at = at } ∷ []
 tokens_left source places.Behind = []
 

@@ -18,6 +18,7 @@ IsOneNumberText ts n = (t : List ℕ) × (ts ≡ t ∷ line_end ∷ section_end 
 
 -- the machine of a number at a token: the number, the end of the line, the end of the section
 abbrev pub number_step : NumberState → List ℕ → Move NumberState ℕ
-number_step at.Unread t = if is_number t then (if nat_le (decimal_value t) most_number then go (at.Read (decimal_value t)) else halt cause.TooWide) else halt cause.Unexpected
+number_step at.Unread t = if is_number t then (if nat_le (decimal_value t) most_number then go (at.Read (decimal_value t)) else halt cause.TooWide)
+    else halt cause.Unexpected
 number_step (at.Read n) t = if bytes_eq t line_end then go (at.Finished n) else halt cause.Unexpected
 number_step (at.Finished n) t = if bytes_eq t section_end then done n else halt cause.Unexpected

@@ -54,7 +54,8 @@ row_state rs zs m = record { rows = rs; entries = zs; negative = m }
 
 -- a number within the limit, with the sign that stood before it
 abbrev pub row_size_step : List (List ℤ) → List ℤ → Bool → List ℕ → RowMove
-row_size_step rs zs m t = if is_number t then (if nat_le (decimal_value t) most_row_entry then go (row_state rs (zs ++ signed_entry m (decimal_value t) ∷ []) false) else halt cause.TooWide)
+row_size_step rs zs m t = if is_number t then (if nat_le (decimal_value t) most_row_entry then go
+    (row_state rs (zs ++ signed_entry m (decimal_value t) ∷ []) false) else halt cause.TooWide)
     else halt cause.Unexpected
 
 -- a sign or a number at the front of an entry

@@ -34,13 +34,15 @@ pub record IsConeAt (n : ℕ) (cones : List FanCone) (i : ℕ) (c : RowsAndRays)
 
 -- the cones of that file are the maximal cones that were written, in their order
 abbrev pub WrittenConesAreRead : Type 0
-WrittenConesAreRead = (n : ℕ) (given cones : List RowsAndRays) (f : FanLists) → IsFanOf n given f → AreConesOfFile (file_of (parts_of_fan f)) cones → AllZip (IsConeAt n f.cones) f.maximal cones
+WrittenConesAreRead = (n : ℕ) (given cones : List RowsAndRays) (f : FanLists) → IsFanOf n given f → AreConesOfFile (file_of (parts_of_fan f)) cones →
+    AllZip (IsConeAt n f.cones) f.maximal cones
 
 -- these cones meet in faces, and the rows that were written lie inside them; the text is refused for memory alone, or for an operation on
 -- that file that leaves the range; a fan that it says has the same cones as the fan that was written, each of them, and is written as the same text
 pub record WrittenFansAreRead : Type 0 where
   pub meeting : (f : FanLists) → IsFan f → AreFileConesMeeting (file_of (parts_of_fan f))
   pub certified : (f : FanLists) → IsFan f → IsCertifiedFile (file_of (parts_of_fan f))
-  pub refused : (f : FanLists) (e : FanFileError) → IsFan f → IsWritable (parts_of_fan f) → IsFanFileRefusal (fan_text (parts_of_fan f)) e → IsFileLimit (file_of (parts_of_fan f)) e
+  pub refused : (f : FanLists) (e : FanFileError) → IsFan f → IsWritable (parts_of_fan f) → IsFanFileRefusal (fan_text (parts_of_fan f)) e →
+      IsFileLimit (file_of (parts_of_fan f)) e
   pub cones : (f h : FanLists) → IsFan f → IsWritable (parts_of_fan f) → IsFanOfText (fan_text (parts_of_fan f)) h → HaveSameCones f h
   pub text : (f h : FanLists) → IsFan f → IsFan h → HaveSameCones f h → fan_text (parts_of_fan h) ≡ fan_text (parts_of_fan f)

@@ -129,7 +129,8 @@ pub fn read(alloc: Global, source: &[u8]) -> Result<Fan, FanFileError>
     ensures fan { IfOk result (IsFanOfText source.now) }
     ensures ambient { IfOk result (λ h. h.ambient ≤ MOST_VARIABLES) }
     ensures err { IfErr result (IsFanFileRefusal source.now) }
-    ensures complete { (f : FanFile) → IsFileOf source.now f → IsSoundFile f → IsFileWithinLimits f → IsCertifiedFile f → AreFileConesMeeting f → MatchResult result (IsFanOfFile f) (λ e. e ≡ Memory) }
+    ensures complete { (f : FanFile) → IsFileOf source.now f → IsSoundFile f → IsFileWithinLimits f → IsCertifiedFile f → AreFileConesMeeting f →
+        MatchResult result (IsFanOfFile f) (λ e. e ≡ Memory) }
     ensures always { (e : FanFileError) → IsFanFileRefusal source.now e → (IsOfLimits e → ⊥) → MatchResult result (λ _. ⊥) (λ d. (d ≡ e) ⊎ IsOfLimits d) }
 {
     let file = read_file(alloc, source)?;

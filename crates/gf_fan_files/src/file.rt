@@ -1,5 +1,6 @@
 //! What a fan file says: its sections, and what is asked of them before its cones are built.
-ghost use Rattle.std.specs.Prelude.{◌≡◌, ◌⊎◌, ◌<◌, ◌≤◌, ◌&&◌, is_none, ℕ, List, [], length, Some, All, IfOk, IfSome, IfErr, MatchBool, MatchOption, MatchResult};
+ghost use Rattle.std.specs.Prelude.{◌≡◌, ◌⊎◌, ◌<◌, ◌≤◌, ◌&&◌, is_none, ℕ, List, [], length, Some, All, IfOk, IfSome, IfErr, MatchBool, MatchOption};
+ghost use Rattle.std.specs.Prelude.{MatchResult};
 ghost use Rattle.gf_gordan.specs.Alternative.{AreRows};
 ghost use Rattle.gf_gordan.specs.Steps.{Failed};
 ghost use Rattle.gf_duality_theory.specs.Rays.{Generated};

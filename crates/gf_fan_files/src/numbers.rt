@@ -55,7 +55,8 @@ fn step(state: NumberState, t: &[u8]) -> NumberStep
 /// The first number, where it is above the limit but not too wide.
 fn above(source: &[u8], place: Place, limit: u64) -> Option<u64>
     requires { IsPlaceWithin source.now place }
-    ensures { MatchOption result (is_above limit (tokens_left source.now place) ≡ false) (λ n. (is_above limit (tokens_left source.now place) ≡ true) × (n ≡ first_value (tokens_left source.now place))) }
+    ensures { MatchOption result (is_above limit (tokens_left source.now place) ≡ false) (λ n. (is_above limit (tokens_left source.now place) ≡ true) ×
+        (n ≡ first_value (tokens_left source.now place))) }
 {
     let Some((token, _)) = token_at(source, place) else {
         return None;

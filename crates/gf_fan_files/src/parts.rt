@@ -41,7 +41,15 @@ impl<'a> Model for FanParts<'a> {
 
     ghost Value = { FanWords };
 
-    ghost view = { λ p. record { ambient = p.ambient; rays = p.rays.now; lineality = p.lineality.now; orthogonal = p.orthogonal.now; cones = p.cones.now; maximal = p.maximal.now; interiors = p.interiors.now } };
+    ghost view = { λ p. record {
+      ambient = p.ambient;
+      rays = p.rays.now;
+      lineality = p.lineality.now;
+      orthogonal = p.orthogonal.now;
+      cones = p.cones.now;
+      maximal = p.maximal.now;
+      interiors = p.interiors.now;
+    } };
 }
 
 /// The greatest dimension of these cones, and 0 where there is none.

@@ -93,7 +93,8 @@ fn line_token(source: &[u8], at: usize, end: usize, next: usize, minus: bool) ->
 /// The next token of a content, and what is left behind it.
 pub(crate) fn token_at(source: &[u8], place: Place) -> Option<(Token, Place)>
     requires { IsPlaceWithin source.now place }
-    ensures token { MatchOption result (tokens_left source.now place ≡ []) (λ t. tokens_left source.now place ≡ lexeme_of source.now t.0 ∷ tokens_left source.now t.1) }
+    ensures token { MatchOption result (tokens_left source.now place ≡ []) (λ t. tokens_left source.now place ≡ lexeme_of source.now t.0 ∷
+        tokens_left source.now t.1) }
     ensures within { IfSome result (λ t. IsTokenWithin source.now t.0) }
     ensures rest { IfSome result (λ t. IsPlaceWithin source.now t.1) }
 {

@@ -55,7 +55,8 @@ pub(crate) fn is_second(version: Option<u64>) -> bool
 /// The first name of a section at a place or behind it: where it begins and ends, and where its content begins.
 fn section_from(source: &[u8], at: usize) -> Option<(usize, usize, usize)>
     requires { at ≤ length source.now }
-    ensures section { MatchOption result ((sections_from source.now at).all ≡ []) (λ s. (sections_from source.now at).all ≡ (with_name (lexeme source.now s.0 s.1) (sections_from source.now s.2)).all) }
+    ensures section { MatchOption result ((sections_from source.now at).all ≡ []) (λ s. (sections_from source.now at).all ≡
+        (with_name (lexeme source.now s.0 s.1) (sections_from source.now s.2)).all) }
     ensures within { IfSome result (λ s. (s.0 < s.1) × (s.1 ≤ s.2) × (s.2 ≤ length source.now)) }
 {
     let mut place = at;
@@ -106,7 +107,8 @@ fn with_interiors(
     requires { from ≤ length source.now }
     ensures { let read = content_read (length source.now) (interiors_kind (is_second contents.version)) (content_from source.now from) in
         MatchResult result
-        (λ kept. MatchBool (is_second contents.version) ((rs : List (List ℤ)) × (read ≡ Ok (the_rows rs)) × (kept ≡ record contents { interiors = Some rs })) ((read ≡ Ok passed) × (kept ≡ contents)))
+        (λ kept. MatchBool (is_second contents.version) ((rs : List (List ℤ)) × (read ≡ Ok (the_rows rs)) × (kept ≡ record contents { interiors = Some rs }))
+        ((read ≡ Ok passed) × (kept ≡ contents)))
         (λ e. IsRefusedSo e read) }
 {
     if !is_second(contents.version) {

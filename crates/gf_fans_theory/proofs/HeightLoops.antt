@@ -13,7 +13,11 @@ pub first_more : (n : ℕ) (out new : List ℕ) → new ≡ out ++ n ∷ [] → 
 first_more n out new e s = subst (AreFirst (n + 1)) (sym e) (record {
   ascending = all_pairs_push (λ i j. i < j) out n s.ascending (λ j d h. s.each (get_or out j d) (j, h, get_or_default out j (get_or out j d) d h));
   each = λ i c. elim (Contains-last out n i c) [ inl a ↦ let h = s.each i a in omega (arith, h) | inr q ↦ omega (arith, q) ];
-  every = λ i h. elim (place i n) [ more k ↦ first_in out n i (s.every i k) | at q ↦ subst (Contains (out ++ n ∷ [])) (sym q) (Contains-push out n) | less k ↦ absurd (omega (arith, h, k)) ];
+  every = λ i h. elim (place i n) [
+    | more k ↦ first_in out n i (s.every i k)
+    | at q ↦ subst (Contains (out ++ n ∷ [])) (sym q) (Contains-push out n)
+    | less k ↦ absurd (omega (arith, h, k))
+  ];
 })
 
 -- ---- heights, one part further
@@ -26,17 +30,27 @@ before_push : (out : List ℕ) (x j : ℕ) → j < length out → get_or (out ++
 before_push out x j h = get_or_append_left out (x ∷ []) 0 j h
 
 pub heights_more : (least : ℕ) (parts : List (List ℕ)) (i x : ℕ) (out new : List ℕ) → new ≡ out ++ x ∷ [] →
-    (((j : ℕ) → j < i → IsWithinPart parts j i → ⊥) × (x ≡ least)) ⊎ ((j : ℕ) × (IsNextBelow parts i j × (x ≡ get_or out j 0 + 1))) → HeightsSoFar least parts i out → HeightsSoFar least parts (i + 1) new
+    (((j : ℕ) → j < i → IsWithinPart parts j i → ⊥) × (x ≡ least)) ⊎ ((j : ℕ) × (IsNextBelow parts i j × (x ≡ get_or out j 0 + 1))) →
+    HeightsSoFar least parts i out → HeightsSoFar least parts (i + 1) new
 heights_more least parts i x out new e t s =
     let l = s.long in
-    let last : get_or (out ++ x ∷ []) i 0 ≡ x = get_or-append_right out (x ∷ []) i i 0 l (omega arith) ∙ ap (λ k. get_or (x ∷ []) k 0) (let z : i - i ≡ 0 = omega arith in z) in
+    let last : get_or (out ++ x ∷ []) i 0 ≡ x = get_or-append_right out (x ∷ []) i i 0 l (omega arith) ∙ ap (λ k. get_or (x ∷ []) k 0) (let z : i - i ≡ 0 =
+    omega arith in z) in
     subst (HeightsSoFar least parts (i + 1)) (sym e) (record {
       long = let a = length-append out (x ∷ []) in omega (arith, a, l);
       each = λ j h. elim (place j i) [
         | less k ↦ absurd (omega (arith, h, k))
         | more k ↦ elim (s.each j k) [
           | inl (none, q) ↦ inl (none, before_push out x j (omega (arith, k, l)) ∙ q)
-          | inr (g, (below, q)) ↦ inr (g, (below, before_push out x j (omega (arith, k, l)) ∙ q ∙ ap (λ z. z + 1) (sym (before_push out x g (let b = below.before in omega (arith, b, k, l))))))
+          | inr (g, (below, q)) ↦
+              inr (
+                g,
+                (
+                  below,
+                  before_push out x j (omega (arith, k, l)) ∙ q ∙
+                      ap (λ z. z + 1) (sym (before_push out x g (let b = below.before in omega (arith, b, k, l)))),
+                ),
+              )
         ]
         | at k ↦ subst (IsHeight least parts (out ++ x ∷ [])) (sym k) (elim t [
           | inl (none, q) ↦ inl (none, last ∙ q)

@@ -39,19 +39,26 @@ zero_rows (h ∷ hs) v =
         rows = h ∷ s.rows;
         listed = λ t c. elim (in_cons h s.rows t c) [ inl e ↦ subst (Contains (h ∷ hs)) (sym e) (Contains-here h hs) | inr k ↦ in_tail h hs t (s.listed t k) ];
         zero = λ t c. elim (in_cons h s.rows t c) [ inl e ↦ ap (λ k. dot k v) e ∙ g | inr k ↦ s.zero t k ];
-        all = λ t c z. elim (in_cons h hs t c) [ inl e ↦ subst (Contains (h ∷ s.rows)) (sym e) (Contains-here h s.rows) | inr k ↦ in_tail h s.rows t (s.all t k z) ];
+        all = λ t c z. elim (in_cons h hs t c) [
+          | inl e ↦ subst (Contains (h ∷ s.rows)) (sym e) (Contains-here h s.rows)
+          | inr k ↦ in_tail h s.rows t (s.all t k z)
+        ];
       }
     ]
 
 -- the halves of what the rows of two cones say
 pub left_in : (c d : Rows) (x : List ℤ) → IsInCone (meet c d) x → IsInCone c x
 left_in c d x s = record {
-  not_negative = all_by (λ h. pos 0 ≤ℤ dot h x) c.inequalities (λ h k. All-contains (λ h. pos 0 ≤ℤ dot h x) (c.inequalities ++ d.inequalities) h s.not_negative (Contains-append_left c.inequalities d.inequalities h k));
-  zero = all_by (λ h. dot h x ≡ pos 0) c.equations (λ h k. All-contains (λ h. dot h x ≡ pos 0) (c.equations ++ d.equations) h s.zero (Contains-append_left c.equations d.equations h k));
+  not_negative = all_by (λ h. pos 0 ≤ℤ dot h x) c.inequalities (λ h k. All-contains (λ h. pos 0 ≤ℤ dot h x) (c.inequalities ++ d.inequalities) h s.not_negative
+      (Contains-append_left c.inequalities d.inequalities h k));
+  zero = all_by (λ h. dot h x ≡ pos 0) c.equations (λ h k. All-contains (λ h. dot h x ≡ pos 0) (c.equations ++ d.equations) h s.zero
+      (Contains-append_left c.equations d.equations h k));
 }
 
 pub right_in : (c d : Rows) (x : List ℤ) → IsInCone (meet c d) x → IsInCone d x
 right_in c d x s = record {
-  not_negative = all_by (λ h. pos 0 ≤ℤ dot h x) d.inequalities (λ h k. All-contains (λ h. pos 0 ≤ℤ dot h x) (c.inequalities ++ d.inequalities) h s.not_negative (Contains-append_right c.inequalities d.inequalities h k));
-  zero = all_by (λ h. dot h x ≡ pos 0) d.equations (λ h k. All-contains (λ h. dot h x ≡ pos 0) (c.equations ++ d.equations) h s.zero (Contains-append_right c.equations d.equations h k));
+  not_negative = all_by (λ h. pos 0 ≤ℤ dot h x) d.inequalities (λ h k. All-contains (λ h. pos 0 ≤ℤ dot h x) (c.inequalities ++ d.inequalities) h s.not_negative
+      (Contains-append_right c.inequalities d.inequalities h k));
+  zero = all_by (λ h. dot h x ≡ pos 0) d.equations (λ h k. All-contains (λ h. dot h x ≡ pos 0) (c.equations ++ d.equations) h s.zero
+      (Contains-append_right c.equations d.equations h k));
 }

@@ -1,5 +1,6 @@
 -- Lists that were sorted by a key; ascending numbers.
-use Rattle.std.proofs.Common.{nat_eq, ◌≡◌, ◌≢◌, ℕ, zero, suc, ◌+◌, ◌<◌, ◌≤◌, List, [], ◌∷◌, length, Bool, arith, sym, refl, ap, ◌∙◌, subst, ◌⊎◌, inl, inr, get_or, Contains, AllPairs, true, false, rules}
+use Rattle.std.proofs.Common.{nat_eq, ◌≡◌, ◌≢◌, ℕ, zero, suc, ◌+◌, ◌<◌, ◌≤◌, List, [], ◌∷◌, length, Bool, arith, sym, refl, ap, ◌∙◌, subst, ◌⊎◌, inl, inr}
+use Rattle.std.proofs.Common.{get_or, Contains, AllPairs, true, false, rules}
 use Rattle.std.specs.List.Sorted.{IsSortedByKey, IsPermutation}
 use Rattle.std.specs.List.{IsDistinct}
 use Rattle.std.specs.Ordering.{nat_cmp, is_lt, MatchOrdering, ordering_then, ordering_reverse}
@@ -19,12 +20,15 @@ use Rattle.gf_duality_theory.proofs.ListLaws.{none_in, in_tail, in_cons}
 
 -- ---- sorted by a key
 
-pub from_sorted : {X K : Type 0} (R : K → K → Ordering) (o : IsTotalOrder R) (key : X → K) (xs : List X) → IsSortedByKey key R xs → (i j : ℕ) (d : X) → i ≤ j → j < length xs → is_lt (R (key (get_or xs j d)) (key (get_or xs i d))) ≡ false
-from_sorted R o key xs s i zero d h hj = let e : i ≡ 0 = omega (arith, h) in subst (λ k. is_lt (R (key (get_or xs 0 d)) (key (get_or xs k d))) ≡ false) (sym e) (ap is_lt (tied_itself o (key (get_or xs 0 d))))
+pub from_sorted : {X K : Type 0} (R : K → K → Ordering) (o : IsTotalOrder R) (key : X → K) (xs : List X) → IsSortedByKey key R xs → (i j : ℕ) (d : X) → i ≤ j →
+    j < length xs → is_lt (R (key (get_or xs j d)) (key (get_or xs i d))) ≡ false
+from_sorted R o key xs s i zero d h hj = let e : i ≡ 0 = omega (arith, h) in subst (λ k. is_lt (R (key (get_or xs 0 d)) (key (get_or xs k d))) ≡ false) (sym e)
+    (ap is_lt (tied_itself o (key (get_or xs 0 d))))
 from_sorted R o key xs s i (suc j) d h hj = elim (cases_eq i (suc j)) [
   | inl k ↦ subst (λ m. is_lt (R (key (get_or xs (suc j) d)) (key (get_or xs m d))) ≡ false) (sym k) (ap is_lt (tied_itself o (key (get_or xs (suc j) d))))
   | inr k ↦ let e : suc j ≡ j + 1 = omega arith in
-      subst (λ m. is_lt (R (key (get_or xs m d)) (key (get_or xs i d))) ≡ false) (sym e) ((ranks_by o key).chain (get_or xs (j + 1) d) (get_or xs j d) (get_or xs i d) (s j d (omega arith) (omega (arith, hj))) (from_sorted R o key xs s i j d (omega (arith, k, h)) (omega (arith, hj))))
+      subst (λ m. is_lt (R (key (get_or xs m d)) (key (get_or xs i d))) ≡ false) (sym e) ((ranks_by o key).chain (get_or xs (j + 1) d) (get_or xs j d)
+      (get_or xs i d) (s j d (omega arith) (omega (arith, hj))) (from_sorted R o key xs s i j d (omega (arith, k, h)) (omega (arith, hj))))
 ]
 
 not_less : (o : Ordering) (x y : ℕ) → MatchOrdering o (x < y) (x ≡ y) (y < x) → is_lt o ≡ false → y ≤ x
@@ -33,10 +37,14 @@ not_less Equal x y m e = omega (arith, m)
 not_less Greater x y m e = omega (arith, m)
 
 -- lists that were sorted by their lengths
-pub by_lengths : (xs : List (List ℕ)) → IsSortedByKey (λ (part : List ℕ). length part) nat_cmp xs → (i j : ℕ) → i ≤ j → j < length xs → length (get_or xs i []) ≤ length (get_or xs j [])
-by_lengths xs s i j h l = not_less (nat_cmp (length (get_or xs j [])) (length (get_or xs i []))) (length (get_or xs j [])) (length (get_or xs i [])) (ranked (length (get_or xs j [])) (length (get_or xs i [])) (nat_cmp (length (get_or xs j [])) (length (get_or xs i []))) refl) (from_sorted nat_cmp nat_cmp_total (λ (part : List ℕ). length part) xs s i j [] h l)
+pub by_lengths : (xs : List (List ℕ)) → IsSortedByKey (λ (part : List ℕ). length part) nat_cmp xs → (i j : ℕ) → i ≤ j → j < length xs →
+    length (get_or xs i []) ≤ length (get_or xs j [])
+by_lengths xs s i j h l = not_less (nat_cmp (length (get_or xs j [])) (length (get_or xs i []))) (length (get_or xs j [])) (length (get_or xs i []))
+    (ranked (length (get_or xs j [])) (length (get_or xs i [])) (nat_cmp (length (get_or xs j [])) (length (get_or xs i []))) refl)
+    (from_sorted nat_cmp nat_cmp_total (λ (part : List ℕ). length part) xs s i j [] h l)
 
-equal_at : (o : Ordering) (x y : ℕ) (xs ys : List ℕ) → MatchOrdering o (x < y) (x ≡ y) (y < x) → (slice_cmp nat_cmp xs ys ≡ Equal → xs ≡ ys) → ordering_then o (slice_cmp nat_cmp xs ys) ≡ Equal → (x ∷ xs) ≡ (y ∷ ys)
+equal_at : (o : Ordering) (x y : ℕ) (xs ys : List ℕ) → MatchOrdering o (x < y) (x ≡ y) (y < x) → (slice_cmp nat_cmp xs ys ≡ Equal → xs ≡ ys) →
+    ordering_then o (slice_cmp nat_cmp xs ys) ≡ Equal → (x ∷ xs) ≡ (y ∷ ys)
 equal_at Less x y xs ys m f e = absurd (search rules)
 equal_at Equal x y xs ys m f e = ap (λ t. t ∷ xs) m ∙ ap (λ l. y ∷ l) (f e)
 equal_at Greater x y xs ys m f e = absurd (search rules)
@@ -55,7 +63,8 @@ rises Greater x y e n f =
     let b : true ≡ false = sym (ap is_lt g) ∙ n in absurd (search rules)
 
 -- sorted by a list of numbers, which differ: strictly
-pub strictly : {X : Type 0} (key : X → List ℕ) (xs : List X) → IsSortedByKey key (slice_cmp nat_cmp) xs → AllPairs (λ x y. key x ≢ key y) xs → AllPairs (λ x y. slice_cmp nat_cmp (key x) (key y) ≡ Less) xs
+pub strictly : {X : Type 0} (key : X → List ℕ) (xs : List X) → IsSortedByKey key (slice_cmp nat_cmp) xs → AllPairs (λ x y. key x ≢ key y) xs →
+    AllPairs (λ x y. slice_cmp nat_cmp (key x) (key y) ≡ Less) xs
 strictly key xs s a i j d h l = rises (slice_cmp nat_cmp (key (get_or xs i d)) (key (get_or xs j d))) (key (get_or xs i d)) (key (get_or xs j d)) refl
     (from_sorted (slice_cmp nat_cmp) nat_list_cmp_total key xs s i j d (omega (arith, h)) l) (a i j d h l)
 
@@ -71,13 +80,17 @@ false_of false xs ys e n = refl
 flipped : (b d : Bool) (xs ys : List ℕ) → b ≡ pointwise nat_eq xs ys → d ≡ pointwise nat_eq ys xs → b ≡ d
 flipped true true xs ys e f = refl
 flipped false false xs ys e f = refl
-flipped true false xs ys e f = let q : xs ≡ ys = (decide_same xs ys).0 (sym e) in let t : pointwise nat_eq ys xs ≡ true = (decide_same ys xs).1 (sym q) in absurd (let z : false ≡ true = f ∙ t in search rules)
-flipped false true xs ys e f = let q : ys ≡ xs = (decide_same ys xs).0 (sym f) in let t : pointwise nat_eq xs ys ≡ true = (decide_same xs ys).1 (sym q) in absurd (let z : false ≡ true = e ∙ t in search rules)
+flipped true false xs ys e f = let q : xs ≡ ys = (decide_same xs ys).0 (sym e) in let t : pointwise nat_eq ys xs ≡ true =
+    (decide_same ys xs).1 (sym q) in absurd (let z : false ≡ true = f ∙ t in search rules)
+flipped false true xs ys e f = let q : ys ≡ xs = (decide_same ys xs).0 (sym f) in let t : pointwise nat_eq xs ys ≡ true =
+    (decide_same xs ys).1 (sym q) in absurd (let z : false ≡ true = e ∙ t in search rules)
 
-pub still_apart : {X : Type 0} (key : X → List ℕ) (xs ys : List X) → IsPermutation xs ys → AllPairs (λ x y. key x ≢ key y) xs → AllPairs (λ x y. key x ≢ key y) ys
+pub still_apart : {X : Type 0} (key : X → List ℕ) (xs ys : List X) → IsPermutation xs ys → AllPairs (λ x y. key x ≢ key y) xs →
+    AllPairs (λ x y. key x ≢ key y) ys
 still_apart {X} key xs ys p a i j d h l e =
     let same : X → X → Bool = λ x y. pointwise nat_eq (key x) (key y) in
-    let u : IsDistinct same xs = IsDistinct-from_apart same xs (λ i j d h l. false_of (same (get_or xs i d) (get_or xs j d)) (key (get_or xs i d)) (key (get_or xs j d)) refl (a i j d h l)) in
+    let u : IsDistinct same xs = IsDistinct-from_apart same xs (λ i j d h l. false_of (same (get_or xs i d) (get_or xs j d)) (key (get_or xs i d))
+    (key (get_or xs j d)) refl (a i j d h l)) in
     let v : IsDistinct same ys = IsDistinct-IsPermutation same (λ x y. flipped (same x y) (same y x) (key x) (key y) refl refl) xs ys p u in
     let t : same (get_or ys i d) (get_or ys j d) ≡ false = apart_from_distinct same ys i j d v h l in
     let f : same (get_or ys i d) (get_or ys j d) ≡ true = (decide_same (key (get_or ys i d)) (key (get_or ys j d))).1 e in
@@ -92,7 +105,8 @@ rest_ascends : (x : ℕ) (xs : List ℕ) → AllPairs (λ i j. i < j) (x ∷ xs)
 rest_ascends x xs a i j d h l = a (suc i) (suc j) d (omega (arith, h)) (omega (arith, l))
 
 -- numbers that are all among others are no more
-pub within_short : (xs ys : List ℕ) → AllPairs (λ i j. i < j) xs → AllPairs (λ i j. i < j) ys → ((x : ℕ) → Contains xs x → Contains ys x) → length xs ≤ length ys
+pub within_short : (xs ys : List ℕ) → AllPairs (λ i j. i < j) xs → AllPairs (λ i j. i < j) ys → ((x : ℕ) → Contains xs x → Contains ys x) →
+    length xs ≤ length ys
 within_short [] ys a b f = omega arith
 within_short (x ∷ xs) [] a b f = absurd (none_in x (f x (Contains-here x xs)))
 within_short (x ∷ xs) (y ∷ ys) a b f = elim (in_cons y ys x (f x (Contains-here x xs))) [
@@ -105,12 +119,16 @@ within_short (x ∷ xs) (y ∷ ys) a b f = elim (in_cons y ys x (f x (Contains-h
       let yx = above_head y ys b x c in
       let r = within_short (x ∷ xs) ys a (rest_ascends y ys b) (λ z d. elim (in_cons y ys z (f z d)) [
         | inr i ↦ i
-        | inl q ↦ elim (in_cons x xs z d) [ inl w ↦ absurd (omega (arith, yx, q, w)) | inr w ↦ let h = above_head x xs a z w in absurd (omega (arith, yx, h, q)) ]
+        | inl q ↦ elim (in_cons x xs z d) [
+          | inl w ↦ absurd (omega (arith, yx, q, w))
+          | inr w ↦ let h = above_head x xs a z w in absurd (omega (arith, yx, h, q))
+        ]
       ]) in omega (arith, r)
 ]
 
 -- and where they are no fewer, all of them
-pub within_all : (xs ys : List ℕ) → AllPairs (λ i j. i < j) xs → AllPairs (λ i j. i < j) ys → ((x : ℕ) → Contains xs x → Contains ys x) → length ys ≤ length xs → (y : ℕ) → Contains ys y → Contains xs y
+pub within_all : (xs ys : List ℕ) → AllPairs (λ i j. i < j) xs → AllPairs (λ i j. i < j) ys → ((x : ℕ) → Contains xs x → Contains ys x) →
+    length ys ≤ length xs → (y : ℕ) → Contains ys y → Contains xs y
 within_all [] ys a b f l y c = absurd (let h = c.1 in omega (arith, l, h))
 within_all (x ∷ xs) [] a b f l y c = absurd (none_in y c)
 within_all (x ∷ xs) (y ∷ ys) a b f l z c = elim (in_cons y ys x (f x (Contains-here x xs))) [
@@ -125,19 +143,26 @@ within_all (x ∷ xs) (y ∷ ys) a b f l z c = elim (in_cons y ys x (f x (Contai
       let yx = above_head y ys b x c in
       let r = within_short (x ∷ xs) ys a (rest_ascends y ys b) (λ z d. elim (in_cons y ys z (f z d)) [
         | inr i ↦ i
-        | inl q ↦ elim (in_cons x xs z d) [ inl w ↦ absurd (omega (arith, yx, q, w)) | inr w ↦ let h = above_head x xs a z w in absurd (omega (arith, yx, h, q)) ]
+        | inl q ↦ elim (in_cons x xs z d) [
+          | inl w ↦ absurd (omega (arith, yx, q, w))
+          | inr w ↦ let h = above_head x xs a z w in absurd (omega (arith, yx, h, q))
+        ]
       ]) in absurd (omega (arith, r, l))
 ]
 
 -- ascending lists with the same numbers are the same
-pub same_numbers : (xs ys : List ℕ) → AllPairs (λ i j. i < j) xs → AllPairs (λ i j. i < j) ys → ((x : ℕ) → Contains xs x → Contains ys x) → ((y : ℕ) → Contains ys y → Contains xs y) → xs ≡ ys
+pub same_numbers : (xs ys : List ℕ) → AllPairs (λ i j. i < j) xs → AllPairs (λ i j. i < j) ys → ((x : ℕ) → Contains xs x → Contains ys x) →
+    ((y : ℕ) → Contains ys y → Contains xs y) → xs ≡ ys
 same_numbers [] [] a b f g = refl
 same_numbers [] (y ∷ ys) a b f g = absurd (none_in y (g y (Contains-here y ys)))
 same_numbers (x ∷ xs) [] a b f g = absurd (none_in x (f x (Contains-here x xs)))
 same_numbers (x ∷ xs) (y ∷ ys) a b f g =
     let e : x ≡ y = elim (in_cons y ys x (f x (Contains-here x xs))) [
       | inl q ↦ q
-      | inr c ↦ elim (in_cons x xs y (g y (Contains-here y ys))) [ inl q ↦ sym q | inr d ↦ let h = above_head y ys b x c in let k = above_head x xs a y d in absurd (omega (arith, h, k)) ]
+      | inr c ↦ elim (in_cons x xs y (g y (Contains-here y ys))) [
+        | inl q ↦ sym q
+        | inr d ↦ let h = above_head y ys b x c in let k = above_head x xs a y d in absurd (omega (arith, h, k))
+      ]
     ] in
     ap (λ t. t ∷ xs) e ∙ ap (λ l. y ∷ l) (same_numbers xs ys (rest_ascends x xs a) (rest_ascends y ys b)
     (λ z c. elim (in_cons y ys z (f z (in_tail x xs z c))) [ inl q ↦ let h = above_head x xs a z c in absurd (omega (arith, h, q, e)) | inr d ↦ d ])
@@ -155,5 +180,8 @@ pub missing : (xs ys : List ℕ) → ((x : ℕ) × (Contains xs x × (Contains y
 missing [] ys = inr (λ x c. absurd (none_in x c))
 missing (x ∷ xs) ys = elim (listed_or ys x) [
   | inr n ↦ inl (x, (Contains-here x xs, n))
-  | inl c ↦ elim (missing xs ys) [ inl m ↦ inl (m.0, (in_tail x xs m.0 m.1.0, m.1.1)) | inr f ↦ inr (λ z d. elim (in_cons x xs z d) [ inl e ↦ subst (Contains ys) (sym e) c | inr w ↦ f z w ]) ]
+  | inl c ↦ elim (missing xs ys) [
+    | inl m ↦ inl (m.0, (in_tail x xs m.0 m.1.0, m.1.1))
+    | inr f ↦ inr (λ z d. elim (in_cons x xs z d) [ inl e ↦ subst (Contains ys) (sym e) c | inr w ↦ f z w ])
+  ]
 ]

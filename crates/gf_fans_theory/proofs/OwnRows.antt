@@ -7,7 +7,8 @@ use Rattle.gf_fans_theory.specs.FaceLists.{IsPartOn, AreZeroRows}
 use Rattle.gf_fans_theory.proofs.FaceLaws.{part_on, face_rays}
 
 -- the rays of a face are those on which its rows are zero
-pub rays_part : (n : ℕ) (hs es lin rays zero some : List (List ℤ)) → IsRays n hs es lin rays → ((t : List ℤ) → Contains zero t → Contains hs t) → IsRays n hs (es ++ zero) lin some → IsPartOn zero rays some
+pub rays_part : (n : ℕ) (hs es lin rays zero some : List (List ℤ)) → IsRays n hs es lin rays → ((t : List ℤ) → Contains zero t → Contains hs t) →
+    IsRays n hs (es ++ zero) lin some → IsPartOn zero rays some
 rays_part n hs es lin rays zero some r sub s =
     let p = part_on zero rays r.ascending in
     let c : Rows = record { inequalities = hs; equations = es ++ zero } in
@@ -15,7 +16,8 @@ rays_part n hs es lin rays zero some r sub s =
     subst (IsPartOn zero rays) e p.1
 
 -- and those on which all inequalities are zero that are zero on it
-pub zero_part : (n : ℕ) (hs es lin rays zero flat some : List (List ℤ)) → IsRays n hs es lin rays → ((t : List ℤ) → Contains zero t → Contains hs t) → IsRays n hs (es ++ zero) lin some → AreZeroRows hs some flat → IsPartOn flat rays some
+pub zero_part : (n : ℕ) (hs es lin rays zero flat some : List (List ℤ)) → IsRays n hs es lin rays → ((t : List ℤ) → Contains zero t → Contains hs t) →
+    IsRays n hs (es ++ zero) lin some → AreZeroRows hs some flat → IsPartOn flat rays some
 zero_part n hs es lin rays zero flat some r sub s z =
     let p = rays_part n hs es lin rays zero some r sub s in record {
       ascending = p.ascending;
@@ -23,5 +25,7 @@ zero_part n hs es lin rays zero flat some r sub s z =
       every = λ x c f. p.every x c (λ t k. f t (z.every t (sub t k) (λ y j. (p.each y j).1 t k)));
     }
 
-pub zero_rays : (n : ℕ) (hs es lin rays zero flat some : List (List ℤ)) → IsRays n hs es lin rays → ((t : List ℤ) → Contains zero t → Contains hs t) → IsRays n hs (es ++ zero) lin some → AreZeroRows hs some flat → IsRays n hs (es ++ flat) lin some
-zero_rays n hs es lin rays zero flat some r sub s z = face_rays n hs es lin rays flat some r (λ t k. (z.each t k).0) (zero_part n hs es lin rays zero flat some r sub s z)
+pub zero_rays : (n : ℕ) (hs es lin rays zero flat some : List (List ℤ)) → IsRays n hs es lin rays → ((t : List ℤ) → Contains zero t → Contains hs t) →
+    IsRays n hs (es ++ zero) lin some → AreZeroRows hs some flat → IsRays n hs (es ++ flat) lin some
+zero_rays n hs es lin rays zero flat some r sub s z = face_rays n hs es lin rays flat some r (λ t k. (z.each t k).0)
+    (zero_part n hs es lin rays zero flat some r sub s z)

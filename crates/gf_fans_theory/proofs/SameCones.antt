@@ -21,5 +21,8 @@ meet_of_same n a b c d rc rd wc wd m =
     let same : SameCone n (meet a b) (meet c d) = λ x l. (
       λ s. both_in c d x ((wc x l).0 (left_in a b x s)) ((wd x l).0 (right_in a b x s)),
       λ s. both_in a b x ((wc x l).1 (left_in c d x s)) ((wd x l).1 (right_in c d x s)),
-    ) in
-    (face_same n (meet a b) (meet c d) c same (face_of_same n (meet a b) a c rc wc m.0), face_same n (meet a b) (meet c d) d same (face_of_same n (meet a b) b d rd wd m.1))
+    ) in (
+      face_same n (meet a b) (meet c d) c same (face_of_same n (meet a b) a c rc wc m.0),
+      face_same n (meet a b) (meet c d) d same
+          (face_of_same n (meet a b) b d rd wd m.1),
+    )

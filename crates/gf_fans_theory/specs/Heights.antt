@@ -4,8 +4,10 @@ use Rattle.gf_fans_theory.specs.FaceLists.{IsPartOn, AreNumbers, numbered}
 
 -- the numbers of the rays of all faces, each once: those on which the rows at some places are zero
 pub record AreParts (rows rays : List (List ℤ)) (parts : List (List ℕ)) : Type 0 where
-  pub each : (f : List ℕ) → Contains parts f → (ks : List ℕ) × (((k : ℕ) → Contains ks k → k < length rows) × AreNumbers rays f × IsPartOn (numbered rows ks) rays (numbered rays f))
-  pub every : (ks : List ℕ) → ((k : ℕ) → Contains ks k → k < length rows) → (f : List ℕ) × (Contains parts f × IsPartOn (numbered rows ks) rays (numbered rays f))
+  pub each : (f : List ℕ) → Contains parts f → (ks : List ℕ) × (((k : ℕ) → Contains ks k → k < length rows) × AreNumbers rays f × IsPartOn (numbered rows ks)
+      rays (numbered rays f))
+  pub every : (ks : List ℕ) → ((k : ℕ) → Contains ks k → k < length rows) →
+      (f : List ℕ) × (Contains parts f × IsPartOn (numbered rows ks) rays (numbered rays f))
   pub once : AllPairs (λ f g. f ≢ g) parts
 
 -- each number of the part at j is one of that at i
@@ -20,7 +22,8 @@ pub record IsNextBelow (parts : List (List ℕ)) (i j : ℕ) : Type 0 where
 
 -- the least height where no part before it is inside, else one more than that of the last such part
 abbrev pub IsHeight : ℕ → List (List ℕ) → List ℕ → ℕ → Type 0
-IsHeight least parts heights i = (((j : ℕ) → j < i → IsWithinPart parts j i → ⊥) × (slice_index_or heights i 0 ≡ least)) ⊎ ((j : ℕ) × (IsNextBelow parts i j × (slice_index_or heights i 0 ≡ slice_index_or heights j 0 + 1)))
+IsHeight least parts heights i = (((j : ℕ) → j < i → IsWithinPart parts j i → ⊥) × (slice_index_or heights i 0 ≡ least)) ⊎
+    ((j : ℕ) × (IsNextBelow parts i j × (slice_index_or heights i 0 ≡ slice_index_or heights j 0 + 1)))
 
 -- a height for each part, by those inside it
 pub record AreHeights (least : ℕ) (parts : List (List ℕ)) (heights : List ℕ) : Type 0 where

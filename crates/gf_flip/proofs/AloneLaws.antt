@@ -31,15 +31,19 @@ one_place (t ∷ s ∷ f) x y l h k = absurd (omega arith)
 
 -- one member
 alone_by_part : (a : List ℤ) → HasNonzero a → (b p : MarkedPolynomial) → coefficient b.poly b.head ≡ one_ℚ → IsPartAlong a b p → length p.poly ≡ 1 → IsAlone a b
-alone_by_part a nz b p one h l x m q = let g = multiple-grading a nz in one_place p.poly x b.head l (λ z. m (sym (h.along x q) ∙ z)) (λ z. one_not_zero (sym one ∙ sym (h.along b.head (g.along b.head b.head (same-refl b.head))) ∙ z))
+alone_by_part a nz b p one h l x m q = let g = multiple-grading a nz in
+    one_place p.poly x b.head l (λ z. m (sym (h.along x q) ∙ z)) (λ z. one_not_zero (sym one ∙ sym (h.along b.head (g.along b.head b.head (same-refl b.head))) ∙
+    z))
 
 -- each member whose part is one term alone
-alone_parts : (a : List ℤ) → HasNonzero a → (bs ps : List MarkedPolynomial) → ((b : MarkedPolynomial) → Contains bs b → coefficient b.poly b.head ≡ one_ℚ) → ArePartsAlong a bs ps →
-    (j : ℕ) (b : MarkedPolynomial) → IsAt bs j b → get_or (map (λ (f : Terms). length f == 1) (polys ps)) j false ≡ true → IsAlone a b
+alone_parts : (a : List ℤ) → HasNonzero a → (bs ps : List MarkedPolynomial) → ((b : MarkedPolynomial) → Contains bs b → coefficient b.poly b.head ≡ one_ℚ) →
+    ArePartsAlong a bs ps → (j : ℕ) (b : MarkedPolynomial) → IsAt bs j b → get_or (map (λ (f : Terms). length f == 1) (polys ps)) j false ≡ true → IsAlone a b
 alone_parts a nz [] ps one h j b i e = absurd (omega (arith, i.within))
 alone_parts a nz (d ∷ bs) [] one h j b i e = elim h [ ]
-alone_parts a nz (d ∷ bs) (p ∷ ps) one h zero b i e = subst (IsAlone a) i.is (alone_by_part a nz d p (one d (Contains-here d bs)) h.0 (eq_by (length p.poly) 1 e))
-alone_parts a nz (d ∷ bs) (p ∷ ps) one h (suc j) b i e = alone_parts a nz bs ps (λ c k. one c (Contains-there d c bs k)) h.1 j b (record { within = omega (arith, i.within); is = i.is }) e
+alone_parts a nz (d ∷ bs) (p ∷ ps) one h zero b i e =
+    subst (IsAlone a) i.is (alone_by_part a nz d p (one d (Contains-here d bs)) h.0 (eq_by (length p.poly) 1 e))
+alone_parts a nz (d ∷ bs) (p ∷ ps) one h (suc j) b i e = alone_parts a nz bs ps (λ c k. one c (Contains-there d c bs k)) h.1 j b
+    (record { within = omega (arith, i.within); is = i.is }) e
 
 flags-length : (a : List ℤ) (bs ps : List MarkedPolynomial) → ArePartsAlong a bs ps → length (map (λ (f : Terms). length f == 1) (polys ps)) ≡ length bs
 flags-length a [] [] h = refl
@@ -47,12 +51,16 @@ flags-length a [] (p ∷ ps) h = elim h [ ]
 flags-length a (b ∷ bs) [] h = elim h [ ]
 flags-length a (b ∷ bs) (p ∷ ps) h = ap suc (flags-length a bs ps h.1)
 
-pub alone_where : (a : List ℤ) → HasNonzero a → (bs : List MarkedPolynomial) (fs : List Terms) (flags : List Bool) → HasSomeWeight bs → AreAlong a bs fs → flags ≡ map (λ (f : Terms). length f == 1) fs → AreAloneWhere a bs flags
-alone_where a nz bs fs flags w h e = subst (AreAloneWhere a bs) (sym (e ∙ ap (λ (z : List Terms). map (λ (f : Terms). length f == 1) z) h.polynomials)) (record {
-  size = flags-length a bs h.parts h.each;
-  at = alone_parts a nz bs h.parts (λ b c. (w.1 b c).monic) h.each;
-})
+pub alone_where : (a : List ℤ) → HasNonzero a → (bs : List MarkedPolynomial) (fs : List Terms) (flags : List Bool) → HasSomeWeight bs → AreAlong a bs fs →
+    flags ≡ map (λ (f : Terms). length f == 1) fs → AreAloneWhere a bs flags
+alone_where a nz bs fs flags w h e = subst (AreAloneWhere a bs) (sym (e ∙ ap (λ (z : List Terms). map (λ (f : Terms). length f == 1) z) h.polynomials))
+    (record {
+      size = flags-length a bs h.parts h.each;
+      at = alone_parts a nz bs h.parts (λ b c. (w.1 b c).monic) h.each;
+    })
 
 -- the same under other names
-pub alone_at : (a x : List ℤ) (bs items : List MarkedPolynomial) (flags : List Bool) → x ≡ a → items ≡ bs → AreAloneWhere a bs flags → AreAloneWhere x items flags
-alone_at a x bs items flags e q h = subst (λ (z : List ℤ). AreAloneWhere z items flags) (sym e) (subst (λ (z : List MarkedPolynomial). AreAloneWhere a z flags) (sym q) h)
+pub alone_at : (a x : List ℤ) (bs items : List MarkedPolynomial) (flags : List Bool) → x ≡ a → items ≡ bs → AreAloneWhere a bs flags →
+    AreAloneWhere x items flags
+alone_at a x bs items flags e q h = subst (λ (z : List ℤ). AreAloneWhere z items flags) (sym e) (subst (λ (z : List MarkedPolynomial). AreAloneWhere a z flags)
+    (sym q) h)

@@ -66,31 +66,38 @@ parts_at n m bs a fs o s h e q b = let r = subst (λ (z : ℕ). IsArrangedBasis 
     let t = subst (λ (z : MonomialOrder). IsArrangedBasis z n fs s) q r in
     record { generators = fs; along = h; reduced = t.reduced }
 
-pub parts_variables : (n m : ℕ) (fs : List Terms) (o : MonomialOrder) (s : MarkedPolynomials) → m ≡ n → IsArrangedBasis o m fs s → HaveVariables s.variables s.items → HaveVariables n s.items
+pub parts_variables : (n m : ℕ) (fs : List Terms) (o : MonomialOrder) (s : MarkedPolynomials) → m ≡ n → IsArrangedBasis o m fs s →
+    HaveVariables s.variables s.items → HaveVariables n s.items
 parts_variables n m fs o s e b v = subst (λ (z : ℕ). HaveVariables z s.items) (b.variables ∙ e) v
 
-pub parts_refused_at : (n m : ℕ) (bs : List MarkedPolynomial) (a : List ℤ) (fs : List Terms) (o : MonomialOrder) (budget : ℕ) (x : BasisError) → AreAlong a bs fs → m ≡ n →
-    o ≡ MonomialOrder.facet (negated_row_of a) → IsBasisRefusal o m fs budget x → IsFlipRefusal n bs a budget x
+pub parts_refused_at : (n m : ℕ) (bs : List MarkedPolynomial) (a : List ℤ) (fs : List Terms) (o : MonomialOrder) (budget : ℕ) (x : BasisError) →
+    AreAlong a bs fs → m ≡ n → o ≡ MonomialOrder.facet (negated_row_of a) → IsBasisRefusal o m fs budget x → IsFlipRefusal n bs a budget x
 parts_refused_at n m bs a fs o budget x h e q k =
     parts_refused n bs a fs budget x h (subst (λ (z : MonomialOrder). IsBasisRefusal z n fs budget x) q (subst (λ (z : ℕ). IsBasisRefusal o z fs budget x) e k))
 
 -- ---- lifts
 
-pub if_neighbour : {E : Type 0} (n m : ℕ) (bs : List MarkedPolynomial) (a : List ℤ) (hs ls : List MarkedPolynomial) (s : MarkedPolynomials) (r : Result MarkedPolynomials E) → IsCrossing n bs a → IsBasisOfParts n bs a hs →
-    AreEverLifted n bs a hs ls → m ≡ n → s ≡ record { variables = m; items = ls } → IfOk r (IsAutoreduced s) → IfOk r (λ t. AreArranged s.variables t.items) → IfOk r (λ t. IsNeighbour n bs a t.items)
+pub if_neighbour : {E : Type 0} (n m : ℕ) (bs : List MarkedPolynomial) (a : List ℤ) (hs ls : List MarkedPolynomial) (s : MarkedPolynomials)
+    (r : Result MarkedPolynomials E) → IsCrossing n bs a → IsBasisOfParts n bs a hs → AreEverLifted n bs a hs ls → m ≡ n →
+    s ≡ record { variables = m; items = ls } → IfOk r (IsAutoreduced s) → IfOk r (λ t. AreArranged s.variables t.items) →
+    IfOk r (λ t. IsNeighbour n bs a t.items)
 if_neighbour n m bs a hs ls s (Ok t) c p l e q w o = neighbour_at n m bs a hs ls s t c p l e q w o
 if_neighbour n m bs a hs ls s (Err x) c p l e q w o = tt
 
-pub if_variables : {E : Type 0} (n m : ℕ) (ls : List MarkedPolynomial) (s : MarkedPolynomials) (r : Result MarkedPolynomials E) → m ≡ n → s ≡ record { variables = m; items = ls } → IfOk r (IsAutoreduced s) → IfOk r (λ t. t.variables ≡ n)
+pub if_variables : {E : Type 0} (n m : ℕ) (ls : List MarkedPolynomial) (s : MarkedPolynomials) (r : Result MarkedPolynomials E) → m ≡ n →
+    s ≡ record { variables = m; items = ls } → IfOk r (IsAutoreduced s) → IfOk r (λ t. t.variables ≡ n)
 if_variables n m ls s (Ok t) e q w = w.arranged.variables ∙ ap (λ (z : MarkedPolynomials). z.variables) q ∙ e
 if_variables n m ls s (Err x) e q w = tt
 
-pub if_tails_refused : {A : Type 0} (n m : ℕ) (bs : List MarkedPolynomial) (a : List ℤ) (hs ls : List MarkedPolynomial) (s : MarkedPolynomials) (r : Result A PolyError) → IsBasisOfParts n bs a hs → AreLifts bs hs ls →
-    s ≡ record { variables = m; items = ls } → IfErr r (IsAutoreductionRefusal s.items) → IfErr r (λ e. (pairs : ℕ) → IsFlipRefusal n bs a pairs (of_poly_error e))
+pub if_tails_refused : {A : Type 0} (n m : ℕ) (bs : List MarkedPolynomial) (a : List ℤ) (hs ls : List MarkedPolynomial) (s : MarkedPolynomials)
+    (r : Result A PolyError) → IsBasisOfParts n bs a hs → AreLifts bs hs ls → s ≡ record { variables = m; items = ls } →
+    IfErr r (IsAutoreductionRefusal s.items) → IfErr r (λ e. (pairs : ℕ) → IsFlipRefusal n bs a pairs (of_poly_error e))
 if_tails_refused n m bs a hs ls s (Ok t) p l q k = tt
-if_tails_refused n m bs a hs ls s (Err e) p l q k = λ pairs. tails_refused n bs a hs ls pairs e p l (subst (λ (z : MarkedPolynomials). IsAutoreductionRefusal z.items e) q k)
+if_tails_refused n m bs a hs ls s (Err e) p l q k =
+    λ pairs. tails_refused n bs a hs ls pairs e p l (subst (λ (z : MarkedPolynomials). IsAutoreductionRefusal z.items e) q k)
 
-pub topped_at : (bs items : List MarkedPolynomial) (a b : List ℤ) (hs ls : List MarkedPolynomial) → items ≡ bs → b ≡ a → AreTopLifts items b hs ls → AreTopLifts bs a hs ls
+pub topped_at : (bs items : List MarkedPolynomial) (a b : List ℤ) (hs ls : List MarkedPolynomial) → items ≡ bs → b ≡ a → AreTopLifts items b hs ls →
+    AreTopLifts bs a hs ls
 topped_at bs items a b hs ls e q t = subst (λ (z : List MarkedPolynomial). AreTopLifts z a hs ls) e (subst (λ (z : List ℤ). AreTopLifts items z hs ls) q t)
 
 -- ---- tails of lifts that end early
@@ -101,27 +108,31 @@ pub record Ending (n : ℕ) (bs : List MarkedPolynomial) (a : List ℤ) (hs ms :
   pub reduced : AreReducedTails ms ms ms
   pub canonical : (m : MarkedPolynomial) → Contains ms m → IsCanonical n m
 
-pub ending_at : (n : ℕ) (bs items : List MarkedPolynomial) (a b : List ℤ) (hs ls : List MarkedPolynomial) (flags : List Bool) (ms : List MarkedPolynomial) → IsCrossing n bs a →
-    IsBasisOfParts n bs a hs → items ≡ bs → b ≡ a → AreTopLifts items b hs ls → HaveVariables (length b) ls → AreCopies items ls flags → AreTailsInTurn ls flags (length ls) ms → Ending n bs a hs ms
+pub ending_at : (n : ℕ) (bs items : List MarkedPolynomial) (a b : List ℤ) (hs ls : List MarkedPolynomial) (flags : List Bool) (ms : List MarkedPolynomial) →
+    IsCrossing n bs a → IsBasisOfParts n bs a hs → items ≡ bs → b ≡ a → AreTopLifts items b hs ls → HaveVariables (length b) ls → AreCopies items ls flags →
+    AreTailsInTurn ls flags (length ls) ms → Ending n bs a hs ms
 ending_at n bs items a b hs ls flags ms c p e q t v k r = record {
   lifted = ever_turned n bs a hs ls flags (length ls) ms p r (ever_topped n bs a hs ls p (topped_at bs items a b hs ls e q t));
   reduced = turned_tails bs ls flags ms c.basis.reduced.tails copies r;
-  canonical = turned_canonical n bs ls flags ms c.basis.reduced.tails copies r (subst (λ (z : ℕ). HaveVariables z ls) (ap length q ∙ crossing_width n bs a c) v);
+  canonical = turned_canonical n bs ls flags ms c.basis.reduced.tails copies r (subst (λ (z : ℕ). HaveVariables z ls) (ap length q ∙ crossing_width n bs a c)
+      v);
 }
   where
     copies : AreCopies bs ls flags
     copies = subst (λ (z : List MarkedPolynomial). AreCopies z ls flags) e k
 
-pub lifts_weight : (n : ℕ) (bs items : List MarkedPolynomial) (a b : List ℤ) (hs ls : List MarkedPolynomial) → IsCrossing n bs a → IsBasisOfParts n bs a hs → items ≡ bs → b ≡ a →
-    AreTopLifts items b hs ls → HasSomeWeight ls
-lifts_weight n bs items a b hs ls c p e q t = let w = lifts_marked n bs a hs ls c p (ever_topped n bs a hs ls p (topped_at bs items a b hs ls e q t)) in (w.0, w.2)
+pub lifts_weight : (n : ℕ) (bs items : List MarkedPolynomial) (a b : List ℤ) (hs ls : List MarkedPolynomial) → IsCrossing n bs a → IsBasisOfParts n bs a hs →
+    items ≡ bs → b ≡ a → AreTopLifts items b hs ls → HasSomeWeight ls
+lifts_weight n bs items a b hs ls c p e q t = let w = lifts_marked n bs a hs ls c p (ever_topped n bs a hs ls p (topped_at bs items a b hs ls e q t)) in
+    (w.0, w.2)
 
 pub ended_variables : (n m : ℕ) (bs : List MarkedPolynomial) (a : List ℤ) (hs ms : List MarkedPolynomial) → m ≡ n → Ending n bs a hs ms → HaveVariables m ms
-ended_variables n m bs a hs ms q e = subst (λ (z : ℕ). HaveVariables z ms) (sym q) (each_contained (λ (b : MarkedPolynomial). HasVariables n b.poly) ms (λ b k. (e.canonical b k).variables))
+ended_variables n m bs a hs ms q e = subst (λ (z : ℕ). HaveVariables z ms) (sym q) (each_contained (λ (b : MarkedPolynomial). HasVariables n b.poly) ms
+    (λ b k. (e.canonical b k).variables))
 
 -- arranged they are the neighbour
-pub ended_neighbour : (n m : ℕ) (bs : List MarkedPolynomial) (a : List ℤ) (hs ms : List MarkedPolynomial) (s t : MarkedPolynomials) → IsCrossing n bs a → IsBasisOfParts n bs a hs → m ≡ n →
-    Ending n bs a hs ms → s ≡ record { variables = m; items = ms } → IsArranged s t → IsNeighbour n bs a t.items
+pub ended_neighbour : (n m : ℕ) (bs : List MarkedPolynomial) (a : List ℤ) (hs ms : List MarkedPolynomial) (s t : MarkedPolynomials) → IsCrossing n bs a →
+    IsBasisOfParts n bs a hs → m ≡ n → Ending n bs a hs ms → s ≡ record { variables = m; items = ms } → IsArranged s t → IsNeighbour n bs a t.items
 ended_neighbour n m bs a hs ms s t c p q e r o =
     neighbour n bs a hs ms ms ms t.items p e.lifted twins apart e.reduced arranged.members
     (arranged_list n (record { variables = n; items = ms }) t arranged e.canonical apart)

@@ -38,7 +38,8 @@ parts_apart n bs a c ps h f k x y p q = apart-negated a x y (parts_of_one_class 
     s = side_of_inside n c.generators c.region bs a c.flippable.point c.basis c.flippable.inside
 
     l : Matching (IsLevelPart c.flippable.point) bs ps
-    l = matched-map (IsPartAlong a) (IsLevelPart c.flippable.point) bs ps (λ d p k i. level_of_along c.flippable.point (negated a) d p s.nonzero s.zero (s.marked d k) (along_negated a d p i)) h
+    l = matched-map (IsPartAlong a) (IsLevelPart c.flippable.point) bs ps (λ d p k i. level_of_along c.flippable.point (negated a) d p s.nonzero s.zero
+        (s.marked d k) (along_negated a d p i)) h
 
 -- weights as exponents
 orthogonal : (a v : List ℤ) → All (λ x. pos 0 ≤ℤ x) v → whole_weight a (gains v) ≡ dot a v
@@ -53,6 +54,7 @@ orthogonal a v h = at a v (recursion_from_All (λ x. pos 0 ≤ℤ x) v h)
 -- the order along the facet is good on them
 pub suited : (n : ℕ) (bs : List MarkedPolynomial) (a : List ℤ) (fs : List Terms) → IsCrossing n bs a → AreAlong a bs fs →
     IsSuited (MonomialOrder.facet (negated_row_of a)) n fs
-suited n bs a fs c h = orders_that_suit.facet n a (gains c.flippable.point) fs (in_ring n bs a fs c h) (region-positive n c.region c.flippable.point c.flippable.region)
+suited n bs a fs c h = orders_that_suit.facet n a (gains c.flippable.point) fs (in_ring n bs a fs c h)
+    (region-positive n c.region c.flippable.point c.flippable.region)
     (orthogonal a c.flippable.point (region-natural n c.region c.flippable.point c.flippable.region) ∙ c.flippable.inside.zero)
     (λ f k x y p q. parts_apart n bs a c h.parts h.each f (subst (λ (z : List Terms). Contains z f) h.polynomials k) x y p q)

@@ -25,18 +25,24 @@ use Rattle.gf_cone.specs.Crossing.{IsFlipDecided}
 use Rattle.gf_lifts.specs.Crossings.{IsCrossing, IsNeighbour}
 use Rattle.gf_flip.specs.Reached.{IsReachedByFlips}
 
-pub reached_first : (n : ℕ) (fs : List Terms) (s : MarkedPolynomials) → HaveRingVariables n fs → IsArrangedBasis MonomialOrder.deglex n fs s → IsReachedByFlips fs s
+pub reached_first : (n : ℕ) (fs : List Terms) (s : MarkedPolynomials) → HaveRingVariables n fs → IsArrangedBasis MonomialOrder.deglex n fs s →
+    IsReachedByFlips fs s
 reached_first n fs s v b = record {
   generators = subst (λ (m : ℕ). AreInVariables m fs) (sym b.variables) (ring_variables n fs v);
   basis = subst (λ (m : ℕ). IsBasisInRegion m fs (all_positive m) s.items) (sym b.variables) (basis_everywhere n fs s.items (record {
-    reduced = record { basis = basis_of_groebner_for n fs s.items (below_of MonomialOrder.deglex) (order-is MonomialOrder.deglex) weight b.reduced.basis; tails = b.reduced.tails; heads = b.reduced.heads };
+    reduced = record {
+      basis = basis_of_groebner_for n fs s.items (below_of MonomialOrder.deglex) (order-is MonomialOrder.deglex) weight b.reduced.basis;
+      tails = b.reduced.tails;
+      heads = b.reduced.heads;
+    };
     arranged = b.arranged;
   }));
 }
   where
     weight : HasPositiveWeight n s.items
     weight = marked_positive (IsOfGrade n []) (below_of MonomialOrder.deglex) n s.items (order-weights MonomialOrder.deglex n [] tt) b.marked
-        (λ d c x p. let w = variables_by_terms n d.poly (b.arranged.canonical d c).variables in (refl, λ i l. w x p i l ∙ sym (w d.head (mark-there (below_of MonomialOrder.deglex) d (b.marked d c)) i l)))
+        (λ d c x p. let w = variables_by_terms n d.poly (b.arranged.canonical d c).variables in
+        (refl, λ i l. w x p i l ∙ sym (w d.head (mark-there (below_of MonomialOrder.deglex) d (b.marked d c)) i l)))
 
 pub told_flippable : (s : MarkedPolynomials) (cone old new : ConeRows) (normals : List (List ℤ)) (place : ℕ) (a : List ℤ) (r : Bool) →
     IsConeOf s.variables (all_positive s.variables) s.items cone → old ≡ cone → new ≡ old → normals ≡ new.normals → place < length normals →
@@ -48,11 +54,12 @@ told_flippable s cone old new normals place a r k e f g l q t d =
     here : a ≡ normal_at old place
     here = q ∙ get_or_default normals place a [] l ∙ ap (λ (z : List (List ℤ)). get_or z place []) (g ∙ ap (λ (c : ConeRows). c.normals) f)
 
-pub reached_crossing : (fs : List Terms) (s : MarkedPolynomials) (a : List ℤ) → IsReachedByFlips fs s → IsFlippable s.variables (all_positive s.variables) s.items a → IsCrossing s.variables s.items a
+pub reached_crossing : (fs : List Terms) (s : MarkedPolynomials) (a : List ℤ) → IsReachedByFlips fs s →
+    IsFlippable s.variables (all_positive s.variables) s.items a → IsCrossing s.variables s.items a
 reached_crossing fs s a r f = record { generators = fs; region = all_positive s.variables; variables = r.generators; basis = r.basis; flippable = f }
 
-pub reached_next : (fs : List Terms) (s t : MarkedPolynomials) (a : List ℤ) → IsReachedByFlips fs s → IsFlippable s.variables (all_positive s.variables) s.items a → IsNeighbour s.variables s.items a t.items →
-    t.variables ≡ s.variables → IsReachedByFlips fs t
+pub reached_next : (fs : List Terms) (s t : MarkedPolynomials) (a : List ℤ) → IsReachedByFlips fs s →
+    IsFlippable s.variables (all_positive s.variables) s.items a → IsNeighbour s.variables s.items a t.items → t.variables ≡ s.variables → IsReachedByFlips fs t
 reached_next fs s t a r f n e = record {
   generators = subst (λ (m : ℕ). AreInVariables m fs) (sym e) r.generators;
   basis = subst (λ (m : ℕ). IsBasisInRegion m fs (all_positive m) t.items) (sym e) (n.at fs (all_positive s.variables) r.generators r.basis f).there;

@@ -41,10 +41,12 @@ tails_refused n bs a hs ls budget (errors.Exponent o) p l (inr (ks, m, k)) = (Is
 tails_refused n bs a hs ls budget errors.Memory p l k = tt
 
 -- where nothing leaves its range only memory may be wanting
-pub flip_refusal_within : (n : ℕ) (bs : List MarkedPolynomial) (a : List ℤ) (budget : ℕ) (e : BasisError) → IsFlipWithinLimits n bs a budget → IsFlipRefusal n bs a budget e → IsWantOfMemory e
+pub flip_refusal_within : (n : ℕ) (bs : List MarkedPolynomial) (a : List ℤ) (budget : ℕ) (e : BasisError) → IsFlipWithinLimits n bs a budget →
+    IsFlipRefusal n bs a budget e → IsWantOfMemory e
 flip_refusal_within n bs a budget (basis_errors.Overflow o) w h = absurd (h.1 (w.operations o.op o.left o.right h.0))
 flip_refusal_within n bs a budget (basis_errors.Exponent o) w h = absurd (omega (arith, w.exponents o.left o.right h.0, h.1))
-flip_refusal_within n bs a budget (basis_errors.PairBudget s unsettled) w h = absurd (omega (arith, w.pairs h.generators s.items h.along h.spent.work, h.spent.count, h.spent.some.1.1))
+flip_refusal_within n bs a budget (basis_errors.PairBudget s unsettled) w h =
+    absurd (omega (arith, w.pairs h.generators s.items h.along h.spent.work, h.spent.count, h.spent.some.1.1))
 flip_refusal_within n bs a budget basis_errors.Memory w h = refl
 
 pub flip_within : {A : Type 0} (n : ℕ) (bs : List MarkedPolynomial) (a : List ℤ) (budget : ℕ) (r : Result A BasisError) → IsFlipWithinLimits n bs a budget →

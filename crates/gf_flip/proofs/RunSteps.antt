@@ -27,46 +27,63 @@ use Rattle.gf_flip.proofs.StartLaws.{IsStart, split_start}
 
 -- under the names that the code has
 pub crossing_at : (n : ℕ) (bs items : List MarkedPolynomial) (a b : List ℤ) → items ≡ bs → b ≡ a → IsCrossing n bs a → IsCrossing (length b) items b
-crossing_at n bs items a b e q c = subst (λ (z : List ℤ). IsCrossing (length z) items z) (sym q) (subst (λ (z : List MarkedPolynomial). IsCrossing (length a) z a) (sym e) (subst (λ (k : ℕ). IsCrossing k bs a) (sym (crossing_width n bs a c)) c))
+crossing_at n bs items a b e q c = subst (λ (z : List ℤ). IsCrossing (length z) items z) (sym q)
+    (subst (λ (z : List MarkedPolynomial). IsCrossing (length a) z a) (sym e) (subst (λ (k : ℕ). IsCrossing k bs a) (sym (crossing_width n bs a c)) c))
 
 row_entries : (a : List ℤ) → HasEntries (length a) (facet_order a)
 row_entries a = length-losses a
 
-pub start_of : (bs : List MarkedPolynomial) (a : List ℤ) (places : List ℕ) (xs : List Exponents) (fs : List Terms) → IsCrossing (length a) bs a → AreSplit a bs places xs fs → IsStart (length a) bs a xs fs
+pub start_of : (bs : List MarkedPolynomial) (a : List ℤ) (places : List ℕ) (xs : List Exponents) (fs : List Terms) → IsCrossing (length a) bs a →
+    AreSplit a bs places xs fs → IsStart (length a) bs a xs fs
 start_of bs a places xs fs c h = split_start (length a) bs a places xs fs c (row_entries a) h
 
-pub entering_of : (bs : List MarkedPolynomial) (a : List ℤ) (xs : List Exponents) (fs : List Terms) → IsStart (length a) bs a xs fs → HasEntering (facet_order a) (length a) fs (with_monomials xs [])
+pub entering_of : (bs : List MarkedPolynomial) (a : List ℤ) (xs : List Exponents) (fs : List Terms) → IsStart (length a) bs a xs fs →
+    HasEntering (facet_order a) (length a) fs (with_monomials xs [])
 entering_of bs a xs fs s = record { polynomials = s.generators; entering = s.entering }
 
-pub ground_of : (bs : List MarkedPolynomial) (a : List ℤ) (xs : List Exponents) (fs : List Terms) → IsCrossing (length a) bs a → AreSmall a → IsStart (length a) bs a xs fs → IsGround a xs
-ground_of bs a xs fs c w s = record { small = w; nonzero = crossing_nonzero (length a) bs a c; marks = variables_each (length a) (with_monomials xs []) s.entering.underway.variables }
+pub ground_of : (bs : List MarkedPolynomial) (a : List ℤ) (xs : List Exponents) (fs : List Terms) → IsCrossing (length a) bs a → AreSmall a →
+    IsStart (length a) bs a xs fs → IsGround a xs
+ground_of bs a xs fs c w s = record {
+  small = w;
+  nonzero = crossing_nonzero (length a) bs a c;
+  marks = variables_each (length a) (with_monomials xs []) s.entering.underway.variables;
+}
 
 -- ---- its end
 
-pub end_later : (bs : List MarkedPolynomial) (a : List ℤ) (xs : List Exponents) (fs : List Terms) (ms : List MarkedPolynomial) → IsStart (length a) bs a xs fs → LeadsToEnd (facet_order a) (length a) fs (with_monomials xs []) ms → AreLaterUndivided ms
+pub end_later : (bs : List MarkedPolynomial) (a : List ℤ) (xs : List Exponents) (fs : List Terms) (ms : List MarkedPolynomial) → IsStart (length a) bs a xs fs →
+    LeadsToEnd (facet_order a) (length a) fs (with_monomials xs []) ms → AreLaterUndivided ms
 end_later bs a xs fs ms s l = (l.turning s.generators s.entering).underway.later
 
 -- the basis of the parts
-run_basis : (bs : List MarkedPolynomial) (a : List ℤ) (xs : List Exponents) (fs : List Terms) (ms hs : List MarkedPolynomial) → IsStart (length a) bs a xs fs → LeadsToEnd (facet_order a) (length a) fs (with_monomials xs []) ms →
-    SettlesTo (facet_order a) (length a) ms hs → IsBasisOfParts (length a) bs a hs
-run_basis bs a xs fs ms hs s l t = record { generators = s.generators; along = s.along; reduced = t.at s.generators (l.turning s.generators s.entering) (l.entered s.generators s.entering) }
+run_basis : (bs : List MarkedPolynomial) (a : List ℤ) (xs : List Exponents) (fs : List Terms) (ms hs : List MarkedPolynomial) → IsStart (length a) bs a xs fs →
+    LeadsToEnd (facet_order a) (length a) fs (with_monomials xs []) ms → SettlesTo (facet_order a) (length a) ms hs → IsBasisOfParts (length a) bs a hs
+run_basis bs a xs fs ms hs s l t = record {
+  generators = s.generators;
+  along = s.along;
+  reduced = t.at s.generators (l.turning s.generators s.entering) (l.entered s.generators s.entering);
+}
 
 -- and its lifts
-pub run_lifts : (bs : List MarkedPolynomial) (a : List ℤ) (xs : List Exponents) (fs : List Terms) (ms hs : List MarkedPolynomial) (o : Option Lifts) → IsStart (length a) bs a xs fs → LeadsToEnd (facet_order a) (length a) fs (with_monomials xs []) ms →
-    SettlesTo (facet_order a) (length a) ms hs → IfSome o (λ ls. AreTopLifts bs a hs ls.members.items) → IfSome o (λ ls. HaveVariables (length a) ls.members.items) → IfSome o (λ ls. AreCopies bs ls.members.items ls.copied.items) →
-    IfSome o (λ ls. AreLiftsOfParts (length a) bs a ls.members.items ls.copied.items)
+pub run_lifts : (bs : List MarkedPolynomial) (a : List ℤ) (xs : List Exponents) (fs : List Terms) (ms hs : List MarkedPolynomial) (o : Option Lifts) →
+    IsStart (length a) bs a xs fs → LeadsToEnd (facet_order a) (length a) fs (with_monomials xs []) ms → SettlesTo (facet_order a) (length a) ms hs →
+    IfSome o (λ ls. AreTopLifts bs a hs ls.members.items) → IfSome o (λ ls. HaveVariables (length a) ls.members.items) →
+    IfSome o (λ ls. AreCopies bs ls.members.items ls.copied.items) → IfSome o (λ ls. AreLiftsOfParts (length a) bs a ls.members.items ls.copied.items)
 run_lifts bs a xs fs ms hs (Some ls) s l t p v k = record { basis = hs; parts = run_basis bs a xs fs ms hs s l t; tops = p; variables = v; copies = k }
 run_lifts bs a xs fs ms hs None s l t p v k = tt
 
 -- under the names that the code has
-pub lifts_under : (n : ℕ) (bs items : List MarkedPolynomial) (a b : List ℤ) (o : Option Lifts) → items ≡ bs → b ≡ a → length a ≡ n → IfSome o (λ ls. AreLiftsOfParts (length b) items b ls.members.items ls.copied.items) →
+pub lifts_under : (n : ℕ) (bs items : List MarkedPolynomial) (a b : List ℤ) (o : Option Lifts) → items ≡ bs → b ≡ a → length a ≡ n →
+    IfSome o (λ ls. AreLiftsOfParts (length b) items b ls.members.items ls.copied.items) →
     IfSome o (λ ls. AreLiftsOfParts n bs a ls.members.items ls.copied.items)
-lifts_under n bs items a b o e q w h = subst (λ (k : ℕ). IfSome o (λ ls. AreLiftsOfParts k bs a ls.members.items ls.copied.items)) w (subst (λ (z : List MarkedPolynomial). IfSome o (λ ls. AreLiftsOfParts (length a) z a ls.members.items ls.copied.items)) e
+lifts_under n bs items a b o e q w h = subst (λ (k : ℕ). IfSome o (λ ls. AreLiftsOfParts k bs a ls.members.items ls.copied.items)) w
+    (subst (λ (z : List MarkedPolynomial). IfSome o (λ ls. AreLiftsOfParts (length a) z a ls.members.items ls.copied.items)) e
     (subst (λ (z : List ℤ). IfSome o (λ ls. AreLiftsOfParts (length z) items z ls.members.items ls.copied.items)) q h))
 
 -- the same from a basis of the parts
-pub lifts_of : (n : ℕ) (bs items : List MarkedPolynomial) (a b : List ℤ) (hs ls : List MarkedPolynomial) (flags : List Bool) → items ≡ bs → b ≡ a → length b ≡ n → IsBasisOfParts n bs a hs → AreTopLifts items b hs ls →
-    HaveVariables (length b) ls → AreCopies items ls flags → AreLiftsOfParts n bs a ls flags
+pub lifts_of : (n : ℕ) (bs items : List MarkedPolynomial) (a b : List ℤ) (hs ls : List MarkedPolynomial) (flags : List Bool) → items ≡ bs → b ≡ a →
+    length b ≡ n → IsBasisOfParts n bs a hs → AreTopLifts items b hs ls → HaveVariables (length b) ls → AreCopies items ls flags →
+    AreLiftsOfParts n bs a ls flags
 lifts_of n bs items a b hs ls flags e q w p t v k = record {
   basis = hs;
   parts = p;
@@ -75,11 +92,15 @@ lifts_of n bs items a b hs ls flags e q w p t v k = record {
   copies = subst (λ (z : List MarkedPolynomial). AreCopies z ls flags) e k;
 }
 
-pub if_lifts_of : (n : ℕ) (bs items : List MarkedPolynomial) (a b : List ℤ) (hs : List MarkedPolynomial) (o : Option Lifts) → items ≡ bs → b ≡ a → length b ≡ n → IsBasisOfParts n bs a hs → IfSome o (λ ls. AreTopLifts items b hs ls.members.items) →
-    IfSome o (λ ls. HaveVariables (length b) ls.members.items) → IfSome o (λ ls. AreCopies items ls.members.items ls.copied.items) → IfSome o (λ ls. AreLiftsOfParts n bs a ls.members.items ls.copied.items)
+pub if_lifts_of : (n : ℕ) (bs items : List MarkedPolynomial) (a b : List ℤ) (hs : List MarkedPolynomial) (o : Option Lifts) → items ≡ bs → b ≡ a →
+    length b ≡ n → IsBasisOfParts n bs a hs → IfSome o (λ ls. AreTopLifts items b hs ls.members.items) →
+    IfSome o (λ ls. HaveVariables (length b) ls.members.items) → IfSome o (λ ls. AreCopies items ls.members.items ls.copied.items) →
+    IfSome o (λ ls. AreLiftsOfParts n bs a ls.members.items ls.copied.items)
 if_lifts_of n bs items a b hs (Some ls) e q w p t v k = lifts_of n bs items a b hs ls.members.items ls.copied.items e q w p t v k
 if_lifts_of n bs items a b hs None e q w p t v k = tt
 
 -- their tails reduced
-pub ending_of : (n : ℕ) (bs : List MarkedPolynomial) (a : List ℤ) (ls : List MarkedPolynomial) (flags : List Bool) (ms : List MarkedPolynomial) → IsCrossing n bs a → (k : AreLiftsOfParts n bs a ls flags) → AreTailsInTurn ls flags (length ls) ms → Ending n bs a k.basis ms
-ending_of n bs a ls flags ms c k r = ending_at n bs bs a a k.basis ls flags ms c k.parts refl refl k.tops (subst (λ (z : ℕ). HaveVariables z ls) (sym (crossing_width n bs a c)) k.variables) k.copies r
+pub ending_of : (n : ℕ) (bs : List MarkedPolynomial) (a : List ℤ) (ls : List MarkedPolynomial) (flags : List Bool) (ms : List MarkedPolynomial) →
+    IsCrossing n bs a → (k : AreLiftsOfParts n bs a ls flags) → AreTailsInTurn ls flags (length ls) ms → Ending n bs a k.basis ms
+ending_of n bs a ls flags ms c k r = ending_at n bs bs a a k.basis ls flags ms c k.parts refl refl k.tops
+    (subst (λ (z : ℕ). HaveVariables z ls) (sym (crossing_width n bs a c)) k.variables) k.copies r

@@ -23,7 +23,8 @@ small_differences : (x y : Exponents) → All (λ k. k < 2 ^ 31) x → All (λ k
 small_differences [] y p q i d l = absurd (omega arith)
 small_differences (a ∷ x) [] p q i d l = absurd (omega arith)
 small_differences (a ∷ x) (b ∷ y) p q zero d l = apart a b (p 0 0 (omega arith)) (q 0 0 (omega arith))
-small_differences (a ∷ x) (b ∷ y) p q (suc i) d l = small_differences x y (λ j e m. p (suc j) e (omega arith)) (λ j e m. q (suc j) e (omega arith)) i d (omega arith)
+small_differences (a ∷ x) (b ∷ y) p q (suc i) d l = small_differences x y (λ j e m. p (suc j) e (omega arith)) (λ j e m. q (suc j) e (omega arith)) i d
+    (omega arith)
 
 -- ---- normals
 
@@ -34,7 +35,9 @@ normal_small bs a h p =
     let t = b.2 in
     let m = contained_each HasMonomialsAlone bs h b.0 b.1 in
     let q = contained_each (λ (t : Term). IsMonomial t.mono) b.0.poly m.terms t.term t.inside in
-    let s = primitive_small p.0 a p.2 (record { entries = subst (All (λ z. unsigned_abs z < 2 ^ 31)) (sym t.row) (small_differences b.0.head t.term.mono m.head.limit q.limit) }) in
+    let s = primitive_small p.0 a p.2 (record {
+      entries = subst (All (λ z. unsigned_abs z < 2 ^ 31)) (sym t.row) (small_differences b.0.head t.term.mono m.head.limit q.limit);
+    }) in
     λ i d l. omega (arith, s.entries i d l)
 
 -- so they are within the bound of an order's weights

@@ -1,6 +1,7 @@
 -- What a run on the parts begins with: the monomials and the parts, as they are kept.
 -- To cite: split_rising, split_clear, IsStart, split_start.
-use Rattle.std.proofs.Common.{◌≡◌, ◌⊎◌, ℕ, ◌+◌, ◌<◌, ◌≤◌, Bool, true, false, if◌then◌else◌, List, [], ◌∷◌, ◌++◌, length, map, get_or, Contains, ℤ, arith, refl, sym, ap, ◌∙◌, subst, inl, inr}
+use Rattle.std.proofs.Common.{◌≡◌, ◌⊎◌, ℕ, ◌+◌, ◌<◌, ◌≤◌, Bool, true, false, if◌then◌else◌, List, [], ◌∷◌, ◌++◌, length, map, get_or, Contains, ℤ, arith, refl}
+use Rattle.std.proofs.Common.{sym, ap, ◌∙◌, subst, inl, inr}
 use Rattle.std.proofs.lemmas.Bool.{cases_lt, false≢true}
 use Rattle.std.proofs.lemmas.List.{append-nil, map_push, get_or_append_left, get_or_push}
 use Rattle.std.proofs.lemmas.List.Elements.{Contains-append_left, Contains-push, Contains-push_cases}
@@ -42,12 +43,13 @@ use Rattle.gf_lifts.proofs.CrossingMath.{crossing_width, crossing_nonzero, cross
 use Rattle.gf_flip.proofs.PartJobs.{in_ring, suited}
 
 -- the places rise
-pub split_rising : (a : List ℤ) (bs : List MarkedPolynomial) (places : List ℕ) (xs : List Exponents) (fs : List Terms) → AreSplit a bs places xs fs → (i j : ℕ) → i < j → j < length places →
-    get_or places i 0 < get_or places j 0
+pub split_rising : (a : List ℤ) (bs : List MarkedPolynomial) (places : List ℕ) (xs : List Exponents) (fs : List Terms) → AreSplit a bs places xs fs →
+    (i j : ℕ) → i < j → j < length places → get_or places i 0 < get_or places j 0
 split_rising a bs places xs fs AreSplit.none i j l m = absurd (omega (arith, m))
 split_rising a bs places xs fs (AreSplit.alone cs ps ys gs b h o) i j l m = at (cases_lt j (length ps)) (λ k. split_rising a cs ps ys gs h i j l k)
   where
-    at : (j < length ps) ⊎ (length ps ≤ j) → (j < length ps → get_or ps i 0 < get_or ps j 0) → get_or (ps ++ length cs ∷ []) i 0 < get_or (ps ++ length cs ∷ []) j 0
+    at : (j < length ps) ⊎ (length ps ≤ j) → (j < length ps → get_or ps i 0 < get_or ps j 0) →
+        get_or (ps ++ length cs ∷ []) i 0 < get_or (ps ++ length cs ∷ []) j 0
     at (inl k) r =
         omega (arith, r k, get_or_append_left ps (length cs ∷ []) 0 i (omega (arith, l, k)), get_or_append_left ps (length cs ∷ []) 0 j k)
     at (inr k) r =
@@ -92,13 +94,15 @@ one_width [] x m n h v w = absurd (h refl)
 one_width (t ∷ f) x m n h v w = sym v.0 ∙ w.0
 
 -- the part of a monic member of which one term is along
-alone_along : (a : List ℤ) (n : ℕ) (b : MarkedPolynomial) → HasNonzero a → coefficient b.poly b.head ≡ one_ℚ → IsCanonical n b → IsAlone a b → IsPartOf a b (monomial b.head)
+alone_along : (a : List ℤ) (n : ℕ) (b : MarkedPolynomial) → HasNonzero a → coefficient b.poly b.head ≡ one_ℚ → IsCanonical n b → IsAlone a b →
+    IsPartOf a b (monomial b.head)
 alone_along a n b z one k o = record {
   along = record { head = refl; along = λ x p. along x p (same x b.head) refl; off = λ x p. off x p (same x b.head) refl };
   variables = record { at = λ m v. (k.head ∙ sym (one_width b.poly b.head m n (λ e. one_not_zero (sym one ∙ e)) v k.variables), tt) };
 }
   where
-    nothing : (x : Exponents) → AreMultipleApart a x b.head → same x b.head ≡ false → (coefficient b.poly x ≡ zero_ℚ) ⊎ HasMonomial b.poly x → coefficient b.poly x ≡ zero_ℚ
+    nothing : (x : Exponents) → AreMultipleApart a x b.head → same x b.head ≡ false → (coefficient b.poly x ≡ zero_ℚ) ⊎ HasMonomial b.poly x →
+        coefficient b.poly x ≡ zero_ℚ
     nothing x p e (inl q) = q
     nothing x p e (inr m) = absurd (false≢true (sym e ∙ o x m p))
 
@@ -129,7 +133,8 @@ generated-none a = record {
   each = λ f c. inr c;
 }
 
-generated-alone : (a : List ℤ) (bs : List MarkedPolynomial) (xs : List Exponents) (fs : List Terms) (b : MarkedPolynomial) → IsPartOf a b (monomial b.head) → IsGenerated a bs xs fs → IsGenerated a (bs ++ b ∷ []) (xs ++ b.head ∷ []) fs
+generated-alone : (a : List ℤ) (bs : List MarkedPolynomial) (xs : List Exponents) (fs : List Terms) (b : MarkedPolynomial) → IsPartOf a b (monomial b.head) →
+    IsGenerated a bs xs fs → IsGenerated a (bs ++ b ∷ []) (xs ++ b.head ∷ []) fs
 generated-alone a bs xs fs b p w = record {
   generators = w.generators ++ monomial b.head ∷ [];
   along = along_more a bs b w.generators (monomial b.head) w.along p;
@@ -146,7 +151,8 @@ generated-alone a bs xs fs b p w = record {
     at f (inl c) = elim (w.each f c) [ inl q ↦ inl (q.0, Contains-append_left xs (b.head ∷ []) q.0 q.1, q.2) | inr m ↦ inr m ]
     at f (inr e) = inl (b.head, Contains-push xs b.head, e)
 
-generated-part : (a : List ℤ) (bs : List MarkedPolynomial) (xs : List Exponents) (fs : List Terms) (b : MarkedPolynomial) (f : Terms) → IsPartOf a b f → IsGenerated a bs xs fs → IsGenerated a (bs ++ b ∷ []) xs (fs ++ f ∷ [])
+generated-part : (a : List ℤ) (bs : List MarkedPolynomial) (xs : List Exponents) (fs : List Terms) (b : MarkedPolynomial) (f : Terms) → IsPartOf a b f →
+    IsGenerated a bs xs fs → IsGenerated a (bs ++ b ∷ []) xs (fs ++ f ∷ [])
 generated-part a bs xs fs b f p w = record {
   generators = w.generators ++ f ∷ [];
   along = along_more a bs b w.generators f w.along p;
@@ -167,12 +173,14 @@ generated-part a bs xs fs b f p w = record {
 abbrev AreKeptMonic : ℕ → List MarkedPolynomial → Type 0
 AreKeptMonic n bs = (b : MarkedPolynomial) → Contains bs b → (coefficient b.poly b.head ≡ one_ℚ) × IsCanonical n b
 
-generated : (a : List ℤ) (n : ℕ) (bs : List MarkedPolynomial) (places : List ℕ) (xs : List Exponents) (fs : List Terms) → HasNonzero a → AreKeptMonic n bs → AreSplit a bs places xs fs → IsGenerated a bs xs fs
+generated : (a : List ℤ) (n : ℕ) (bs : List MarkedPolynomial) (places : List ℕ) (xs : List Exponents) (fs : List Terms) → HasNonzero a → AreKeptMonic n bs →
+    AreSplit a bs places xs fs → IsGenerated a bs xs fs
 generated a n bs places xs fs z k AreSplit.none = generated-none a
 generated a n bs places xs fs z k (AreSplit.alone cs ps ys gs b h o) =
     let m = k b (Contains-push cs b) in
     generated-alone a cs ys gs b (alone_along a n b z m.0 m.1 o) (generated a n cs ps ys gs z (λ c i. k c (contained_old cs b c i)) h)
-generated a n bs places xs fs z k (AreSplit.part cs ps ys gs b f h p) = generated-part a cs ys gs b f p (generated a n cs ps ys gs z (λ c i. k c (contained_old cs b c i)) h)
+generated a n bs places xs fs z k (AreSplit.part cs ps ys gs b f h p) =
+    generated-part a cs ys gs b f p (generated a n cs ps ys gs z (λ c i. k c (contained_old cs b c i)) h)
 
 -- ---- the monomials
 
@@ -181,7 +189,8 @@ front_member : (xs : List Exponents) (b : MarkedPolynomial) → Contains (map mo
 front_member [] b c = absurd (omega (arith, c.1))
 front_member (y ∷ xs) b c = at (Contains-cases (monomial_member y) b (map monomial_member xs) c) (λ k. front_member xs b k)
   where
-    at : (monomial_member y ≡ b) ⊎ Contains (map monomial_member xs) b → (Contains (map monomial_member xs) b → (x : Exponents) × Contains xs x × (monomial_member x ≡ b)) →
+    at : (monomial_member y ≡ b) ⊎ Contains (map monomial_member xs) b →
+        (Contains (map monomial_member xs) b → (x : Exponents) × Contains xs x × (monomial_member x ≡ b)) →
         (x : Exponents) × Contains (y ∷ xs) x × (monomial_member x ≡ b)
     at (inl e) r = (y, Contains-here y xs, e)
     at (inr k) r = let q = r k in (q.0, Contains-there y q.0 xs q.1, q.2)
@@ -191,16 +200,20 @@ member_front : (xs : List Exponents) (x : Exponents) → Contains xs x → Conta
 member_front [] x c = absurd (omega (arith, c.1))
 member_front (y ∷ xs) x c = at (Contains-cases y x xs c) (λ k. member_front xs x k)
   where
-    at : (y ≡ x) ⊎ Contains xs x → (Contains xs x → Contains (map monomial_member xs) (monomial_member x)) → Contains (map monomial_member (y ∷ xs)) (monomial_member x)
-    at (inl e) r = subst (λ (z : Exponents). Contains (monomial_member y ∷ map monomial_member xs) (monomial_member z)) e (Contains-here (monomial_member y) (map monomial_member xs))
+    at : (y ≡ x) ⊎ Contains xs x → (Contains xs x → Contains (map monomial_member xs) (monomial_member x)) →
+        Contains (map monomial_member (y ∷ xs)) (monomial_member x)
+    at (inl e) r = subst (λ (z : Exponents). Contains (monomial_member y ∷ map monomial_member xs) (monomial_member z)) e
+        (Contains-here (monomial_member y) (map monomial_member xs))
     at (inr k) r = Contains-there (monomial_member y) (monomial_member x) (map monomial_member xs) (r k)
 
 -- each is the mark of a member
-split_mark : (a : List ℤ) (bs : List MarkedPolynomial) (places : List ℕ) (xs : List Exponents) (fs : List Terms) → AreSplit a bs places xs fs → (x : Exponents) → Contains xs x → (b : MarkedPolynomial) × Contains bs b × (b.head ≡ x)
+split_mark : (a : List ℤ) (bs : List MarkedPolynomial) (places : List ℕ) (xs : List Exponents) (fs : List Terms) → AreSplit a bs places xs fs →
+    (x : Exponents) → Contains xs x → (b : MarkedPolynomial) × Contains bs b × (b.head ≡ x)
 split_mark a bs places xs fs AreSplit.none x c = absurd (omega (arith, c.1))
 split_mark a bs places xs fs (AreSplit.alone cs ps ys gs b h o) x c = at (Contains-push_cases ys b.head x c) (λ k. split_mark a cs ps ys gs h x k)
   where
-    at : Contains ys x ⊎ (b.head ≡ x) → (Contains ys x → (d : MarkedPolynomial) × Contains cs d × (d.head ≡ x)) → (d : MarkedPolynomial) × Contains (cs ++ b ∷ []) d × (d.head ≡ x)
+    at : Contains ys x ⊎ (b.head ≡ x) → (Contains ys x → (d : MarkedPolynomial) × Contains cs d × (d.head ≡ x)) →
+        (d : MarkedPolynomial) × Contains (cs ++ b ∷ []) d × (d.head ≡ x)
     at (inl k) r = let q = r k in (q.0, contained_old cs b q.0 q.1, q.2)
     at (inr e) r = (b, Contains-push cs b, e)
 split_mark a bs places xs fs (AreSplit.part cs ps ys gs b f h p) x c = let q = split_mark a cs ps ys gs h x c in (q.0, contained_old cs b q.0 q.1, q.2)
@@ -222,8 +235,9 @@ last_undivided bs b c h k d =
     omega (arith, e, k.1)
 
 -- the monomials are such a list as a run has, where each is a generator
-split_work : (gs : List Terms) (below : Exponents → Exponents → Type 0) (a : List ℤ) (bs : List MarkedPolynomial) (places : List ℕ) (xs : List Exponents) (fs : List Terms) →
-    ((x : Exponents) → Contains xs x → Contains gs (monomial x)) → AreApart bs → AreSplit a bs places xs fs → IsWorkList gs below (map monomial_member xs)
+split_work : (gs : List Terms) (below : Exponents → Exponents → Type 0) (a : List ℤ) (bs : List MarkedPolynomial) (places : List ℕ) (xs : List Exponents)
+    (fs : List Terms) → ((x : Exponents) → Contains xs x → Contains gs (monomial x)) → AreApart bs → AreSplit a bs places xs fs →
+    IsWorkList gs below (map monomial_member xs)
 split_work gs below a bs places xs fs w r AreSplit.none = IsWorkList.start
 split_work gs below a bs places xs fs w r (AreSplit.alone cs ps ys hs b h o) = subst (IsWorkList gs below) (sym (map_push monomial_member ys b.head))
     (IsWorkList.more (map monomial_member ys) (monomial b.head) (monomial b.head) (monomial_member b.head)
@@ -234,10 +248,14 @@ split_work gs below a bs places xs fs w r (AreSplit.alone cs ps ys hs b h o) = s
     undivided d =
         let m = front_member ys d.member d.contained in
         let q = split_mark a cs ps ys hs h m.0 m.1 in
-        last_undivided cs b q.0 r q.1 (record { rest = d.rest; product = subst (λ (z : Exponents). same b.head (plus d.rest z) ≡ true) (sym (q.2 ∙ ap (λ (z : MarkedPolynomial). z.head) m.2)) d.divides })
+        last_undivided cs b q.0 r q.1 (record {
+          rest = d.rest;
+          product = subst (λ (z : Exponents). same b.head (plus d.rest z) ≡ true) (sym (q.2 ∙ ap (λ (z : MarkedPolynomial). z.head) m.2)) d.divides;
+        })
 split_work gs below a bs places xs fs w r (AreSplit.part cs ps ys hs b f h p) = split_work gs below a cs ps ys hs w (apart_front cs b r) h
 
-split_apart : (a : List ℤ) (bs : List MarkedPolynomial) (places : List ℕ) (xs : List Exponents) (fs : List Terms) → AreApart bs → AreSplit a bs places xs fs → AreMonomialsApart xs
+split_apart : (a : List ℤ) (bs : List MarkedPolynomial) (places : List ℕ) (xs : List Exponents) (fs : List Terms) → AreApart bs → AreSplit a bs places xs fs →
+    AreMonomialsApart xs
 split_apart a bs places xs fs r h = record { none = λ i j l m d. at i j (omega (arith, l, size)) (omega (arith, m, size)) d }
   where
     size : length xs ≡ length places
@@ -247,7 +265,8 @@ split_apart a bs places xs fs r h = record { none = λ i j l m d. at i j (omega 
     at i j l m d =
         let p = split_alone a bs places xs fs h i l in
         let q = split_alone a bs places xs fs h j m in
-        let v : Divides p.member.head q.member.head = subst (λ (z : Exponents). Divides z q.member.head) (sym p.head) (subst (Divides (get_or xs i [])) (sym q.head) d) in
+        let v : Divides p.member.head q.member.head = subst (λ (z : Exponents). Divides z q.member.head) (sym p.head)
+        (subst (Divides (get_or xs i [])) (sym q.head) d) in
         let e : get_or places j 0 ≡ get_or places i 0 = one_place bs (get_or places j 0) (get_or places i 0) q.member p.member r q.at p.at v in
         elim (cases_lt i j) [
           | inl k ↦ (let s : get_or places i 0 < get_or places j 0 = split_rising a bs places xs fs h i j k m in absurd (omega (arith, s, e)))
@@ -260,12 +279,14 @@ split_apart a bs places xs fs r h = record { none = λ i j l m d. at i j (omega 
 -- ---- the parts and the monomials
 
 -- each polynomial is the part of a member
-split_origin : (a : List ℤ) (bs : List MarkedPolynomial) (places : List ℕ) (xs : List Exponents) (fs : List Terms) → AreSplit a bs places xs fs → (f : Terms) → Contains fs f → (b : MarkedPolynomial) × Contains bs b × IsPartOf a b f
+split_origin : (a : List ℤ) (bs : List MarkedPolynomial) (places : List ℕ) (xs : List Exponents) (fs : List Terms) → AreSplit a bs places xs fs → (f : Terms) →
+    Contains fs f → (b : MarkedPolynomial) × Contains bs b × IsPartOf a b f
 split_origin a bs places xs fs AreSplit.none f c = absurd (omega (arith, c.1))
 split_origin a bs places xs fs (AreSplit.alone cs ps ys gs b h o) f c = let q = split_origin a cs ps ys gs h f c in (q.0, contained_old cs b q.0 q.1, q.2)
 split_origin a bs places xs fs (AreSplit.part cs ps ys gs b g h p) f c = at (Contains-push_cases gs g f c) (λ k. split_origin a cs ps ys gs h f k)
   where
-    at : Contains gs f ⊎ (g ≡ f) → (Contains gs f → (d : MarkedPolynomial) × Contains cs d × IsPartOf a d f) → (d : MarkedPolynomial) × Contains (cs ++ b ∷ []) d × IsPartOf a d f
+    at : Contains gs f ⊎ (g ≡ f) → (Contains gs f → (d : MarkedPolynomial) × Contains cs d × IsPartOf a d f) →
+        (d : MarkedPolynomial) × Contains (cs ++ b ∷ []) d × IsPartOf a d f
     at (inl k) r = let q = r k in (q.0, contained_old cs b q.0 q.1, q.2)
     at (inr e) r = (b, Contains-push cs b, subst (IsPartOf a b) e p)
 
@@ -282,10 +303,21 @@ record AreOfTwo (a : List ℤ) (bs : List MarkedPolynomial) (f : Terms) (x : Exp
   head : c.head ≡ x
 
 of_two_kept : (a : List ℤ) (bs : List MarkedPolynomial) (b : MarkedPolynomial) (f : Terms) (x : Exponents) → AreOfTwo a bs f x → AreOfTwo a (bs ++ b ∷ []) f x
-of_two_kept a bs b f x h = record { i = h.i; j = h.j; b = h.b; c = h.c; at_i = at_kept bs b h.b h.i h.at_i; at_j = at_kept bs b h.c h.j h.at_j; apart = h.apart; part = h.part; head = h.head }
+of_two_kept a bs b f x h = record {
+  i = h.i;
+  j = h.j;
+  b = h.b;
+  c = h.c;
+  at_i = at_kept bs b h.b h.i h.at_i;
+  at_j = at_kept bs b h.c h.j h.at_j;
+  apart = h.apart;
+  part = h.part;
+  head = h.head;
+}
 
 -- so it is of each polynomial and each monomial
-split_of_two : (a : List ℤ) (bs : List MarkedPolynomial) (places : List ℕ) (xs : List Exponents) (fs : List Terms) → AreSplit a bs places xs fs → (f : Terms) → Contains fs f → (x : Exponents) → Contains xs x → AreOfTwo a bs f x
+split_of_two : (a : List ℤ) (bs : List MarkedPolynomial) (places : List ℕ) (xs : List Exponents) (fs : List Terms) → AreSplit a bs places xs fs → (f : Terms) →
+    Contains fs f → (x : Exponents) → Contains xs x → AreOfTwo a bs f x
 split_of_two a bs places xs fs AreSplit.none f c x k = absurd (omega (arith, c.1))
 split_of_two a bs places xs fs (AreSplit.alone cs ps ys gs b h o) f c x k = at (Contains-push_cases ys b.head x k) (λ m. split_of_two a cs ps ys gs h f c x m)
   where
@@ -323,7 +355,8 @@ split_of_two a bs places xs fs (AreSplit.part cs ps ys gs b g h p) f c x k = at 
         }
 
 -- of members that are reduced the mark of none divides a monomial of the part of one at another place
-part_undivided : (a : List ℤ) (bs : List MarkedPolynomial) (f : Terms) (y x : Exponents) → HasReducedTails bs → AreApart bs → AreOfTwo a bs f x → HasMonomial f y → Divides x y → ⊥
+part_undivided : (a : List ℤ) (bs : List MarkedPolynomial) (f : Terms) (y x : Exponents) → HasReducedTails bs → AreApart bs → AreOfTwo a bs f x →
+    HasMonomial f y → Divides x y → ⊥
 part_undivided a bs f y x t r w m d = w.apart (one_place bs w.i w.j w.b w.c r w.at_i w.at_j marked)
   where
     e : Divides w.c.head y
@@ -333,15 +366,25 @@ part_undivided a bs f y x t r w m d = w.apart (one_place bs w.i w.j w.b w.c r w.
     there z = m (w.part.along.off y (λ p. m (w.part.along.along y p ∙ z)))
 
     same_mark : same y w.b.head ≡ true
-    same_mark = t w.b (member_contained bs w.i w.b w.at_i) y there (record { member = w.c; contained = member_contained bs w.j w.c w.at_j; rest = e.rest; divides = e.product })
+    same_mark = t w.b (member_contained bs w.i w.b w.at_i) y there (record {
+      member = w.c;
+      contained = member_contained bs w.j w.c w.at_j;
+      rest = e.rest;
+      divides = e.product;
+    })
 
     marked : Divides w.c.head w.b.head
     marked = record { rest = e.rest; product = same_trans w.b.head y (plus e.rest w.c.head) (same_flip y w.b.head same_mark) e.product }
 
-pub split_clear : (a : List ℤ) (bs : List MarkedPolynomial) (places : List ℕ) (xs : List Exponents) (fs : List Terms) → HasReducedTails bs → AreApart bs → AreSplit a bs places xs fs → AreUndividedBy (with_monomials xs []) fs
-split_clear a bs places xs fs t r h = record { at = λ f c y m d. undivided f c y m d (front_member xs d.member (subst (λ (z : List MarkedPolynomial). Contains z d.member) (append-nil (map monomial_member xs)) d.contained)) }
+pub split_clear : (a : List ℤ) (bs : List MarkedPolynomial) (places : List ℕ) (xs : List Exponents) (fs : List Terms) → HasReducedTails bs → AreApart bs →
+    AreSplit a bs places xs fs → AreUndividedBy (with_monomials xs []) fs
+split_clear a bs places xs fs t r h = record {
+  at = λ f c y m d. undivided f c y m d (front_member xs d.member (subst (λ (z : List MarkedPolynomial). Contains z d.member)
+      (append-nil (map monomial_member xs)) d.contained));
+}
   where
-    undivided : (f : Terms) → Contains fs f → (y : Exponents) → HasMonomial f y → (d : IsDivisible (Contains (with_monomials xs [])) y) → (x : Exponents) × Contains xs x × (monomial_member x ≡ d.member) → ⊥
+    undivided : (f : Terms) → Contains fs f → (y : Exponents) → HasMonomial f y → (d : IsDivisible (Contains (with_monomials xs [])) y) →
+        (x : Exponents) × Contains xs x × (monomial_member x ≡ d.member) → ⊥
     undivided f c y m d q = part_undivided a bs f y q.0 t r (split_of_two a bs places xs fs h f c q.0 q.1) m
         (record { rest = d.rest; product = subst (λ (z : MarkedPolynomial). same y (plus d.rest z.head) ≡ true) (sym q.2) d.divides })
 
@@ -361,8 +404,13 @@ split_start n bs a places xs fs c w h = record {
   along = g.along;
   entering = record {
     underway = record {
-      job = record { ring = in_ring n bs a g.generators c g.along; entries = subst (λ (z : ℕ). HasEntries z order) (crossing_width n bs a c) w; suited = suited n bs a g.generators c g.along };
-      work = subst (IsWorkList g.generators (below_of order)) (sym (append-nil (map monomial_member xs))) (split_work g.generators (below_of order) a bs places xs fs g.fronts c.basis.reduced.heads h);
+      job = record {
+        ring = in_ring n bs a g.generators c g.along;
+        entries = subst (λ (z : ℕ). HasEntries z order) (crossing_width n bs a c) w;
+        suited = suited n bs a g.generators c g.along;
+      };
+      work = subst (IsWorkList g.generators (below_of order)) (sym (append-nil (map monomial_member xs)))
+          (split_work g.generators (below_of order) a bs places xs fs g.fronts c.basis.reduced.heads h);
       variables = record { heads = λ b k. head b (member b k); polys = λ b k. poly b (member b k) };
       later = apart_later xs (split_apart a bs places xs fs c.basis.reduced.heads h);
     };
@@ -398,5 +446,6 @@ split_start n bs a places xs fs c w h = record {
     there x k = subst (λ (z : List MarkedPolynomial). Contains z (monomial_member x)) (sym (append-nil (map monomial_member xs))) (member_front xs x k)
 
     inside : (f : Terms) → ((x : Exponents) × Contains xs x × (monomial x ≡ f)) ⊎ Contains fs f → IsMember n (polys (with_monomials xs [])) f ⊎ Contains fs f
-    inside f (inl q) = inl (subst (IsMember n (polys (with_monomials xs []))) q.2 (member-generator n (polys (with_monomials xs [])) (monomial q.0) (Contains-polys (with_monomials xs []) (monomial_member q.0) (there q.0 q.1))))
+    inside f (inl q) = inl (subst (IsMember n (polys (with_monomials xs []))) q.2 (member-generator n (polys (with_monomials xs [])) (monomial q.0)
+        (Contains-polys (with_monomials xs []) (monomial_member q.0) (there q.0 q.1))))
     inside f (inr k) = inr k

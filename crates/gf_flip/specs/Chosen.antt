@@ -15,7 +15,8 @@ pub record AreAloneWhere (a : List ℤ) (bs : List MarkedPolynomial) (flags : Li
   pub at : (j : ℕ) (b : MarkedPolynomial) → IsAt bs j b → get_or flags j false ≡ true → IsAlone a b
 
 -- a lift of h is the last one now, with its flag
-pub record IsLiftAdded (n : ℕ) (bs : List MarkedPolynomial) (a : List ℤ) (h : MarkedPolynomial) (old new : List MarkedPolynomial) (flags more : List Bool) : Type 0 where
+pub record IsLiftAdded (n : ℕ) (bs : List MarkedPolynomial) (a : List ℤ) (h : MarkedPolynomial) (old new : List MarkedPolynomial) (flags more : List Bool) :
+    Type 0 where
   pub lift : MarkedPolynomial
   pub flag : Bool
   pub top : IsTopLift bs a h lift
@@ -25,7 +26,8 @@ pub record IsLiftAdded (n : ℕ) (bs : List MarkedPolynomial) (a : List ℤ) (h 
   pub copied : more ≡ flags ++ flag ∷ []
 
 -- so it is, or the lists stay
-abbrev pub IsLiftedWhere : Bool → ℕ → List MarkedPolynomial → List ℤ → MarkedPolynomial → List MarkedPolynomial → List MarkedPolynomial → List Bool → List Bool → Type 0
+abbrev pub IsLiftedWhere : Bool → ℕ → List MarkedPolynomial → List ℤ → MarkedPolynomial → List MarkedPolynomial → List MarkedPolynomial → List Bool →
+    List Bool → Type 0
 IsLiftedWhere true n bs a h old new flags more = IsLiftAdded n bs a h old new flags more
 IsLiftedWhere false n bs a h old new flags more = (new ≡ old) × (more ≡ flags)
 

@@ -125,7 +125,8 @@ fn add_lift(
     requires set { HaveVariables (length ground.now.normal.now) ground.now.by.now }
     requires inside { pivot < length ground.now.normal.now }
     requires nonzero { get_or ground.now.normal.now pivot (pos 0) ≢ pos 0 }
-    ensures { IfSome result (λ _. IsLiftedWhere is_chosen (length ground.now.normal.now) ground.now.by.now ground.now.normal.now (line_member ground.now.normal.now line.now) lifts.old.members.items lifts.new.members.items lifts.old.copied.items lifts.new.copied.items) }
+    ensures { IfSome result (λ _. IsLiftedWhere is_chosen (length ground.now.normal.now) ground.now.by.now ground.now.normal.now
+        (line_member ground.now.normal.now line.now) lifts.old.members.items lifts.new.members.items lifts.old.copied.items lifts.new.copied.items) }
 {
     if !is_chosen {
         return Some(());
@@ -150,9 +151,11 @@ pub fn chosen_lifts(
     requires set { HaveVariables (length ground.now.normal.now) ground.now.by.now }
     requires lines { AreLinesOf ground.now.normal.now ground.now.by.now lines.now }
     requires size { length ground.now.marks.now ≡ length places.now }
-    requires alone { (i : ℕ) → i < length places.now → IsAloneAt ground.now.normal.now ground.now.by.now (get_or places.now i 0) (get_or ground.now.marks.now i []) }
+    requires alone { (i : ℕ) → i < length places.now → IsAloneAt ground.now.normal.now ground.now.by.now (get_or places.now i 0)
+        (get_or ground.now.marks.now i []) }
     requires flags { length flags.now ≡ length (with_monomials ground.now.marks.now (line_members ground.now.normal.now lines.now)) }
-    ensures value { IfSome result (λ ls. AreTopLifts ground.now.by.now ground.now.normal.now (chosen flags.now (with_monomials ground.now.marks.now (line_members ground.now.normal.now lines.now))) ls.members.items) }
+    ensures value { IfSome result (λ ls. AreTopLifts ground.now.by.now ground.now.normal.now
+        (chosen flags.now (with_monomials ground.now.marks.now (line_members ground.now.normal.now lines.now))) ls.members.items) }
     ensures variables { IfSome result (λ ls. HaveVariables (length ground.now.normal.now) ls.members.items) }
     ensures copied { IfSome result (λ ls. AreCopies ground.now.by.now ls.members.items ls.copied.items) }
 {

@@ -13,7 +13,8 @@ use borrow.Author.Differences.{up, down}
 use Rattle.std.specs.Bool.{Decides}
 use Rattle.std.proofs.lemmas.Bool.Decides.{Decides-int_eq, Decides-eqb, Decides-and}
 use Rattle.gf_frac.specs.Equality.{fraction_eq}
-use Rattle.gf_frac.specs.Fraction.{same_parts, Fraction, over, over-is, over-eq, over-parts, same_crosswise, each_fraction, ◌+ℚ◌, ◌*ℚ◌, neg_ℚ, signed_as, reciprocal_ℚ, zero_ℚ, one_ℚ}
+use Rattle.gf_frac.specs.Fraction.{same_parts, Fraction, over, over-is, over-eq, over-parts, same_crosswise, each_fraction, ◌+ℚ◌, ◌*ℚ◌, neg_ℚ, signed_as}
+use Rattle.gf_frac.specs.Fraction.{reciprocal_ℚ, zero_ℚ, one_ℚ}
 
 -- ---- operations on p / (n + 1)
 
@@ -21,7 +22,8 @@ less_one : (x y : Fraction) → suc (x.den * y.den - 1) ≡ x.den * y.den
 less_one x y = let h : 0 < x.den * y.den = mul-pos x.positive y.positive in omega arith
 
 sum_turns : (xn xd yn yd n m p r : ℤ) → xn *ℤ n ≡ p *ℤ xd → yn *ℤ m ≡ r *ℤ yd → (xn *ℤ yd +ℤ yn *ℤ xd) *ℤ (n *ℤ m) ≡ (p *ℤ m +ℤ r *ℤ n) *ℤ (xd *ℤ yd)
-sum_turns xn xd yn yd n m p r h k = one xn xd yn yd n m ∙ ap (λ z. z *ℤ (yd *ℤ m) +ℤ (yn *ℤ m) *ℤ (xd *ℤ n)) h ∙ ap (λ z. (p *ℤ xd) *ℤ (yd *ℤ m) +ℤ z *ℤ (xd *ℤ n)) k ∙ two p r xd yd n m
+sum_turns xn xd yn yd n m p r h k = one xn xd yn yd n m ∙ ap (λ z. z *ℤ (yd *ℤ m) +ℤ (yn *ℤ m) *ℤ (xd *ℤ n)) h ∙
+    ap (λ z. (p *ℤ xd) *ℤ (yd *ℤ m) +ℤ z *ℤ (xd *ℤ n)) k ∙ two p r xd yd n m
   where
     one : (xn xd yn yd n m : ℤ) → (xn *ℤ yd +ℤ yn *ℤ xd) *ℤ (n *ℤ m) ≡ (xn *ℤ n) *ℤ (yd *ℤ m) +ℤ (yn *ℤ m) *ℤ (xd *ℤ n)
     one = each _ (λ a a'. each _ (λ b b'. each _ (λ c c'. each _ (λ d d'. each _ (λ e e'. each _ (λ f f'. simp diffs (diff-eq _ _ _ _ (omega arith))))))))
@@ -105,7 +107,8 @@ pub +ℚ_comm : (x y : Fraction) → x +ℚ y ≡ y +ℚ x
 
 -- a sum doesn't depend on the brackets
 pub +ℚ_assoc : (x y z : Fraction) → (x +ℚ y) +ℚ z ≡ x +ℚ (y +ℚ z)
-+ℚ_assoc = each_q _ (λ a a' k. each_q _ (λ b b' l. each_q _ (λ c c' m. simp overs (over-eq _ _ _ _ (simp dens (simp naturals (diff-eq _ _ _ _ (omega arith))))))))
++ℚ_assoc = each_q _
+    (λ a a' k. each_q _ (λ b b' l. each_q _ (λ c c' m. simp overs (over-eq _ _ _ _ (simp dens (simp naturals (diff-eq _ _ _ _ (omega arith))))))))
 
 -- a product doesn't depend on the order
 pub *ℚ_comm : (x y : Fraction) → x *ℚ y ≡ y *ℚ x
@@ -113,7 +116,8 @@ pub *ℚ_comm : (x y : Fraction) → x *ℚ y ≡ y *ℚ x
 
 -- a product doesn't depend on the brackets
 pub *ℚ_assoc : (x y z : Fraction) → (x *ℚ y) *ℚ z ≡ x *ℚ (y *ℚ z)
-*ℚ_assoc = each_q _ (λ a a' k. each_q _ (λ b b' l. each_q _ (λ c c' m. simp overs (over-eq _ _ _ _ (simp dens (simp naturals (diff-eq _ _ _ _ (omega arith))))))))
+*ℚ_assoc = each_q _
+    (λ a a' k. each_q _ (λ b b' l. each_q _ (λ c c' m. simp overs (over-eq _ _ _ _ (simp dens (simp naturals (diff-eq _ _ _ _ (omega arith))))))))
 
 -- a product with a sum
 pub *ℚ-+ℚ : (x y z : Fraction) → x *ℚ (y +ℚ z) ≡ x *ℚ y +ℚ x *ℚ z
@@ -121,7 +125,9 @@ pub *ℚ-+ℚ : (x y z : Fraction) → x *ℚ (y +ℚ z) ≡ x *ℚ y +ℚ x *�
 
 -- the summands in the middle change places
 pub +ℚ-middle : (a b c d : Fraction) → (a +ℚ b) +ℚ (c +ℚ d) ≡ (a +ℚ c) +ℚ (b +ℚ d)
-+ℚ-middle = each_q _ (λ a a' k. each_q _ (λ b b' l. each_q _ (λ c c' m. each_q _ (λ d d' n. simp overs (over-eq _ _ _ _ (simp dens (simp naturals (diff-eq _ _ _ _ (omega arith)))))))))
++ℚ-middle = each_q _
+    (λ a a' k. each_q _
+    (λ b b' l. each_q _ (λ c c' m. each_q _ (λ d d' n. simp overs (over-eq _ _ _ _ (simp dens (simp naturals (diff-eq _ _ _ _ (omega arith)))))))))
 
 -- ---- zero and one
 

@@ -32,7 +32,8 @@ quotient-dvd : (a g : ℕ) → g ∣ a → (a / g) ∣ a
 quotient-dvd a g h = subst (λ z. (a / g) ∣ z) (mul-div_cancel' g h) (dvd-mul_left (a / g) g)
 
 coprime_quotients : (a d : ℕ) → 0 < d → IsGcd (a / gcd a d) (d / gcd a d) 1
-coprime_quotients a d h = lowest-quotients a d (gcd a d) _ _ (gcd-is a d) (gcd-positive a d h) (sym (mul-div_cancel' _ (gcd-is a d).0)) (sym (mul-div_cancel' _ (gcd-is a d).1))
+coprime_quotients a d h = lowest-quotients a d (gcd a d) _ _ (gcd-is a d) (gcd-positive a d h) (sym (mul-div_cancel' _ (gcd-is a d).0))
+    (sym (mul-div_cancel' _ (gcd-is a d).1))
 
 -- ---- products
 
@@ -44,7 +45,8 @@ crosswise p b r d hb hd one two =
     (coprime_divisors r d _ _ two (quotient-dvd r _ (gcd-is r b).0) (quotient-dvd d _ (gcd-is p d).1))
 
 -- a product whose factors were cancelled crosswise is in lowest terms
-pub lowest_product : (a c : ℤ) (b d : ℕ) → 0 < b → 0 < d → IsGcd (unsigned_abs a) b 1 → IsGcd (unsigned_abs c) d 1 → IsGcd (unsigned_abs (product_numerator a b c d)) (product_denominator a b c d) 1
+pub lowest_product : (a c : ℤ) (b d : ℕ) → 0 < b → 0 < d → IsGcd (unsigned_abs a) b 1 → IsGcd (unsigned_abs c) d 1 →
+    IsGcd (unsigned_abs (product_numerator a b c d)) (product_denominator a b c d) 1
 lowest_product a c b d hb hd one two =
     let x = int_div a (pos (gcd (unsigned_abs a) d)) in
     let y = int_div c (pos (gcd (unsigned_abs c) b)) in
@@ -89,7 +91,8 @@ coprime_left a c b s t one h two = (
   λ e p q.
       let y : e ∣ unsigned_abs (c *ℤ pos t) = subst (λ z. e ∣ z) (sym (unsigned_abs-mul c (pos t))) (dvd_trans e q (dvd-mul_left t (unsigned_abs c))) in
       let x : e ∣ unsigned_abs a * s = subst (λ z. e ∣ z) (unsigned_abs-mul a (pos s)) (summand_dvd e (a *ℤ pos s) (c *ℤ pos t) p y) in
-      let z : e ∣ unsigned_abs a = coprime-dvd e s (unsigned_abs a) (coprime_divisors t s e s two q (dvd_refl s)) (subst (λ z. e ∣ z) (mul_comm (unsigned_abs a) s) x) in
+      let z : e ∣ unsigned_abs a = coprime-dvd e s (unsigned_abs a) (coprime_divisors t s e s two q (dvd_refl s))
+      (subst (λ z. e ∣ z) (mul_comm (unsigned_abs a) s) x) in
       one.2 e z (dvd_trans e q h),
 )
 
@@ -107,13 +110,15 @@ regrouped : (g x y b : ℕ) → g * x ≡ b → b * y ≡ (x * y) * g
 regrouped g x y b e = rw (← e) (omega arith)
 
 -- the sum has only divisors of the denominators' common divisor to lose
-pub sum_common : (a c : ℤ) (b d : ℕ) → 0 < d → IsGcd (unsigned_abs a) b 1 → IsGcd (unsigned_abs c) d 1 → gcd (unsigned_abs (sum_numerator a b c d)) (sum_denominator b d) ≡ gcd (unsigned_abs (sum_numerator a b c d)) (gcd b d)
+pub sum_common : (a c : ℤ) (b d : ℕ) → 0 < d → IsGcd (unsigned_abs a) b 1 → IsGcd (unsigned_abs c) d 1 →
+    gcd (unsigned_abs (sum_numerator a b c d)) (sum_denominator b d) ≡ gcd (unsigned_abs (sum_numerator a b c d)) (gcd b d)
 sum_common a c b d hd one two =
     let g = gcd b d in
     let n = sum_numerator a b c d in
     let apart : IsGcd (b / g) (d / g) 1 = coprime_quotients b d hd in
     let left : IsGcd (unsigned_abs n) (b / g) 1 = coprime_left a c b (d / g) (b / g) one (quotient-dvd b g (gcd-is b d).0) apart in
-    let turned : IsGcd (unsigned_abs (c *ℤ pos (b / g) +ℤ a *ℤ pos (d / g))) (d / g) 1 = coprime_left c a d (b / g) (d / g) two (quotient-dvd d g (gcd-is b d).1) (IsGcd-swap (b / g) (d / g) 1 apart) in
+    let turned : IsGcd (unsigned_abs (c *ℤ pos (b / g) +ℤ a *ℤ pos (d / g))) (d / g) 1 =
+    coprime_left c a d (b / g) (d / g) two (quotient-dvd d g (gcd-is b d).1) (IsGcd-swap (b / g) (d / g) 1 apart) in
     let right : IsGcd (unsigned_abs n) (d / g) 1 = subst (λ z. IsGcd (unsigned_abs z) (d / g) 1) (+ℤ_comm (c *ℤ pos (b / g)) (a *ℤ pos (d / g))) turned in
     ap (gcd (unsigned_abs n)) (regrouped g (b / g) (d / g) b (mul-div_cancel' g (gcd-is b d).0))
     ∙ drop_coprime (unsigned_abs n) ((b / g) * (d / g)) g (coprime-* (unsigned_abs n) (b / g) (d / g) left right)

@@ -58,7 +58,12 @@ nonzero_numerator x p h e = λ z. h (zero_by_num x (sym e ∙ z))
 -- lowest terms turned round
 pub IsLowest-reciprocal : (p : ℤ) (q : ℕ) → ¬ (p ≡ pos 0) → IsLowest p q → IsLowest (signed_as p q) (unsigned_abs p)
 IsLowest-reciprocal (pos zero) q h k = absurd (h refl)
-IsLowest-reciprocal (pos (suc a)) q h k = record { positive = omega arith; numerator = record { within = k.denominator }; denominator = k.numerator.within; lowest = IsGcd-swap (suc a) q 1 k.lowest }
+IsLowest-reciprocal (pos (suc a)) q h k = record {
+  positive = omega arith;
+  numerator = record { within = k.denominator };
+  denominator = k.numerator.within;
+  lowest = IsGcd-swap (suc a) q 1 k.lowest;
+}
 IsLowest-reciprocal (negsuc a) q h k = record {
   positive = omega arith;
   numerator = record { within = rw (abs_neg (pos q)) k.denominator };
@@ -87,7 +92,8 @@ unfolding over
 den-over p q h = let e : suc (q - 1) ≡ q = omega arith in ap (λ n. n / gcd (unsigned_abs p) n) (sym e)
 
 -- both numbers divided by their greatest common divisor are the lowest terms
-pub reduced : (p n : ℤ) (q d : ℕ) → InRange p → 0 < q → q < 2 ^ 127 → n ≡ int_div p (pos (gcd (unsigned_abs p) q)) → d ≡ q / gcd (unsigned_abs p) q → IsReduced p q (n, d)
+pub reduced : (p n : ℤ) (q d : ℕ) → InRange p → 0 < q → q < 2 ^ 127 → n ≡ int_div p (pos (gcd (unsigned_abs p) q)) → d ≡ q / gcd (unsigned_abs p) q →
+    IsReduced p q (n, d)
 reduced p n q d r h l en ed =
     let x : Fraction = over p (q - 1) in
     let a : n ≡ x.num = en ∙ num-over p q h in
@@ -103,7 +109,8 @@ reduced p n q d r h l en ed =
     }
 
 -- the same by any number with which the numerator has the same common divisor
-pub reduced_by : (p n : ℤ) (q g t d : ℕ) → InRange p → 0 < q → q < 2 ^ 127 → gcd (unsigned_abs p) q ≡ gcd (unsigned_abs p) g → t ≡ gcd (unsigned_abs p) g → n ≡ int_div p (pos t) → d ≡ q / t → IsReduced p q (n, d)
+pub reduced_by : (p n : ℤ) (q g t d : ℕ) → InRange p → 0 < q → q < 2 ^ 127 → gcd (unsigned_abs p) q ≡ gcd (unsigned_abs p) g → t ≡ gcd (unsigned_abs p) g →
+    n ≡ int_div p (pos t) → d ≡ q / t → IsReduced p q (n, d)
 reduced_by p n q g t d r h l e f en ed =
     let k : t ≡ gcd (unsigned_abs p) q = f ∙ sym e in
     reduced p n q d r h l (en ∙ ap (λ z. int_div p (pos z)) k) (ed ∙ ap (λ z. q / z) k)
@@ -115,7 +122,8 @@ reduced_one p q g r h l e f = record {
     positive = h;
     numerator = r;
     denominator = l;
-    lowest = subst (IsGcd (unsigned_abs p) q) (e ∙ ap (gcd (unsigned_abs p)) f ∙ sym (gcd-same (unsigned_abs p) 1 1 (one-dvd _, dvd_refl 1, λ d x y. y))) (gcd-is (unsigned_abs p) q);
+    lowest = subst (IsGcd (unsigned_abs p) q) (e ∙ ap (gcd (unsigned_abs p)) f ∙ sym (gcd-same (unsigned_abs p) 1 1 (one-dvd _, dvd_refl 1, λ d x y. y)))
+        (gcd-is (unsigned_abs p) q);
   };
   value = refl;
 }

@@ -56,7 +56,12 @@ lowest_terms p n =
 
 -- the fraction p / (n + 1)
 unfoldable pub over : ℤ → ℕ → Fraction
-over p n = let g = gcd (unsigned_abs p) (suc n) in record { num = int_div p (pos g); den = suc n / g; positive = quotient_positive p n; lowest = lowest_terms p n }
+over p n = let g = gcd (unsigned_abs p) (suc n) in record {
+  num = int_div p (pos g);
+  den = suc n / g;
+  positive = quotient_positive p n;
+  lowest = lowest_terms p n;
+}
 
 crosswise : (x p : ℤ) (g y m : ℕ) → x *ℤ pos g ≡ p → g * y ≡ m → x *ℤ pos m ≡ p *ℤ pos y
 crosswise x p g y m h k = ap (λ z. x *ℤ pos z) (sym k) ∙ sym (*ℤ_assoc x (pos g) (pos y)) ∙ ap (λ z. z *ℤ pos y) h
@@ -83,7 +88,8 @@ same_parts x y e d = λ i. record {
 -- two fractions that are equal crosswise are one
 pub same_crosswise : (x y : Fraction) → x.num *ℤ pos y.den ≡ y.num *ℤ pos x.den → x ≡ y
 same_crosswise x y e =
-    let sizes : unsigned_abs x.num * y.den ≡ unsigned_abs y.num * x.den = sym (unsigned_abs-mul x.num (pos y.den)) ∙ ap unsigned_abs e ∙ unsigned_abs-mul y.num (pos x.den) in
+    let sizes : unsigned_abs x.num * y.den ≡ unsigned_abs y.num * x.den =
+    sym (unsigned_abs-mul x.num (pos y.den)) ∙ ap unsigned_abs e ∙ unsigned_abs-mul y.num (pos x.den) in
     let d : x.den ≡ y.den = lowest-denominator (unsigned_abs x.num) x.den (unsigned_abs y.num) y.den x.lowest y.lowest sizes in
     same_parts x y (cancel_factor x.den x.num y.num x.positive (ap (λ z. x.num *ℤ pos z) d ∙ e)) d
 

@@ -1,5 +1,6 @@
 -- Texts are answered in one way by a lawful command.
--- To cite: IsLawful, AreLawfulTurns, TurnsHold, exact, no_answer, no_whole, tested, no_tested_answer, no_tested_whole, in_reach, refused_kind. The rest are steps.
+-- To cite: IsLawful, AreLawfulTurns, TurnsHold, exact, no_answer, no_whole, tested, no_tested_answer, no_tested_whole, in_reach, refused_kind. The rest are
+-- steps.
 use Rattle.std.specs.Prelude.{◌≡◌, ◌⊎◌, ℕ, ◌≤◌, List, length, Some}
 use Rattle.std.proofs.Common.{refl, sym, ap, ◌∙◌, subst, inl, inr}
 use Rattle.gf_outside.specs.Faults.{Rose}
@@ -16,7 +17,8 @@ use Rattle.gf_frame.specs.Seen.{InputSeen, OutputSeen}
 use Rattle.gf_frame.specs.Loading.{HaveInput, HaveInputOnce}
 use Rattle.gf_frame.specs.Runs.{TakesTurns}
 use Rattle.gf_frame.specs.Readings.{AreReadOnce}
-use Rattle.gf_frame.specs.Commands.{Turns, Writing, Command, IsWholeBy, IsKindOfWriting, IsOfWriting, IsUnanswered, IsAnswered, IsWholeFor, IsRefusedAtOnce, IsRefusedOn, IsInReach, IsFixed}
+use Rattle.gf_frame.specs.Commands.{Turns, Writing, Command, IsWholeBy, IsKindOfWriting, IsOfWriting, IsUnanswered, IsAnswered, IsWholeFor, IsRefusedAtOnce}
+use Rattle.gf_frame.specs.Commands.{IsRefusedOn, IsInReach, IsFixed}
 
 -- ---- what a command owes
 
@@ -39,8 +41,8 @@ pub record AreLawfulTurns {A : Type 0} (IsCause : A → Refusal → Type 0) (IsW
   pub kind : (a : A) (r : Refusal) (i j : InputSeen) (o s : OutputSeen) → turns.IsCut a i j o s r → IsOfTurns r
   pub read : (a : A) (i j : InputSeen) (o s : OutputSeen) → turns.IsCut a i j o s refusals.ReadFault → Rose i.faults j.faults
   pub write : (a : A) (i j : InputSeen) (o s : OutputSeen) → turns.IsCut a i j o s refusals.WriteFault → Rose o.faults s.faults
-  pub reach : (a : A) (r : Refusal) (i j : InputSeen) (o s : OutputSeen) (source : List ℕ) → IsWithin a → i.left ≡ Some source → length source ≤ 67108864 → (Rose i.faults j.faults → ⊥) → (Rose o.faults s.faults → ⊥) →
-      turns.IsCut a i j o s r → r ≡ refusals.Memory
+  pub reach : (a : A) (r : Refusal) (i j : InputSeen) (o s : OutputSeen) (source : List ℕ) → IsWithin a → i.left ≡ Some source → length source ≤ 67108864 →
+      (Rose i.faults j.faults → ⊥) → (Rose o.faults s.faults → ⊥) → turns.IsCut a i j o s r → r ≡ refusals.Memory
   -- no fault is counted but the one that is answered
   pub ended_calm : (a : A) (i j : InputSeen) (o s : OutputSeen) → turns.IsEnded a i j o s → j.faults ≡ i.faults
   pub read_calm : (a : A) (r : Refusal) (i j : InputSeen) (o s : OutputSeen) → (r ≡ refusals.ReadFault → ⊥) → turns.IsCut a i j o s r → j.faults ≡ i.faults
@@ -59,9 +61,12 @@ pub record IsLawful (c : Command) : Type 0 where
   pub checks : (texts : List (List ℕ)) (a : c.Value) → c.reading.IsRead texts a → AreCheckedOnce (c.checks a)
   pub work : (texts : List (List ℕ)) (a : c.Value) (r : Refusal) → c.reading.IsRead texts a → c.IsCause a r → IsOfWriting c.writing r
   pub within : (texts : List (List ℕ)) (a : c.Value) (r : Refusal) → c.reading.IsRead texts a → c.IsWithin a → c.IsCause a r → r ≡ refusals.Memory
-  pub tests : (texts : List (List ℕ)) (a : c.Value) (r d : Refusal) → c.reading.IsRead texts a → IsFixed r → c.IsCause a r → c.IsCause a d → TellsSame r d ⊎ IsOfNumbers d
-  pub answers : (texts : List (List ℕ)) (a : c.Value) (r : Refusal) (text : List ℕ) → c.reading.IsRead texts a → IsFixed r → c.IsCause a r → c.IsAnswer a text → ⊥
-  pub wholes : (texts : List (List ℕ)) (a : c.Value) (r : Refusal) (text : List ℕ) → c.reading.IsRead texts a → IsFixed r → c.IsCause a r → IsWholeBy c.writing c.IsAnswer a text → ⊥
+  pub tests : (texts : List (List ℕ)) (a : c.Value) (r d : Refusal) → c.reading.IsRead texts a → IsFixed r → c.IsCause a r → c.IsCause a d →
+      TellsSame r d ⊎ IsOfNumbers d
+  pub answers : (texts : List (List ℕ)) (a : c.Value) (r : Refusal) (text : List ℕ) → c.reading.IsRead texts a → IsFixed r → c.IsCause a r → c.IsAnswer a text →
+      ⊥
+  pub wholes : (texts : List (List ℕ)) (a : c.Value) (r : Refusal) (text : List ℕ) → c.reading.IsRead texts a → IsFixed r → c.IsCause a r →
+      IsWholeBy c.writing c.IsAnswer a text → ⊥
   pub turns : TurnsHold c.IsCause c.IsWithin c.writing
   -- a source that is taken in turns isn't loaded before
   pub apart : TakesTurns c.writing → HaveInput c.reads → ⊥
@@ -111,13 +116,15 @@ exact_kind writing r e = kind_of_exact writing (kind_of_refusal r) e
 module _ (c : Command) (laws : IsLawful c) (texts : List (List ℕ)) where
   -- ---- a refusal before any work
 
-  told_text : (e d : TextError) (r : Refusal) (s : Refusal) → IsExactRefusal r → c.reading.IsRefused texts e → r ≡ of_text e → c.reading.IsRefused texts d → s ≡ of_text d → (s ≡ r) ⊎ (s ≡ refusals.Memory)
+  told_text : (e d : TextError) (r : Refusal) (s : Refusal) → IsExactRefusal r → c.reading.IsRefused texts e → r ≡ of_text e → c.reading.IsRefused texts d →
+      s ≡ of_text d → (s ≡ r) ⊎ (s ≡ refusals.Memory)
   told_text e d r s x h q k p = elim (said d) [
     | inl m ↦ inr (p ∙ ap of_text m)
     | inr n ↦ inl (p ∙ ap of_text (laws.reading.same texts e d h (subst IsExactRefusal q x) k n) ∙ sym q)
   ]
 
-  no_read : {B : Type 0} (a : c.Value) (e : TextError) (r : Refusal) → IsExactRefusal r → c.reading.IsRefused texts e → r ≡ of_text e → c.reading.IsRead texts a → B
+  no_read : {B : Type 0} (a : c.Value) (e : TextError) (r : Refusal) → IsExactRefusal r → c.reading.IsRefused texts e → r ≡ of_text e →
+      c.reading.IsRead texts a → B
   no_read a e r x h q read = absurd (laws.reading.apart texts a e read h (exact_said e (subst IsExactRefusal q x)))
 
   told_form : (a : c.Value) (r d : Refusal) → c.reading.IsRead texts a → FirstFails (c.checks a) r → IsRefusedOn c texts d → (d ≡ r) ⊎ (d ≡ refusals.Memory)
@@ -125,8 +132,10 @@ module _ (c : Command) (laws : IsLawful c) (texts : List (List ℕ)) where
     | inl m ↦ inr (q ∙ ap of_text m)
     | inr n ↦ absurd (laws.reading.apart texts a e read h n)
   ]
-  told_form a r d read f (IsRefusedOn.behind_text b k (IsUnanswered.in_form g)) = inl (first_once (c.checks a) (laws.checks texts a read) r d f (subst (λ z. FirstFails (c.checks z) d) (laws.reading.once texts a b read k) g))
-  told_form a r d read f (IsRefusedOn.behind_text b k (IsUnanswered.in_work g w)) = absurd (first_apart (c.checks a) (laws.checks texts a read) r (subst (λ z. AllHold (c.checks z)) (laws.reading.once texts a b read k) g) f)
+  told_form a r d read f (IsRefusedOn.behind_text b k (IsUnanswered.in_form g)) =
+      inl (first_once (c.checks a) (laws.checks texts a read) r d f (subst (λ z. FirstFails (c.checks z) d) (laws.reading.once texts a b read k) g))
+  told_form a r d read f (IsRefusedOn.behind_text b k (IsUnanswered.in_work g w)) =
+      absurd (first_apart (c.checks a) (laws.checks texts a read) r (subst (λ z. AllHold (c.checks z)) (laws.reading.once texts a b read k) g) f)
   told_form a r d read f (IsRefusedOn.behind_text b k (IsUnanswered.no_memory m)) = inr m
   told_form a r d read f (IsRefusedOn.no_memory m) = inr m
 
@@ -139,7 +148,8 @@ module _ (c : Command) (laws : IsLawful c) (texts : List (List ℕ)) where
   -- nothing is read that is of its form
   pub not_formed : (r : Refusal) (a : c.Value) → IsRefusedAtOnce c texts r → c.reading.IsRead texts a → AllHold (c.checks a) → ⊥
   not_formed r a (IsRefusedAtOnce.in_text e h q x) read g = no_read a e r x h q read
-  not_formed r a (IsRefusedAtOnce.in_form b k f) read g = first_apart (c.checks a) (laws.checks texts a read) r g (subst (λ z. FirstFails (c.checks z) r) (laws.reading.once texts a b read k) f)
+  not_formed r a (IsRefusedAtOnce.in_form b k f) read g =
+      first_apart (c.checks a) (laws.checks texts a read) r g (subst (λ z. FirstFails (c.checks z) r) (laws.reading.once texts a b read k) f)
 
   pub no_answer : (r : Refusal) (text : List ℕ) → IsRefusedAtOnce c texts r → IsAnswered c texts text → ⊥
   no_answer r text h a = not_formed r a.value h a.read a.answer.formed
@@ -169,8 +179,11 @@ module _ (c : Command) (laws : IsLawful c) (texts : List (List ℕ)) where
     | inl m ↦ inr (subst IsOfNumbers (sym (q ∙ ap of_text m)) tt)
     | inr n ↦ absurd (laws.reading.apart texts w.value e w.read h n)
   ]
-  told_work r d x w (IsRefusedOn.behind_text b k (IsUnanswered.in_form g)) = absurd (first_apart (c.checks w.value) (laws.checks texts w.value w.read) d w.formed (subst (λ z. FirstFails (c.checks z) d) (laws.reading.once texts w.value b w.read k) g))
-  told_work r d x w (IsRefusedOn.behind_text b k (IsUnanswered.in_work g v)) = laws.tests texts w.value r d w.read x w.cause (subst (λ z. c.IsCause z d) (laws.reading.once texts w.value b w.read k) v)
+  told_work r d x w (IsRefusedOn.behind_text b k (IsUnanswered.in_form g)) =
+      absurd (first_apart (c.checks w.value) (laws.checks texts w.value w.read) d w.formed
+      (subst (λ z. FirstFails (c.checks z) d) (laws.reading.once texts w.value b w.read k) g))
+  told_work r d x w (IsRefusedOn.behind_text b k (IsUnanswered.in_work g v)) =
+      laws.tests texts w.value r d w.read x w.cause (subst (λ z. c.IsCause z d) (laws.reading.once texts w.value b w.read k) v)
   told_work r d x w (IsRefusedOn.behind_text b k (IsUnanswered.no_memory m)) = inr (subst IsOfNumbers (sym m) tt)
   told_work r d x w (IsRefusedOn.no_memory m) = inr (subst IsOfNumbers (sym m) tt)
 
@@ -180,13 +193,15 @@ module _ (c : Command) (laws : IsLawful c) (texts : List (List ℕ)) where
   pub no_tested_answer : (r : Refusal) (text : List ℕ) → IsFixed r → IsRefusedOn c texts r → IsAnswered c texts text → ⊥
   no_tested_answer r text x h a = elim (fixed r x h) [
     | inl y ↦ no_answer r text y a
-    | inr w ↦ laws.answers texts w.value r text w.read x w.cause (subst (λ z. c.IsAnswer z text) (laws.reading.once texts w.value a.value w.read a.read) a.answer.is_answer)
+    | inr w ↦ laws.answers texts w.value r text w.read x w.cause (subst (λ z. c.IsAnswer z text) (laws.reading.once texts w.value a.value w.read a.read)
+        a.answer.is_answer)
   ]
 
   pub no_tested_whole : (r : Refusal) (text : List ℕ) → IsFixed r → IsRefusedOn c texts r → IsWholeFor c texts text → ⊥
   no_tested_whole r text x h a = elim (fixed r x h) [
     | inl y ↦ no_whole r text y a
-    | inr w ↦ laws.wholes texts w.value r text w.read x w.cause (subst (λ z. IsWholeBy c.writing c.IsAnswer z text) (laws.reading.once texts w.value a.value w.read a.read) a.is_whole)
+    | inr w ↦ laws.wholes texts w.value r text w.read x w.cause (subst (λ z. IsWholeBy c.writing c.IsAnswer z text)
+        (laws.reading.once texts w.value a.value w.read a.read) a.is_whole)
   ]
 
   -- what is read of a fixed refusal, from another value that is read
@@ -203,8 +218,10 @@ module _ (c : Command) (laws : IsLawful c) (texts : List (List ℕ)) where
     | inl m ↦ q ∙ ap of_text m
     | inr n ↦ absurd (laws.reading.apart texts a e read h n)
   ]
-  reached a d read g w (IsRefusedOn.behind_text b k (IsUnanswered.in_form f)) = absurd (first_apart (c.checks a) (laws.checks texts a read) d g (subst (λ z. FirstFails (c.checks z) d) (laws.reading.once texts a b read k) f))
-  reached a d read g w (IsRefusedOn.behind_text b k (IsUnanswered.in_work f v)) = laws.within texts a d read w (subst (λ z. c.IsCause z d) (laws.reading.once texts a b read k) v)
+  reached a d read g w (IsRefusedOn.behind_text b k (IsUnanswered.in_form f)) =
+      absurd (first_apart (c.checks a) (laws.checks texts a read) d g (subst (λ z. FirstFails (c.checks z) d) (laws.reading.once texts a b read k) f))
+  reached a d read g w (IsRefusedOn.behind_text b k (IsUnanswered.in_work f v)) =
+      laws.within texts a d read w (subst (λ z. c.IsCause z d) (laws.reading.once texts a b read k) v)
   reached a d read g w (IsRefusedOn.behind_text b k (IsUnanswered.no_memory m)) = m
   reached a d read g w (IsRefusedOn.no_memory m) = m
 

@@ -1,6 +1,7 @@
 -- Sources that are known are loaded, and what isn't read is as before.
 -- To cite: loaded_known, unloaded_known, unloaded_long, loaded_not_long, unloaded_outside, unloaded_read, unloaded_open, unloaded_too_long, unloaded_within,
--- nothing_read, loaded_within, loaded_input, unloaded_input, loaded_files, unloaded_files, loaded_kept, unloaded_kept, loaded_calm, unloaded_input_calm, unloaded_open_calm, unloaded_calm. The rest are steps.
+-- nothing_read, loaded_within, loaded_input, unloaded_input, loaded_files, unloaded_files, loaded_kept, unloaded_kept, loaded_calm, unloaded_input_calm,
+-- unloaded_open_calm, unloaded_calm. The rest are steps.
 use Rattle.std.specs.Prelude.{◌≡◌, ◌⊎◌, ℕ, ◌≤◌, ◌++◌, List, [], ◌∷◌, length, Option, None, Some}
 use Rattle.std.specs.Io.KnownBytes.{Consumes, IsAtEnd, Keeps}
 use Rattle.std.proofs.Common.{arith, refl, sym, ap, ◌∙◌, subst, inl, inr, length-append, append-nil}
@@ -10,7 +11,8 @@ use Rattle.gf_outside.specs.Moved.{TookExactly, TookAtMost}
 use Rattle.gf_front.specs.declared.refusal.Refusal.{Refusal}
 use Rattle.gf_front.specs.declared.refusal.Refusal.TheVariants as refusals
 use Rattle.gf_frame.specs.Seen.{InputSeen, FilesSeen, Seen}
-use Rattle.gf_frame.specs.Loading.{Origin, IsLoaded, IsInputCause, IsWithinFile, IsFileCause, IsUnloaded, AreLoaded, AreUnloaded, IsKnown, AreKnown, AreShort, IsSomeLong, HaveInput, HaveFile, HaveInputOnce, IsReadWithin, AreReadWithin, IsTooLong, IsOneTooLong}
+use Rattle.gf_frame.specs.Loading.{Origin, IsLoaded, IsInputCause, IsWithinFile, IsFileCause, IsUnloaded, AreLoaded, AreUnloaded, IsKnown, AreKnown, AreShort}
+use Rattle.gf_frame.specs.Loading.{IsSomeLong, HaveInput, HaveFile, HaveInputOnce, IsReadWithin, AreReadWithin, IsTooLong, IsOneTooLong}
 use Rattle.gf_frame.specs.Commands.{IsOfOutside}
 
 -- ---- bytes
@@ -28,8 +30,10 @@ taken_known left (Some rest) source bytes k c =
     let p : source ≡ bytes ++ rest = subst (λ l. Consumes l (Some rest) bytes) k c in
     omega (arith, ap length p, length-append bytes rest)
 
-long_known : (left leaves : Option (List ℕ)) (given gives : ℕ) (source : List ℕ) → left ≡ Some source → length source ≤ 67108864 → TookExactly left leaves given gives 67108865 → ⊥
-long_known left leaves given gives source k short t = let most = taken_known left leaves source t.bytes k t.took.bytes_left in omega (arith, most, short, t.exactly)
+long_known : (left leaves : Option (List ℕ)) (given gives : ℕ) (source : List ℕ) → left ≡ Some source → length source ≤ 67108864 →
+    TookExactly left leaves given gives 67108865 → ⊥
+long_known left leaves given gives source k short t = let most =
+    taken_known left leaves source t.bytes k t.took.bytes_left in omega (arith, most, short, t.exactly)
 
 -- ---- one source
 
@@ -37,13 +41,15 @@ loaded_text : (o : Origin) (p q m : Seen) (t u : List ℕ) → IsKnown o p q t �
 loaded_text Origin.the_input p q m t u k l = read_known p.input.left m.input.left t u k.0 l.took.bytes_left l.end
 loaded_text (Origin.a_file name) p q m t u k l = subst (λ x. Keeps x (Some u)) k.0 l.is
 
-input_memory : (p q : Seen) (t : List ℕ) (r : Refusal) → IsKnown Origin.the_input p q t → length t ≤ 67108864 → IsInputCause p.input q.input r → r ≡ refusals.Memory
+input_memory : (p q : Seen) (t : List ℕ) (r : Refusal) → IsKnown Origin.the_input p q t → length t ≤ 67108864 → IsInputCause p.input q.input r →
+    r ≡ refusals.Memory
 input_memory p q t refusals.ReadFault k l c = absurd (k.1 c.0)
 input_memory p q t refusals.InputTooLong k l c = absurd (long_known p.input.left q.input.left p.input.given q.input.given t k.0 l c)
 input_memory p q t refusals.Memory k l c = refl
 input_memory p q t _ k l c = absurd c
 
-file_memory : (name : List ℕ) (p q : Seen) (t : List ℕ) (r : Refusal) → IsKnown (Origin.a_file name) p q t → length t ≤ 67108864 → IsFileCause name p.files q.files r → r ≡ refusals.Memory
+file_memory : (name : List ℕ) (p q : Seen) (t : List ℕ) (r : Refusal) → IsKnown (Origin.a_file name) p q t → length t ≤ 67108864 →
+    IsFileCause name p.files q.files r → r ≡ refusals.Memory
 file_memory name p q t refusals.OpenFault k l c = absurd (k.1 c.0)
 file_memory name p q t refusals.ReadFault k l c = absurd (k.2 c.0)
 file_memory name p q t refusals.InputTooLong k l c = absurd (long_known (p.files.bytes name) q.files.left p.files.given q.files.given t k.0 l c)
@@ -54,13 +60,15 @@ one_memory : (o : Origin) (p q : Seen) (t : List ℕ) (r : Refusal) → IsKnown 
 one_memory Origin.the_input p q t r k l u = input_memory p q t r k l u.cause
 one_memory (Origin.a_file name) p q t r k l u = file_memory name p q t r k l u.cause
 
-input_long : (p q : Seen) (t : List ℕ) (r : Refusal) → IsKnown Origin.the_input p q t → IsInputCause p.input q.input r → (r ≡ refusals.InputTooLong) ⊎ (r ≡ refusals.Memory)
+input_long : (p q : Seen) (t : List ℕ) (r : Refusal) → IsKnown Origin.the_input p q t → IsInputCause p.input q.input r →
+    (r ≡ refusals.InputTooLong) ⊎ (r ≡ refusals.Memory)
 input_long p q t refusals.ReadFault k c = absurd (k.1 c.0)
 input_long p q t refusals.InputTooLong k c = inl refl
 input_long p q t refusals.Memory k c = inr refl
 input_long p q t _ k c = absurd c
 
-file_long : (name : List ℕ) (p q : Seen) (t : List ℕ) (r : Refusal) → IsKnown (Origin.a_file name) p q t → IsFileCause name p.files q.files r → (r ≡ refusals.InputTooLong) ⊎ (r ≡ refusals.Memory)
+file_long : (name : List ℕ) (p q : Seen) (t : List ℕ) (r : Refusal) → IsKnown (Origin.a_file name) p q t → IsFileCause name p.files q.files r →
+    (r ≡ refusals.InputTooLong) ⊎ (r ≡ refusals.Memory)
 file_long name p q t refusals.OpenFault k c = absurd (k.1 c.0)
 file_long name p q t refusals.ReadFault k c = absurd (k.2 c.0)
 file_long name p q t refusals.InputTooLong k c = inl refl
@@ -93,31 +101,36 @@ one_calm (Origin.a_file name) p q t l = ap (λ (i : InputSeen). i.faults) l.inpu
 
 -- ---- what is known stays known
 
-file_along : (name : List ℕ) (o : Origin) (p m q : Seen) (t u : List ℕ) → IsLoaded o p m u → IsKnown (Origin.a_file name) p q t → IsKnown (Origin.a_file name) m q t
+file_along : (name : List ℕ) (o : Origin) (p m q : Seen) (t u : List ℕ) → IsLoaded o p m u → IsKnown (Origin.a_file name) p q t →
+    IsKnown (Origin.a_file name) m q t
 file_along name o p m q t u l k = (
   ap (λ (f : List ℕ → Option (List ℕ)). f name) (one_kept o p m u l) ∙ k.0,
   subst (λ n. Rose n q.files.unopened → ⊥) (sym (one_unopened o p m u l)) k.1,
   subst (λ n. Rose n q.files.faults → ⊥) (sym (one_faults o p m u l)) k.2,
 )
 
-input_along : (name : List ℕ) (p m q : Seen) (t u : List ℕ) → IsLoaded (Origin.a_file name) p m u → IsKnown Origin.the_input p q t → IsKnown Origin.the_input m q t
+input_along : (name : List ℕ) (p m q : Seen) (t u : List ℕ) → IsLoaded (Origin.a_file name) p m u → IsKnown Origin.the_input p q t →
+    IsKnown Origin.the_input m q t
 input_along name p m q t u l k = subst (λ (i : InputSeen). (i.left ≡ Some t) × (Rose i.faults q.input.faults → ⊥)) (sym l.input) k
 
-along_input : (os : List Origin) (p m q : Seen) (u : List ℕ) (ts : List (List ℕ)) → (HaveInput os → ⊥) → IsLoaded Origin.the_input p m u → AreKnown os p q ts → AreKnown os m q ts
+along_input : (os : List Origin) (p m q : Seen) (u : List ℕ) (ts : List (List ℕ)) → (HaveInput os → ⊥) → IsLoaded Origin.the_input p m u → AreKnown os p q ts →
+    AreKnown os m q ts
 along_input [] p m q u [] n l k = tt
 along_input [] p m q u (t ∷ ts) n l k = absurd k
 along_input (o ∷ os) p m q u [] n l k = absurd k
 along_input (Origin.the_input ∷ os) p m q u (t ∷ ts) n l k = absurd (n tt)
 along_input (Origin.a_file name ∷ os) p m q u (t ∷ ts) n l k = (file_along name Origin.the_input p m q t u l k.0, along_input os p m q u ts n l k.1)
 
-along_file : (name : List ℕ) (os : List Origin) (p m q : Seen) (u : List ℕ) (ts : List (List ℕ)) → IsLoaded (Origin.a_file name) p m u → AreKnown os p q ts → AreKnown os m q ts
+along_file : (name : List ℕ) (os : List Origin) (p m q : Seen) (u : List ℕ) (ts : List (List ℕ)) → IsLoaded (Origin.a_file name) p m u → AreKnown os p q ts →
+    AreKnown os m q ts
 along_file name [] p m q u [] l k = tt
 along_file name [] p m q u (t ∷ ts) l k = absurd k
 along_file name (o ∷ os) p m q u [] l k = absurd k
 along_file name (Origin.the_input ∷ os) p m q u (t ∷ ts) l k = (input_along name p m q t u l k.0, along_file name os p m q u ts l k.1)
 along_file name (Origin.a_file other ∷ os) p m q u (t ∷ ts) l k = (file_along other (Origin.a_file name) p m q t u l k.0, along_file name os p m q u ts l k.1)
 
-along : (o : Origin) (os : List Origin) (p m q : Seen) (u : List ℕ) (ts : List (List ℕ)) → HaveInputOnce (o ∷ os) → IsLoaded o p m u → AreKnown os p q ts → AreKnown os m q ts
+along : (o : Origin) (os : List Origin) (p m q : Seen) (u : List ℕ) (ts : List (List ℕ)) → HaveInputOnce (o ∷ os) → IsLoaded o p m u → AreKnown os p q ts →
+    AreKnown os m q ts
 along Origin.the_input os p m q u ts n l k = along_input os p m q u ts n l k
 along (Origin.a_file name) os p m q u ts n l k = along_file name os p m q u ts l k
 
@@ -145,14 +158,16 @@ loaded_known (o ∷ os) p q m (t ∷ ts) (u ∷ us) n k l =
     λ i. head i ∷ tail i
 
 -- sources that are known and not too long are loaded, unless there is no memory
-pub unloaded_known : (os : List Origin) (p q : Seen) (texts : List (List ℕ)) (r : Refusal) → HaveInputOnce os → AreKnown os p q texts → AreShort texts → AreUnloaded os p q r → r ≡ refusals.Memory
+pub unloaded_known : (os : List Origin) (p q : Seen) (texts : List (List ℕ)) (r : Refusal) → HaveInputOnce os → AreKnown os p q texts → AreShort texts →
+    AreUnloaded os p q r → r ≡ refusals.Memory
 unloaded_known [] p q ts r n k s u = absurd u
 unloaded_known (o ∷ os) p q [] r n k s u = absurd k
 unloaded_known (o ∷ os) p q (t ∷ ts) r n k s (inl u) = one_memory o p q t r k.0 s.0 u
 unloaded_known (o ∷ os) p q (t ∷ ts) r n k s (inr u) = unloaded_known os u.1 q ts r (once_behind o os n) (along o os p u.1 q u.0 ts n u.2 k.1) s.1 u.3
 
 -- in any case one is too long, unless there is no memory
-pub unloaded_long : (os : List Origin) (p q : Seen) (texts : List (List ℕ)) (r : Refusal) → HaveInputOnce os → AreKnown os p q texts → AreUnloaded os p q r → (r ≡ refusals.InputTooLong) ⊎ (r ≡ refusals.Memory)
+pub unloaded_long : (os : List Origin) (p q : Seen) (texts : List (List ℕ)) (r : Refusal) → HaveInputOnce os → AreKnown os p q texts → AreUnloaded os p q r →
+    (r ≡ refusals.InputTooLong) ⊎ (r ≡ refusals.Memory)
 unloaded_long [] p q ts r n k u = absurd u
 unloaded_long (o ∷ os) p q [] r n k u = absurd k
 unloaded_long (o ∷ os) p q (t ∷ ts) r n k (inl u) = one_long o p q t r k.0 u
@@ -213,7 +228,8 @@ one_read : (o : Origin) (p q : Seen) → IsUnloaded o p q refusals.ReadFault →
 one_read Origin.the_input p q u = inl u.cause.0
 one_read (Origin.a_file name) p q u = inr u.cause.0
 
-pub unloaded_read : (os : List Origin) (p q : Seen) → AreUnloaded os p q refusals.ReadFault → Rose p.input.faults q.input.faults ⊎ Rose p.files.faults q.files.faults
+pub unloaded_read : (os : List Origin) (p q : Seen) → AreUnloaded os p q refusals.ReadFault →
+    Rose p.input.faults q.input.faults ⊎ Rose p.files.faults q.files.faults
 unloaded_read [] p q u = absurd u
 unloaded_read (o ∷ os) p q (inl u) = one_read o p q u
 unloaded_read (o ∷ os) p q (inr u) = elim (unloaded_read os u.1 q u.3) [
@@ -324,7 +340,8 @@ unloaded_kept [] p q r u = absurd u
 unloaded_kept (o ∷ os) p q r (inl u) = one_unloaded_kept o p q r u
 unloaded_kept (o ∷ os) p q r (inr u) = unloaded_kept os u.1 q r u.3 ∙ one_kept o p u.1 u.0 u.2
 
-pub loaded_calm : (os : List Origin) (p q : Seen) (ts : List (List ℕ)) → AreLoaded os p q ts → (q.input.faults ≡ p.input.faults) × (q.files.unopened ≡ p.files.unopened) × (q.files.faults ≡ p.files.faults)
+pub loaded_calm : (os : List Origin) (p q : Seen) (ts : List (List ℕ)) → AreLoaded os p q ts →
+    (q.input.faults ≡ p.input.faults) × (q.files.unopened ≡ p.files.unopened) × (q.files.faults ≡ p.files.faults)
 loaded_calm [] p q [] l = (ap (λ (x : Seen). x.input.faults) l, ap (λ (x : Seen). x.files.unopened) l, ap (λ (x : Seen). x.files.faults) l)
 loaded_calm [] p q (t ∷ ts) l = absurd l
 loaded_calm (o ∷ os) p q [] l = absurd l
@@ -354,20 +371,23 @@ one_open_calm : (o : Origin) (p q : Seen) (r : Refusal) → (r ≡ refusals.Open
 one_open_calm Origin.the_input p q r n u = ap (λ (f : FilesSeen). f.unopened) u.files
 one_open_calm (Origin.a_file name) p q r n u = u.open_calm n
 
-pub unloaded_open_calm : (os : List Origin) (p q : Seen) (r : Refusal) → (r ≡ refusals.OpenFault → ⊥) → AreUnloaded os p q r → q.files.unopened ≡ p.files.unopened
+pub unloaded_open_calm : (os : List Origin) (p q : Seen) (r : Refusal) → (r ≡ refusals.OpenFault → ⊥) → AreUnloaded os p q r →
+    q.files.unopened ≡ p.files.unopened
 unloaded_open_calm [] p q r n u = absurd u
 unloaded_open_calm (o ∷ os) p q r n (inl u) = one_open_calm o p q r n u
 unloaded_open_calm (o ∷ os) p q r n (inr u) = unloaded_open_calm os u.1 q r n u.3 ∙ one_unopened o p u.1 u.0 u.2
 
 -- ---- one more source
 
-pub loaded_more : (os : List Origin) (o : Origin) (p m q : Seen) (ts : List (List ℕ)) (t : List ℕ) → AreLoaded os p m ts → IsLoaded o m q t → AreLoaded (os ++ (o ∷ [])) p q (ts ++ (t ∷ []))
+pub loaded_more : (os : List Origin) (o : Origin) (p m q : Seen) (ts : List (List ℕ)) (t : List ℕ) → AreLoaded os p m ts → IsLoaded o m q t →
+    AreLoaded (os ++ (o ∷ [])) p q (ts ++ (t ∷ []))
 loaded_more [] o p m q [] t l k = (q, subst (λ (x : Seen). IsLoaded o x q t) l k, refl)
 loaded_more [] o p m q (u ∷ us) t l k = absurd l
 loaded_more (n ∷ os) o p m q [] t l k = absurd l
 loaded_more (n ∷ os) o p m q (u ∷ us) t l k = (l.0, l.1, loaded_more os o l.0 m q us t l.2 k)
 
-pub unloaded_more : (os rest : List Origin) (o : Origin) (p m q : Seen) (ts : List (List ℕ)) (r : Refusal) → AreLoaded os p m ts → IsUnloaded o m q r → AreUnloaded (os ++ (o ∷ rest)) p q r
+pub unloaded_more : (os rest : List Origin) (o : Origin) (p m q : Seen) (ts : List (List ℕ)) (r : Refusal) → AreLoaded os p m ts → IsUnloaded o m q r →
+    AreUnloaded (os ++ (o ∷ rest)) p q r
 unloaded_more [] rest o p m q [] r l k = inl (subst (λ (x : Seen). IsUnloaded o x q r) l k)
 unloaded_more [] rest o p m q (u ∷ us) r l k = absurd l
 unloaded_more (n ∷ os) rest o p m q [] r l k = absurd l
@@ -376,4 +396,10 @@ unloaded_more (n ∷ os) rest o p m q (u ∷ us) r l k = inr (u, l.0, l.1, unloa
 -- a text that finds no room behind its loading
 pub loaded_full : (o : Origin) (p q : Seen) (t : List ℕ) → IsLoaded o p q t → IsUnloaded o p q refusals.Memory
 loaded_full Origin.the_input p q t l = record { cause = record { bytes = t; took = l.took; at_most = l.short }; calm = λ n. l.calm; files = l.files }
-loaded_full (Origin.a_file name) p q t l = record { cause = inr (record { bytes = t; took = l.took; at_most = l.short }); kept = l.kept; open_calm = λ n. l.opened; calm = λ n. l.calm; input = l.input }
+loaded_full (Origin.a_file name) p q t l = record {
+  cause = inr (record { bytes = t; took = l.took; at_most = l.short });
+  kept = l.kept;
+  open_calm = λ n. l.opened;
+  calm = λ n. l.calm;
+  input = l.input;
+}

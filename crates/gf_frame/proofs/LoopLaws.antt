@@ -19,22 +19,27 @@ unloaded_part (suc n) [] p q r u = u
 unloaded_part (suc n) (x ∷ xs) p q r (inl u) = inl u
 unloaded_part (suc n) (x ∷ xs) p q r (inr u) = inr (u.0, u.1, u.2, unloaded_part n xs u.1 q r u.3)
 
-module _ (xs : List LoadFrom) (i : ℕ) (d : LoadFrom) (l : i < length xs) (p m q : Seen) (ts : List (Vec ℕ Global)) (loaded : AreLoaded (origins_of (take i xs)) p m (texts_of ts)) where
-  pub one_loaded : (vs : List (Vec ℕ Global)) (t : Vec ℕ Global) → vs ≡ ts ++ (t ∷ []) → IsLoaded (origin_of (get_or xs i d)) m q t.items → AreLoaded (origins_of (take (i + 1) xs)) p q (texts_of vs)
+module _ (xs : List LoadFrom) (i : ℕ) (d : LoadFrom) (l : i < length xs) (p m q : Seen) (ts : List (Vec ℕ Global))
+    (loaded : AreLoaded (origins_of (take i xs)) p m (texts_of ts)) where
+  pub one_loaded : (vs : List (Vec ℕ Global)) (t : Vec ℕ Global) → vs ≡ ts ++ (t ∷ []) → IsLoaded (origin_of (get_or xs i d)) m q t.items →
+      AreLoaded (origins_of (take (i + 1) xs)) p q (texts_of vs)
   one_loaded vs t e h =
       let more = loaded_more (origins_of (take i xs)) (origin_of (get_or xs i d)) p m q (texts_of ts) t.items loaded h in
       let texts : texts_of ts ++ (t.items ∷ []) ≡ texts_of vs = sym (map_push (λ (v : Vec ℕ Global). v.items) ts t) ∙ ap texts_of (sym e) in
-      subst (λ os. AreLoaded os p q (texts_of vs)) (sym (map_more origin_of xs i d l)) (subst (λ us. AreLoaded (origins_of (take i xs) ++ (origin_of (get_or xs i d) ∷ [])) p q us) texts more)
+      subst (λ os. AreLoaded os p q (texts_of vs)) (sym (map_more origin_of xs i d l))
+      (subst (λ us. AreLoaded (origins_of (take i xs) ++ (origin_of (get_or xs i d) ∷ [])) p q us) texts more)
 
   pub one_unloaded : (r : Refusal) → IsUnloaded (origin_of (get_or xs i d)) m q r → AreUnloaded (origins_of xs) p q r
   one_unloaded r h =
       unloaded_part (i + 1) xs p q r
-      (subst (λ os. AreUnloaded os p q r) (sym (map_more origin_of xs i d l)) (unloaded_more (origins_of (take i xs)) [] (origin_of (get_or xs i d)) p m q (texts_of ts) r loaded h))
+      (subst (λ os. AreUnloaded os p q r) (sym (map_more origin_of xs i d l)) (unloaded_more (origins_of (take i xs)) [] (origin_of (get_or xs i d)) p m q
+      (texts_of ts) r loaded h))
 
   pub one_full : (t : List ℕ) → IsLoaded (origin_of (get_or xs i d)) m q t → AreUnloaded (origins_of xs) p q refusals.Memory
   one_full t h = one_unloaded refusals.Memory (loaded_full (origin_of (get_or xs i d)) m q t h)
 
-pub all_loaded : (xs : List LoadFrom) (i : ℕ) (p q : Seen) (ts : List (List ℕ)) → length xs ≤ i → AreLoaded (origins_of (take i xs)) p q ts → AreLoaded (origins_of xs) p q ts
+pub all_loaded : (xs : List LoadFrom) (i : ℕ) (p q : Seen) (ts : List (List ℕ)) → length xs ≤ i → AreLoaded (origins_of (take i xs)) p q ts →
+    AreLoaded (origins_of xs) p q ts
 all_loaded xs i p q ts e l = subst (λ ys. AreLoaded (origins_of ys) p q ts) (take_all i xs e) l
 
 -- the input, or a file, is among all of them where it is one of them

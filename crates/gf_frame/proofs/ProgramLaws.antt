@@ -22,7 +22,10 @@ use Rattle.gf_frame.specs.Runs.{IsDoneOn, IsStoppedOn, IsDoneBy, IsStoppedBy, Is
 use Rattle.gf_frame.proofs.LoadingLaws.{nothing_read}
 use Rattle.gf_frame.proofs.CommandLaws.{IsLawful}
 use Rattle.gf_frame.proofs.WorkLaws.{done_by, stopped_by}
-use Rattle.gf_frame.proofs.RunLaws.{exact_stopped, exact_done, fixed_stopped, fixed_done, reach_stopped, long_stopped, long_done, job_stopped, stopped_not_usage, quiet_stopped, limit_stopped, too_long_stopped, short_stopped, short_done, read_stopped, open_stopped, write_stopped, calm_done, input_calm_stopped, files_calm_stopped, open_calm_stopped, output_calm_stopped, kept_done, kept_stopped}
+use Rattle.gf_frame.proofs.RunLaws.{exact_stopped, exact_done, fixed_stopped, fixed_done, reach_stopped, long_stopped, long_done, job_stopped}
+use Rattle.gf_frame.proofs.RunLaws.{stopped_not_usage, quiet_stopped, limit_stopped, too_long_stopped, short_stopped, short_done, read_stopped, open_stopped}
+use Rattle.gf_frame.proofs.RunLaws.{write_stopped, calm_done, input_calm_stopped, files_calm_stopped, open_calm_stopped, output_calm_stopped, kept_done}
+use Rattle.gf_frame.proofs.RunLaws.{kept_stopped}
 use Rattle.gf_frame.specs.Programs.{IsRunDone, IsRunRefused, IsRunEnded, IsRefusedWith, OfJobAsked, StandsAtLimit, IsTooMuchTaken, RunClauses}
 
 -- ---- which job
@@ -41,19 +44,23 @@ module _ (command_of : Job → Command) (lawful : (job : Job) → IsLawful (comm
   -- ---- how it comes to be refused
 
   -- the words ask for no job, or there is no memory
-  pub words_refused : (words : List (List ℕ)) (p : Seen) (o : OutputSeen) (e : WordsError) → (e ≡ words_errors.Usage → IsMatched words → ⊥) → IsRunRefused command_of words p p o o (of_words e)
+  pub words_refused : (words : List (List ℕ)) (p : Seen) (o : OutputSeen) (e : WordsError) → (e ≡ words_errors.Usage → IsMatched words → ⊥) →
+      IsRunRefused command_of words p p o o (of_words e)
   words_refused words p o words_errors.Usage h = IsRunRefused.no_job (h refl) refl refl refl
   words_refused words p o words_errors.Memory h = IsRunRefused.no_memory refl refl refl
 
   -- a source isn't loaded
-  pub loading_refused : (words : List (List ℕ)) (p q : Seen) (o : OutputSeen) (job : Job) (r : Refusal) → IsJobOf words job → AreUnloaded (command_of job).reads p q r → IsRunRefused command_of words p q o o r
+  pub loading_refused : (words : List (List ℕ)) (p q : Seen) (o : OutputSeen) (job : Job) (r : Refusal) → IsJobOf words job →
+      AreUnloaded (command_of job).reads p q r → IsRunRefused command_of words p q o o r
   loading_refused words p q o job r j u = IsRunRefused.of_job job j (IsStoppedBy.in_loading u (Keeps-refl o.held) refl)
 
   -- the texts are answered; or they aren't
-  pub texts_done : (words : List (List ℕ)) (p q : Seen) (o s : OutputSeen) (job : Job) (texts : List (List ℕ)) → IsJobOf words job → AreLoaded (command_of job).reads p q texts → IsDoneOn (command_of job) texts o s → IsRunDone command_of words p q o s
+  pub texts_done : (words : List (List ℕ)) (p q : Seen) (o s : OutputSeen) (job : Job) (texts : List (List ℕ)) → IsJobOf words job →
+      AreLoaded (command_of job).reads p q texts → IsDoneOn (command_of job) texts o s → IsRunDone command_of words p q o s
   texts_done words p q o s job texts j l d = record { job = job; asked = j; done = done_by (command_of job) p q texts o s l d }
 
-  pub texts_refused : (words : List (List ℕ)) (p q : Seen) (o s : OutputSeen) (job : Job) (texts : List (List ℕ)) (r : Refusal) → IsJobOf words job → AreLoaded (command_of job).reads p q texts → IsStoppedOn (command_of job) texts o s r → IsRunRefused command_of words p q o s r
+  pub texts_refused : (words : List (List ℕ)) (p q : Seen) (o s : OutputSeen) (job : Job) (texts : List (List ℕ)) (r : Refusal) → IsJobOf words job →
+      AreLoaded (command_of job).reads p q texts → IsStoppedOn (command_of job) texts o s r → IsRunRefused command_of words p q o s r
   texts_refused words p q o s job texts r j l h = IsRunRefused.of_job job j (stopped_by (command_of job) p q texts o s l r h)
 
   -- ---- what follows
@@ -64,7 +71,8 @@ module _ (command_of : Job → Command) (lawful : (job : Job) → IsLawful (comm
     done_as job j d = subst (λ k. IsDoneBy (command_of k) p q o s) (same_job words job d.job j d.asked) d.done
 
     -- where the words ask for a job, its command is stopped, or there is no memory and nothing moved
-    pub stopped_as : (job : Job) (r : Refusal) → IsJobOf words job → IsRunRefused command_of words p q o s r → IsStoppedBy (command_of job) p q o s r ⊎ ((r ≡ refusals.Memory) × (q ≡ p))
+    pub stopped_as : (job : Job) (r : Refusal) → IsJobOf words job → IsRunRefused command_of words p q o s r →
+        IsStoppedBy (command_of job) p q o s r ⊎ ((r ≡ refusals.Memory) × (q ≡ p))
     stopped_as job r j (IsRunRefused.no_job n e same out) = absurd (n j.matched)
     stopped_as job r j (IsRunRefused.no_memory e same out) = inr (e, same)
     stopped_as job r j (IsRunRefused.of_job k asked h) = inl (subst (λ i. IsStoppedBy (command_of i) p q o s r) (same_job words job k j asked) h)
@@ -83,7 +91,8 @@ module _ (command_of : Job → Command) (lawful : (job : Job) → IsLawful (comm
     of_job r n (IsRunRefused.no_memory e same out) = absurd (n (subst IsOfOutside (sym e) tt))
     of_job r n (IsRunRefused.of_job job asked h) = (job, asked, job_stopped (command_of job) (lawful job) p q o s r n h)
 
-    at_limit : (most : ℕ) → IsRunRefused command_of words p q o s (refusals.ListLimit most) → OfJobAsked words (λ job. StandsAtLimit command_of job p q o s most)
+    at_limit : (most : ℕ) → IsRunRefused command_of words p q o s (refusals.ListLimit most) →
+        OfJobAsked words (λ job. StandsAtLimit command_of job p q o s most)
     at_limit most (IsRunRefused.no_job m e same out) = cc
     at_limit most (IsRunRefused.no_memory e same out) = cc
     at_limit most (IsRunRefused.of_job job asked h) =
@@ -93,14 +102,17 @@ module _ (command_of : Job → Command) (lawful : (job : Job) → IsLawful (comm
     not_matched : (r : Refusal) → r ≡ refusals.Usage → IsRunRefused command_of words p q o s r → IsMatched words → ⊥
     not_matched r u (IsRunRefused.no_job n e same out) m = n m
     not_matched r u (IsRunRefused.no_memory e same out) m = (let k : refusals.Usage ≡ refusals.Memory = sym u ∙ e in cc)
-    not_matched r u (IsRunRefused.of_job job asked h) m = stopped_not_usage (command_of job) (lawful job) p q o s (subst (IsStoppedBy (command_of job) p q o s) u h)
+    not_matched r u (IsRunRefused.of_job job asked h) m =
+        stopped_not_usage (command_of job) (lawful job) p q o s (subst (IsStoppedBy (command_of job) p q o s) u h)
 
-    unasked : (r : Refusal) → (IsMatched words → ⊥) → IsRunRefused command_of words p q o s r → (statuses.Refused r ≡ statuses.Refused refusals.Usage) ⊎ (statuses.Refused r ≡ statuses.Refused refusals.Memory)
+    unasked : (r : Refusal) → (IsMatched words → ⊥) → IsRunRefused command_of words p q o s r →
+        (statuses.Refused r ≡ statuses.Refused refusals.Usage) ⊎ (statuses.Refused r ≡ statuses.Refused refusals.Memory)
     unasked r n (IsRunRefused.no_job m e same out) = inl (as_refused e)
     unasked r n (IsRunRefused.no_memory e same out) = inr (as_refused e)
     unasked r n (IsRunRefused.of_job job asked h) = absurd (n asked.matched)
 
-    too_much : (r : Refusal) → r ≡ refusals.InputTooLong → IsRunRefused command_of words p q o s r → OfJobAsked words (λ job. IsTooMuchTaken command_of job p q o s)
+    too_much : (r : Refusal) → r ≡ refusals.InputTooLong → IsRunRefused command_of words p q o s r →
+        OfJobAsked words (λ job. IsTooMuchTaken command_of job p q o s)
     too_much r u (IsRunRefused.no_job n e same out) = (let k : refusals.InputTooLong ≡ refusals.Usage = sym u ∙ e in cc)
     too_much r u (IsRunRefused.no_memory e same out) = (let k : refusals.InputTooLong ≡ refusals.Memory = sym u ∙ e in cc)
     too_much r u (IsRunRefused.of_job job asked h) = (
@@ -112,21 +124,25 @@ module _ (command_of : Job → Command) (lawful : (job : Job) → IsLawful (comm
       ],
     )
 
-    quiet : (r : Refusal) → (r ≡ refusals.WriteFault → ⊥) → IsRunRefused command_of words p q o s r → Keeps o.held s.held ⊎ OfJobAsked words (λ job. LeavesInOutput (command_of job) p q o s r)
+    quiet : (r : Refusal) → (r ≡ refusals.WriteFault → ⊥) → IsRunRefused command_of words p q o s r →
+        Keeps o.held s.held ⊎ OfJobAsked words (λ job. LeavesInOutput (command_of job) p q o s r)
     quiet r n (IsRunRefused.no_job m e same out) = inl (subst (λ (x : OutputSeen). Keeps o.held x.held) (sym out) (Keeps-refl o.held))
     quiet r n (IsRunRefused.no_memory e same out) = inl (subst (λ (x : OutputSeen). Keeps o.held x.held) (sym out) (Keeps-refl o.held))
     quiet r n (IsRunRefused.of_job job asked h) = inr (job, asked, quiet_stopped (command_of job) (lawful job) p q o s r n h)
 
     -- a fault that is answered comes of a job
-    of_outside : (r : Refusal) → (r ≡ refusals.Usage → ⊥) → (r ≡ refusals.Memory → ⊥) → IsRunRefused command_of words p q o s r → (job : Job) × IsStoppedBy (command_of job) p q o s r
+    of_outside : (r : Refusal) → (r ≡ refusals.Usage → ⊥) → (r ≡ refusals.Memory → ⊥) → IsRunRefused command_of words p q o s r →
+        (job : Job) × IsStoppedBy (command_of job) p q o s r
     of_outside r u m (IsRunRefused.no_job n e same out) = absurd (u e)
     of_outside r u m (IsRunRefused.no_memory e same out) = absurd (m e)
     of_outside r u m (IsRunRefused.of_job job asked h) = (job, h)
 
-    read_calm : (r : Refusal) → (r ≡ refusals.ReadFault → ⊥) → IsRunRefused command_of words p q o s r → (q.input.faults ≡ p.input.faults) × (q.files.faults ≡ p.files.faults)
+    read_calm : (r : Refusal) → (r ≡ refusals.ReadFault → ⊥) → IsRunRefused command_of words p q o s r →
+        (q.input.faults ≡ p.input.faults) × (q.files.faults ≡ p.files.faults)
     read_calm r n (IsRunRefused.no_job m e same out) = (ap (λ (x : Seen). x.input.faults) same, ap (λ (x : Seen). x.files.faults) same)
     read_calm r n (IsRunRefused.no_memory e same out) = (ap (λ (x : Seen). x.input.faults) same, ap (λ (x : Seen). x.files.faults) same)
-    read_calm r n (IsRunRefused.of_job job asked h) = (input_calm_stopped (command_of job) (lawful job) p q o s r n h, files_calm_stopped (command_of job) (lawful job) p q o s r n h)
+    read_calm r n (IsRunRefused.of_job job asked h) =
+        (input_calm_stopped (command_of job) (lawful job) p q o s r n h, files_calm_stopped (command_of job) (lawful job) p q o s r n h)
 
     opened_calm : (r : Refusal) → (r ≡ refusals.OpenFault → ⊥) → IsRunRefused command_of words p q o s r → q.files.unopened ≡ p.files.unopened
     opened_calm r n (IsRunRefused.no_job m e same out) = ap (λ (x : Seen). x.files.unopened) same

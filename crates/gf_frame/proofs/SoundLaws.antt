@@ -23,9 +23,12 @@ pub record IsExactCommand (c : Command) : Type 0 where
 -- a test that takes work fails in one way, unless the numbers of the work don't fit; and then nothing is answered, and there is no
 -- whole text
 pub record IsTestedCommand (c : Command) : Type 0 where
-  pub tests : (texts : List (List ℕ)) (a : c.Value) (r d : Refusal) → c.reading.IsRead texts a → IsOfTest r → c.IsCause a r → c.IsCause a d → TellsSame r d ⊎ IsOfNumbers d
-  pub answers : (texts : List (List ℕ)) (a : c.Value) (r : Refusal) (text : List ℕ) → c.reading.IsRead texts a → IsOfTest r → c.IsCause a r → c.IsAnswer a text → ⊥
-  pub wholes : (texts : List (List ℕ)) (a : c.Value) (r : Refusal) (text : List ℕ) → c.reading.IsRead texts a → IsOfTest r → c.IsCause a r → IsWholeBy c.writing c.IsAnswer a text → ⊥
+  pub tests : (texts : List (List ℕ)) (a : c.Value) (r d : Refusal) → c.reading.IsRead texts a → IsOfTest r → c.IsCause a r → c.IsCause a d →
+      TellsSame r d ⊎ IsOfNumbers d
+  pub answers : (texts : List (List ℕ)) (a : c.Value) (r : Refusal) (text : List ℕ) → c.reading.IsRead texts a → IsOfTest r → c.IsCause a r →
+      c.IsAnswer a text → ⊥
+  pub wholes : (texts : List (List ℕ)) (a : c.Value) (r : Refusal) (text : List ℕ) → c.reading.IsRead texts a → IsOfTest r → c.IsCause a r →
+      IsWholeBy c.writing c.IsAnswer a text → ⊥
 
 -- a command whose work has no such test
 pub untested : (c : Command) → ((a : c.Value) (r : Refusal) → IsOfTest r → c.IsCause a r → ⊥) → IsTestedCommand c
@@ -60,11 +63,13 @@ kind_of_work writing RefusalKind.limit w n = n tt
 kind_of_work writing _ w n = tt
 
 -- a refusal of the work; of a list at its limit only where it is written as it goes
-pub writing_kind : {A : Type 0} (writing : Writing A) (r : Refusal) → IsOfWork r → ((most : ℕ) → r ≡ refusals.ListLimit most → GoesAlong writing) → IsOfWriting writing r
+pub writing_kind : {A : Type 0} (writing : Writing A) (r : Refusal) → IsOfWork r → ((most : ℕ) → r ≡ refusals.ListLimit most → GoesAlong writing) →
+    IsOfWriting writing r
 writing_kind writing r w n = kind_of_work writing (kind_of_refusal r) w (λ e. let l = limit_of r e in n l.0 l.1)
 
 -- one that takes no turns owes none
-no_turns : {A : Type 0} (IsCause : A → Refusal → Type 0) (IsWithin : A → Type 0) (writing : Writing A) → (TakesTurns writing → ⊥) → TurnsHold IsCause IsWithin writing
+no_turns : {A : Type 0} (IsCause : A → Refusal → Type 0) (IsWithin : A → Type 0) (writing : Writing A) → (TakesTurns writing → ⊥) →
+    TurnsHold IsCause IsWithin writing
 no_turns IsCause IsWithin Writing.at_end n = tt
 no_turns IsCause IsWithin (Writing.as_it_goes whole begun) n = tt
 no_turns IsCause IsWithin (Writing.in_turns turns) n = absurd (n tt)
@@ -75,7 +80,8 @@ module _ (c : Command) (exact : IsExactCommand c) (tested : IsTestedCommand c) w
   fixed_test a r (inr t) w = t
 
   -- it doesn't read the input twice, takes no turns, and comes to the limit of a list only where it writes as it goes
-  pub sound_lawful : HaveInputOnce c.reads → (TakesTurns c.writing → ⊥) → ((a : c.Value) (most : ℕ) → c.IsCause a (refusals.ListLimit most) → GoesAlong c.writing) → IsLawful c
+  pub sound_lawful : HaveInputOnce c.reads → (TakesTurns c.writing → ⊥) → ((a : c.Value) (most : ℕ) → c.IsCause a (refusals.ListLimit most) →
+      GoesAlong c.writing) → IsLawful c
   sound_lawful once apart listed = record {
     input = once;
     reading = exact.reading;

@@ -18,7 +18,8 @@ use Rattle.gf_frame.specs.Commands.{Writing, Command, WritesOnce, GoesAlong, IsW
 use Rattle.gf_frame.specs.Runs.{TakesTurns, AreCut, IsCarriedOut, IsDoneBy, IsStoppedBy, IsLeftInOutput, IsDoneOn, IsStoppedOn}
 use Rattle.gf_frame.proofs.CommandLaws.{IsLawful, refused_kind}
 
-carried_out : (c : Command) (writing : Writing c.Value) (texts : List (List ℕ)) (m : Seen) (o s : OutputSeen) (text : List ℕ) → (TakesTurns writing → ⊥) → IsAnswered c texts text → Appends o.held s.held text → IsCarriedOut c writing texts m m o s
+carried_out : (c : Command) (writing : Writing c.Value) (texts : List (List ℕ)) (m : Seen) (o s : OutputSeen) (text : List ℕ) → (TakesTurns writing → ⊥) →
+    IsAnswered c texts text → Appends o.held s.held text → IsCarriedOut c writing texts m m o s
 carried_out c Writing.at_end texts m o s text n a g = (refl, (text, a, g))
 carried_out c (Writing.as_it_goes whole begun) texts m o s text n a g = (refl, (text, a, g))
 carried_out c (Writing.in_turns turns) texts m o s text n a g = absurd (n tt)
@@ -32,7 +33,8 @@ module _ (c : Command) (p q : Seen) (texts : List (List ℕ)) (o s : OutputSeen)
   stopped_by r (IsStoppedOn.in_writing text w e rose part) = IsStoppedBy.in_writing texts text loaded w e rose part
 
 -- a refusal of a command that doesn't write as it goes leaves nothing
-pub nothing_left : (c : Command) → IsLawful c → (GoesAlong c.writing → ⊥) → (texts : List (List ℕ)) (o : OutputSeen) (r : Refusal) → IsRefusedOn c texts r → IsLeftInOutput c texts o o r
+pub nothing_left : (c : Command) → IsLawful c → (GoesAlong c.writing → ⊥) → (texts : List (List ℕ)) (o : OutputSeen) (r : Refusal) → IsRefusedOn c texts r →
+    IsLeftInOutput c texts o o r
 nothing_left c laws n texts o r h = at r (refused_kind c laws texts r h)
   where
     at : (r : Refusal) → IsOfWriting c.writing r → IsLeftInOutput c texts o o r
@@ -40,7 +42,8 @@ nothing_left c laws n texts o r h = at r (refused_kind c laws texts r h)
     at r k = inl (Keeps-refl o.held)
 
 -- so does any refusal but that at the limit of a list
-pub nothing_but_limit : (c : Command) (texts : List (List ℕ)) (o : OutputSeen) (r : Refusal) → ((most : ℕ) → r ≡ refusals.ListLimit most → ⊥) → IsLeftInOutput c texts o o r
+pub nothing_but_limit : (c : Command) (texts : List (List ℕ)) (o : OutputSeen) (r : Refusal) → ((most : ℕ) → r ≡ refusals.ListLimit most → ⊥) →
+    IsLeftInOutput c texts o o r
 nothing_but_limit c texts o (refusals.ListLimit most) n = absurd (n most refl)
 nothing_but_limit c texts o r n = inl (Keeps-refl o.held)
 
@@ -100,9 +103,11 @@ module _ (c : Command) (once : WritesOnce c.writing) (texts : List (List ℕ)) (
   once_done text a g e = record { text = text; answered = a; gained = g; calm = e; alone = once_alone c.writing once }
 
   -- a write of it fails
-  pub once_cut : (r : Refusal) (text : List ℕ) → IsAnswered c texts text → r ≡ refusals.WriteFault → Rose o.faults s.faults → AppendsPrefix o.held s.held text → IsStoppedOn c texts o s r
+  pub once_cut : (r : Refusal) (text : List ℕ) → IsAnswered c texts text → r ≡ refusals.WriteFault → Rose o.faults s.faults → AppendsPrefix o.held s.held text →
+      IsStoppedOn c texts o s r
   once_cut r text a e rose part = IsStoppedOn.in_writing text (answer_whole c texts text once a) e rose part
 
 -- it is refused before anything is written
-pub once_refused : (c : Command) → IsLawful c → WritesOnce c.writing → (texts : List (List ℕ)) (o : OutputSeen) (r : Refusal) → IsRefusedOn c texts r → IsStoppedOn c texts o o r
+pub once_refused : (c : Command) → IsLawful c → WritesOnce c.writing → (texts : List (List ℕ)) (o : OutputSeen) (r : Refusal) → IsRefusedOn c texts r →
+    IsStoppedOn c texts o o r
 once_refused c laws once texts o r h = IsStoppedOn.in_work h (nothing_left c laws (once_along c.writing once) texts o r h) refl

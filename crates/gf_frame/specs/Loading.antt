@@ -97,7 +97,8 @@ AreUnloaded (o ∷ os) p q r = IsUnloaded o p q r ⊎ ((t : List ℕ) × (m : Se
 -- the bytes of the source are known, and no fault of it is counted from before to now
 abbrev pub IsKnown : Origin → Seen → Seen → List ℕ → Type 0
 IsKnown Origin.the_input p q text = (p.input.left ≡ Some text) × (Rose p.input.faults q.input.faults → ⊥)
-IsKnown (Origin.a_file name) p q text = (p.files.bytes name ≡ Some text) × (Rose p.files.unopened q.files.unopened → ⊥) × (Rose p.files.faults q.files.faults → ⊥)
+IsKnown (Origin.a_file name) p q text = (p.files.bytes name ≡ Some text) × (Rose p.files.unopened q.files.unopened → ⊥) × (Rose p.files.faults q.files.faults →
+    ⊥)
 
 -- so it is with each of these sources, and these are their texts
 abbrev pub AreKnown : List Origin → Seen → Seen → List (List ℕ) → Type 0

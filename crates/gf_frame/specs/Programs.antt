@@ -91,16 +91,19 @@ pub record RunClauses (command_of : Job → Command) (words : List (List ℕ)) (
   pub fixed : (job : Job) (texts : List (List ℕ)) (refusal : Refusal) → IsJobOf words job → AreGivenTexts (command_of job) p q texts → IsFixed refusal
       → IsRefusedOn (command_of job) texts refusal → IsTestedWith status refusal
   -- any refusal that isn't of the words or the outside is one of the job for what is read
-  pub job : (refusal : Refusal) → status ≡ statuses.Refused refusal → (IsOfOutside refusal → ⊥) → OfJobAsked words (λ job. IsJobRefused (command_of job) p q o s refusal)
+  pub job : (refusal : Refusal) → status ≡ statuses.Refused refusal → (IsOfOutside refusal → ⊥) →
+      OfJobAsked words (λ job. IsJobRefused (command_of job) p q o s refusal)
   -- a list that comes to its limit has written just so many items, and goes on
   pub limit : (most : ℕ) → status ≡ statuses.Refused (refusals.ListLimit most) → OfJobAsked words (λ job. StandsAtLimit command_of job p q o s most)
   -- Usage exactly where the table has no match for the words
   pub usage : status ≡ statuses.Refused refusals.Usage → IsMatched words → ⊥
   pub usage_always : (IsMatched words → ⊥) → (status ≡ statuses.Refused refusals.Usage) ⊎ (status ≡ statuses.Refused refusals.Memory)
   -- a source that is too long is refused, and of any other no more is read than it may have
-  pub long : (job : Job) (texts : List (List ℕ)) → IsJobOf words job → AreKnown (command_of job).reads p q texts → IsSomeLong texts → IsRefusedWith status refusals.InputTooLong
+  pub long : (job : Job) (texts : List (List ℕ)) → IsJobOf words job → AreKnown (command_of job).reads p q texts → IsSomeLong texts →
+      IsRefusedWith status refusals.InputTooLong
   pub too_long : status ≡ statuses.Refused refusals.InputTooLong → OfJobAsked words (λ job. IsTooMuchTaken command_of job p q o s)
-  pub short : (job : Job) → IsJobOf words job → (TakesTurns (command_of job).writing → ⊥) → (status ≡ statuses.Refused refusals.InputTooLong → ⊥) → AreReadWithin (command_of job).reads p q
+  pub short : (job : Job) → IsJobOf words job → (TakesTurns (command_of job).writing → ⊥) → (status ≡ statuses.Refused refusals.InputTooLong → ⊥) →
+      AreReadWithin (command_of job).reads p q
   -- a refusal but of a write leaves nothing in the output, or the beginning of a text that is written as it goes
   pub quiet : (refusal : Refusal) → status ≡ statuses.Refused refusal → (refusal ≡ refusals.WriteFault → ⊥)
       → Keeps o.held s.held ⊎ OfJobAsked words (λ job. LeavesInOutput (command_of job) p q o s refusal)

@@ -36,7 +36,8 @@ IsLeftInOutput c texts o s r = Keeps o.held s.held ⊎ ((text : List ℕ) × IsB
 -- nothing is written for the texts; or the whole text is known, and a write of it fails
 pub data IsStoppedOn (c : Command) (texts : List (List ℕ)) (o s : OutputSeen) (r : Refusal) : Type 0 where
   in_work : IsRefusedOn c texts r → IsLeftInOutput c texts o s r → s.faults ≡ o.faults → IsStoppedOn c texts o s r
-  in_writing : (text : List ℕ) → IsWholeFor c texts text → r ≡ refusals.WriteFault → Rose o.faults s.faults → AppendsPrefix o.held s.held text → IsStoppedOn c texts o s r
+  in_writing : (text : List ℕ) → IsWholeFor c texts text → r ≡ refusals.WriteFault → Rose o.faults s.faults → AppendsPrefix o.held s.held text →
+      IsStoppedOn c texts o s r
 
 -- ---- done
 
@@ -67,9 +68,10 @@ AreCut c (Writing.in_turns turns) texts m q o s r =
 -- A source isn't loaded; or all are, and nothing is written for them, or a write fails, or the turns are cut off.
 pub data IsStoppedBy (c : Command) (p q : Seen) (o s : OutputSeen) (r : Refusal) : Type 0 where
   in_loading : AreUnloaded c.reads p q r → Keeps o.held s.held → s.faults ≡ o.faults → IsStoppedBy c p q o s r
-  in_work : (texts : List (List ℕ)) → AreLoaded c.reads p q texts → IsRefusedOn c texts r → IsLeftInOutput c texts o s r → s.faults ≡ o.faults → IsStoppedBy c p q o s r
-  in_writing : (texts : List (List ℕ)) (text : List ℕ) → AreLoaded c.reads p q texts → IsWholeFor c texts text → r ≡ refusals.WriteFault → Rose o.faults s.faults →
-      AppendsPrefix o.held s.held text → IsStoppedBy c p q o s r
+  in_work : (texts : List (List ℕ)) → AreLoaded c.reads p q texts → IsRefusedOn c texts r → IsLeftInOutput c texts o s r → s.faults ≡ o.faults →
+      IsStoppedBy c p q o s r
+  in_writing : (texts : List (List ℕ)) (text : List ℕ) → AreLoaded c.reads p q texts → IsWholeFor c texts text → r ≡ refusals.WriteFault →
+      Rose o.faults s.faults → AppendsPrefix o.held s.held text → IsStoppedBy c p q o s r
   in_turns : (texts : List (List ℕ)) (m : Seen) → AreLoaded c.reads p m texts → AreCut c c.writing texts m q o s r → IsStoppedBy c p q o s r
 
 -- ---- what is given
@@ -95,5 +97,6 @@ IsHeard (Writing.in_turns turns) p q = (source : List ℕ) × IsKnown Origin.the
 -- what stands in the output where no write failed: nothing, or the beginning of a text that is written as it goes, or the turns until then
 pub data LeavesInOutput (c : Command) (p q : Seen) (o s : OutputSeen) (r : Refusal) : Type 0 where
   nothing : Keeps o.held s.held → LeavesInOutput c p q o s r
-  beginning : (texts : List (List ℕ)) (text : List ℕ) → AreLoaded c.reads p q texts → IsBegunFor c texts text r → Appends o.held s.held text → LeavesInOutput c p q o s r
+  beginning : (texts : List (List ℕ)) (text : List ℕ) → AreLoaded c.reads p q texts → IsBegunFor c texts text r → Appends o.held s.held text →
+      LeavesInOutput c p q o s r
   turns : (texts : List (List ℕ)) (m : Seen) → AreLoaded c.reads p m texts → AreCut c c.writing texts m q o s r → LeavesInOutput c p q o s r

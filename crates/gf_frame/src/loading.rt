@@ -31,12 +31,16 @@ pub fn load_one<S: Source, F: Files>(
     files: &mut F,
 ) -> Result<Vec<u8>, Refusal>
     ensures loaded { IfOk result (λ text. IsLoaded (origin_of from.entry)
-        (seen (S.left input.old) (S.given input.old) (S.faults input.old) (F.bytes files.old) (F.left files.old) (F.given files.old) (F.unopened files.old) (F.faults files.old))
-        (seen (S.left input.new) (S.given input.new) (S.faults input.new) (F.bytes files.new) (F.left files.new) (F.given files.new) (F.unopened files.new) (F.faults files.new))
+        (seen (S.left input.old) (S.given input.old) (S.faults input.old) (F.bytes files.old) (F.left files.old) (F.given files.old) (F.unopened files.old)
+        (F.faults files.old))
+        (seen (S.left input.new) (S.given input.new) (S.faults input.new) (F.bytes files.new) (F.left files.new) (F.given files.new) (F.unopened files.new)
+        (F.faults files.new))
         text.items) }
     ensures unloaded { IfErr result (IsUnloaded (origin_of from.entry)
-        (seen (S.left input.old) (S.given input.old) (S.faults input.old) (F.bytes files.old) (F.left files.old) (F.given files.old) (F.unopened files.old) (F.faults files.old))
-        (seen (S.left input.new) (S.given input.new) (S.faults input.new) (F.bytes files.new) (F.left files.new) (F.given files.new) (F.unopened files.new) (F.faults files.new))) }
+        (seen (S.left input.old) (S.given input.old) (S.faults input.old) (F.bytes files.old) (F.left files.old) (F.given files.old) (F.unopened files.old)
+        (F.faults files.old))
+        (seen (S.left input.new) (S.given input.new) (S.faults input.new) (F.bytes files.new) (F.left files.new) (F.given files.new) (F.unopened files.new)
+        (F.faults files.new))) }
 
     // Of a file the input is as before, and of the input files are.
     ensures input_kept { (HaveInput (origin_of from.entry ∷ []) → ⊥) → input.new ≡ input.old }
@@ -72,12 +76,16 @@ pub fn load_all<S: Source, F: Files>(
     files: &mut F,
 ) -> Result<Vec<Vec<u8>>, Refusal>
     ensures loaded { IfOk result (λ texts. AreLoaded (origins_of sources.now)
-        (seen (S.left input.old) (S.given input.old) (S.faults input.old) (F.bytes files.old) (F.left files.old) (F.given files.old) (F.unopened files.old) (F.faults files.old))
-        (seen (S.left input.new) (S.given input.new) (S.faults input.new) (F.bytes files.new) (F.left files.new) (F.given files.new) (F.unopened files.new) (F.faults files.new))
+        (seen (S.left input.old) (S.given input.old) (S.faults input.old) (F.bytes files.old) (F.left files.old) (F.given files.old) (F.unopened files.old)
+        (F.faults files.old))
+        (seen (S.left input.new) (S.given input.new) (S.faults input.new) (F.bytes files.new) (F.left files.new) (F.given files.new) (F.unopened files.new)
+        (F.faults files.new))
         (texts_of texts.items)) }
     ensures unloaded { IfErr result (AreUnloaded (origins_of sources.now)
-        (seen (S.left input.old) (S.given input.old) (S.faults input.old) (F.bytes files.old) (F.left files.old) (F.given files.old) (F.unopened files.old) (F.faults files.old))
-        (seen (S.left input.new) (S.given input.new) (S.faults input.new) (F.bytes files.new) (F.left files.new) (F.given files.new) (F.unopened files.new) (F.faults files.new))) }
+        (seen (S.left input.old) (S.given input.old) (S.faults input.old) (F.bytes files.old) (F.left files.old) (F.given files.old) (F.unopened files.old)
+        (F.faults files.old))
+        (seen (S.left input.new) (S.given input.new) (S.faults input.new) (F.bytes files.new) (F.left files.new) (F.given files.new) (F.unopened files.new)
+        (F.faults files.new))) }
 
     // What isn't among them is as before.
     ensures input_kept { (HaveInput (origins_of sources.now) → ⊥) → input.new ≡ input.old }

@@ -1,6 +1,7 @@
 -- Words that the table has a match for name one of its commands, each of whose options holds what it takes.
 -- To cite: parsed_as, job_is, no_match, within_limits, choices_hold. The rest are steps.
-use Rattle.std.proofs.Common.{◌≡◌, ◌≤◌, ℕ, Bool, true, false, not, ◌&&◌, ◌||◌, cond, List, [], ◌∷◌, ◌++◌, Option, Some, None, is_some, codes, map, inl, inr, arith, refl, sym, ap, ◌∙◌, subst}
+use Rattle.std.proofs.Common.{◌≡◌, ◌≤◌, ℕ, Bool, true, false, not, ◌&&◌, ◌||◌, cond, List, [], ◌∷◌, ◌++◌, Option, Some, None, is_some, codes, map, inl, inr}
+use Rattle.std.proofs.Common.{arith, refl, sym, ap, ◌∙◌, subst}
 use Rattle.std.specs.Prelude.{min, option_map, option_and_then}
 use Rattle.std.specs.List.{find, list_all, list_any}
 use Rattle.std.specs.Str.{bytes_eq}
@@ -16,13 +17,16 @@ use Rattle.clap.specs.Takes.{is_given, value_passes}
 use Rattle.clap.specs.ValueTests.{is_unsigned_in}
 use Rattle.clap.specs.Kinds.{check_kinds, HasKind, IsAmong}
 use Rattle.clap.specs.Walk.{answers_to, nothing_held, walk, rows_after}
-use Rattle.clap.specs.Simple.{argument_words, built_leaf, entered, filled, filled_from, index_after, inherited, label_of, marked_built, names_of, with_index, with_leaf_noted}
+use Rattle.clap.specs.Simple.{argument_words, built_leaf, entered, filled, filled_from, index_after, inherited, label_of, marked_built, names_of, with_index}
+use Rattle.clap.specs.Simple.{with_leaf_noted}
 use Rattle.clap.specs.Faults.{check_fault, entered_fault}
 use Rattle.gf_front.specs.declared.command_line.Job.{Job}
 use Rattle.gf_front.specs.declared.choice.Choice.{Choice}
 use Rattle.gf_front.specs.declared.choice.Choice.TheVariants as choices
 use Rattle.gf_front.specs.declared.plain.PlainCommand.{PlainCommand}
-use Rattle.gf_front.specs.Table.{Entry, table, commands, with_options, plain_commands, rule, is_needed, shape, most_pairs, most_workers, most_ideal, usual_pairs, number_of, buchberger, bases, plain, leading_terms, groebner_cone, weight_vector, to_polyhedral_fan, tropical_intersection, fan_common_refinement, generated, saturation, interactive}
+use Rattle.gf_front.specs.Table.{Entry, table, commands, with_options, plain_commands, rule, is_needed, shape, most_pairs, most_workers, most_ideal}
+use Rattle.gf_front.specs.Table.{usual_pairs, number_of, buchberger, bases, plain, leading_terms, groebner_cone, weight_vector, to_polyhedral_fan}
+use Rattle.gf_front.specs.Table.{tropical_intersection, fan_common_refinement, generated, saturation, interactive}
 use Rattle.gf_front.specs.Jobs.{HasMatch, HasNumbersInRange, IsJobOfMatch, match_of, job_in, job_of}
 use Rattle.gf_front.specs.Options.{HoldsChoice, HoldChoices, LiesBetween, NamesEntry, IsCommand}
 use Rattle.gf_front.proofs.MatchLaws.{Enters, accepted, entered_rows, level_rows, rows_pass}
@@ -142,7 +146,8 @@ named_so o _ (IsOneOf.behind x os is) = by (bytes_eq x.0 o.0) (named_so o os is)
     by false e = e
 
 -- a value that is accepted for it is one of its own
-own_value : (o : Text × Choice) (v : Text) (os : List (Text × Choice)) (i : ℕ) → are_apart os ≡ true → IsOneOf o os → accepted (built_from i os) o.0 v ≡ true → takes o.1 v ≡ true
+own_value : (o : Text × Choice) (v : Text) (os : List (Text × Choice)) (i : ℕ) → are_apart os ≡ true → IsOneOf o os → accepted (built_from i os) o.0 v ≡ true →
+    takes o.1 v ≡ true
 own_value o v _ i apart (IsOneOf.at_head os) is =
     by (bytes_eq o.0 o.0) (value_passes (with_index i (filled (listed_rule o))) v) (accepted (built_from (index_after i (filled (listed_rule o))) os) o.0 v)
     (none_takes os (index_after i (filled (listed_rule o))) o.0 v (own_name (is_named o.0 os) (are_apart os) apart).0) (passes_as i o.0 o.1 v) is
@@ -173,17 +178,20 @@ needed_there true false n e = cc
 needed_there false given n e = cc
 
 -- the rows hold what the option takes
-choice_held : (c : List Rule) (id : Text) (o : Choice) (rows : List Row) → ((v : Text) → accepted c id v ≡ true → takes o v ≡ true) → rows_pass c rows ≡ true → (is_needed o && not (is_given id rows)) ≡ false
+choice_held : (c : List Rule) (id : Text) (o : Choice) (rows : List Row) → ((v : Text) → accepted c id v ≡ true → takes o v ≡ true) → rows_pass c rows ≡ true →
+    (is_needed o && not (is_given id rows)) ≡ false
     → HoldsChoice id o rows
 choice_held c id (choices.Letter letter) rows own ok there = is_flag c id rows own ok
 choice_held c id choices.Flag rows own ok there = is_flag c id rows own ok
 choice_held c id (choices.Number least most) rows own ok there = is_number c id least most rows own ok
 choice_held c id choices.File rows own ok there = tt
 choice_held c id choices.NeededFile rows own ok there = is_text c id rows ok (needed_there true (is_given id rows) refl there)
-choice_held c id (choices.BareNumber least most) rows own ok there = (is_number c id least most rows own ok, is_text c id rows ok (needed_there true (is_given id rows) refl there))
+choice_held c id (choices.BareNumber least most) rows own ok there =
+    (is_number c id least most rows own ok, is_text c id rows ok (needed_there true (is_given id rows) refl there))
 choice_held c id choices.BareFile rows own ok there = is_text c id rows ok (needed_there true (is_given id rows) refl there)
 
-choices_held : (c : List Rule) (os : List (Text × Choice)) (i : ℕ) (rows : List Row) → ((o : Text × Choice) → IsOneOf o os → (v : Text) → accepted c o.0 v ≡ true → takes o.1 v ≡ true)
+choices_held : (c : List Rule) (os : List (Text × Choice)) (i : ℕ) (rows : List Row) → ((o : Text × Choice) → IsOneOf o os → (v : Text) →
+    accepted c o.0 v ≡ true → takes o.1 v ≡ true)
     → rows_pass c rows ≡ true → lacks (built_from i os) rows ≡ false → HoldChoices os rows
 choices_held c [] i rows own ok there = tt
 choices_held c (o ∷ os) i rows own ok there =
@@ -193,7 +201,8 @@ choices_held c (o ∷ os) i rows own ok there =
     )
 
 -- the options of a command hold what they take
-options_held : (os : List (Text × Choice)) (rows : List Row) → are_apart os ≡ true → rows_pass (built_from 1 os) rows ≡ true → lacks (built_from 1 os) rows ≡ false → HoldChoices os rows
+options_held : (os : List (Text × Choice)) (rows : List Row) → are_apart os ≡ true → rows_pass (built_from 1 os) rows ≡ true →
+    lacks (built_from 1 os) rows ≡ false → HoldChoices os rows
 options_held os rows apart ok there = choices_held (built_from 1 os) os 1 rows (λ o among v. own_value o v os 1 apart among) ok there
 
 -- ---- entries
@@ -216,7 +225,8 @@ have_own_names [] = true
 have_own_names (e ∷ es) = not (list_any (λ (f : Entry). bytes_eq e.name f.name) es) && have_own_names es
 
 -- the command that is found is one of the entries
-entry_found : (es : List Entry) (p : Shape → Bool) (m : Text × List Row) (s : Shape) → have_options_apart es ≡ true → find p (map (λ e. as_built (shape e)) es) ≡ Some s → m.0 ≡ s.name
+entry_found : (es : List Entry) (p : Shape → Bool) (m : Text × List Row) (s : Shape) → have_options_apart es ≡ true →
+    find p (map (λ e. as_built (shape e)) es) ≡ Some s → m.0 ≡ s.name
     → rows_pass s.rules m.1 ≡ true → lacks s.rules m.1 ≡ false → NamesEntry es m
 entry_found [] p m s apart found name rows there = cc
 entry_found (e ∷ es) p m s apart found name rows there = by (p (as_built (shape e))) found (λ rest. entry_found es p m s each.1 rest name rows there)
@@ -224,7 +234,8 @@ entry_found (e ∷ es) p m s apart found name rows there = by (p (as_built (shap
     each : (are_apart e.options ≡ true) × (have_options_apart es ≡ true)
     each = and_parts (are_apart e.options) (have_options_apart es) apart
 
-    by : (b : Bool) → cond b (Some (as_built (shape e))) (find p (map (λ f. as_built (shape f)) es)) ≡ Some s → (find p (map (λ f. as_built (shape f)) es) ≡ Some s → NamesEntry es m) → NamesEntry (e ∷ es) m
+    by : (b : Bool) → cond b (Some (as_built (shape e))) (find p (map (λ f. as_built (shape f)) es)) ≡ Some s →
+        (find p (map (λ f. as_built (shape f)) es) ≡ Some s → NamesEntry es m) → NamesEntry (e ∷ es) m
     by true here later =
         let same : as_built (shape e) ≡ s = cc in
         let passing = subst (λ (z : Shape). rows_pass z.rules m.1 ≡ true) (sym same) rows in
@@ -233,7 +244,8 @@ entry_found (e ∷ es) p m s apart found name rows there = by (p (as_built (shap
     by false here later = inr (later here)
 
 -- an entry of another name isn't the command
-other_name : (es : List Entry) (name : Text) (m : Text × List Row) → list_any (λ (f : Entry). bytes_eq name f.name) es ≡ false → NamesEntry es m → m.0 ≡ name → ⊥
+other_name : (es : List Entry) (name : Text) (m : Text × List Row) → list_any (λ (f : Entry). bytes_eq name f.name) es ≡ false → NamesEntry es m → m.0 ≡ name →
+    ⊥
 other_name [] name m d h e = h
 other_name (f ∷ es) name m d (inl h) e =
     let yes = (bytes_eq-Decides name f.name).1 (sym e ∙ h.0) in
@@ -243,7 +255,8 @@ other_name (f ∷ es) name m d (inl h) e =
 other_name (f ∷ es) name m d (inr h) e = other_name es name m (or_parts (bytes_eq name f.name) (list_any (λ (g : Entry). bytes_eq name g.name) es) d).1 h e
 
 -- the numbers of its job are in their ranges
-limits_of : (es : List Entry) (m : Text × List Row) (job : Job) → AllKeepRanges es → have_own_names es ≡ true → NamesEntry es m → job_in es m ≡ Some job → HasNumbersInRange job
+limits_of : (es : List Entry) (m : Text × List Row) (job : Job) → AllKeepRanges es → have_own_names es ≡ true → NamesEntry es m → job_in es m ≡ Some job →
+    HasNumbersInRange job
 unfolding AllKeepRanges KeepsRanges
 limits_of [] m job sound own h is = absurd h
 limits_of (e ∷ es) m job sound own h is = by (bytes_eq m.0 e.name) refl is (λ k later. limits_of es m job sound.1 p.1 k later)
@@ -251,7 +264,8 @@ limits_of (e ∷ es) m job sound own h is = by (bytes_eq m.0 e.name) refl is (λ
     p : (list_any (λ (f : Entry). bytes_eq e.name f.name) es ≡ false) × (have_own_names es ≡ true)
     p = own_name (list_any (λ (f : Entry). bytes_eq e.name f.name) es) (have_own_names es) own
 
-    by : (b : Bool) → bytes_eq m.0 e.name ≡ b → cond b (Some (e.job m.1)) (job_in es m) ≡ Some job → (NamesEntry es m → job_in es m ≡ Some job → HasNumbersInRange job) → HasNumbersInRange job
+    by : (b : Bool) → bytes_eq m.0 e.name ≡ b → cond b (Some (e.job m.1)) (job_in es m) ≡ Some job →
+        (NamesEntry es m → job_in es m ≡ Some job → HasNumbersInRange job) → HasNumbersInRange job
     by true eq same later =
         let here : e.job m.1 ≡ job = cc in
         elim h [
@@ -263,7 +277,8 @@ limits_of (e ∷ es) m job sound own h is = by (bytes_eq m.0 e.name) refl is (λ
       | inr k ↦ later k same
     ]
 
-pairs_within : (rows : List Row) → LiesBetween (codes "pairs") 1 most_pairs rows → (1 ≤ number_of (codes "pairs") usual_pairs rows) × (number_of (codes "pairs") usual_pairs rows ≤ most_pairs)
+pairs_within : (rows : List Row) → LiesBetween (codes "pairs") 1 most_pairs rows →
+    (1 ≤ number_of (codes "pairs") usual_pairs rows) × (number_of (codes "pairs") usual_pairs rows ≤ most_pairs)
 pairs_within rows is = number_within (codes "pairs") 1 most_pairs usual_pairs rows is (omega arith) (omega arith)
 
 -- ---- each command
@@ -272,7 +287,8 @@ none_keep : AllKeepRanges []
 unfolding AllKeepRanges
 none_keep = tt
 
-next : (e : Entry) (es : List Entry) → ((rows : List Row) → HoldChoices e.options rows → HasNumbersInRange (e.job rows)) → AllKeepRanges es → AllKeepRanges (e ∷ es)
+next : (e : Entry) (es : List Entry) → ((rows : List Row) → HoldChoices e.options rows → HasNumbersInRange (e.job rows)) → AllKeepRanges es →
+    AllKeepRanges (e ∷ es)
 unfolding AllKeepRanges KeepsRanges
 next e es keeps rest = (keeps, rest)
 
@@ -329,7 +345,8 @@ options_apart : have_options_apart commands ≡ true
 options_apart = refl
 
 -- the options of a command that has an entry's name hold what the entry's take
-entry_holds : (es : List Entry) (e : Entry) (m : Text × List Row) → have_own_names es ≡ true → find (λ f. bytes_eq e.name f.name) es ≡ Some e → NamesEntry es m → m.0 ≡ e.name → HoldChoices e.options m.1
+entry_holds : (es : List Entry) (e : Entry) (m : Text × List Row) → have_own_names es ≡ true → find (λ f. bytes_eq e.name f.name) es ≡ Some e →
+    NamesEntry es m → m.0 ≡ e.name → HoldChoices e.options m.1
 entry_holds [] e m own found h same = absurd h
 entry_holds (f ∷ es) e m own found h same = by (bytes_eq e.name f.name) refl found h (λ is k. entry_holds es e m p.1 is k same)
   where
@@ -343,7 +360,8 @@ entry_holds (f ∷ es) e m own found h same = by (bytes_eq e.name f.name) refl f
     by false eq is (inl k) later = absurd (let yes = (bytes_eq-Decides e.name f.name).1 (sym same ∙ k.0) in let none : false ≡ true = sym eq ∙ yes in cc)
     by false eq is (inr k) later = later is k
 
-pub choices_hold : (e : Entry) (m : Text × List Row) → find (λ f. bytes_eq e.name f.name) commands ≡ Some e → IsCommand m → m.0 ≡ e.name → HoldChoices e.options m.1
+pub choices_hold : (e : Entry) (m : Text × List Row) → find (λ f. bytes_eq e.name f.name) commands ≡ Some e → IsCommand m → m.0 ≡ e.name →
+    HoldChoices e.options m.1
 choices_hold e m found h same = entry_holds commands e m own_names found h same
 
 -- ---- the job of a name
@@ -358,7 +376,8 @@ matched_command words e =
     let ws = argument_words table words in
     let stop = (walk program.top.rules (names_of program) nothing_held ws).stopped in
     let level = level_rows program.top (names_of program) ws (is_some (entered program stop)) (entered_fault program stop) refl e in
-    let there = some_of (entered program stop) (wanted program.top (rows_after program.top.rules (names_of program) ws) (is_some (entered program stop)) level.2) in
+    let there = some_of (entered program stop) (wanted program.top (rows_after program.top.rules (names_of program) ws) (is_some (entered program stop))
+    level.2) in
     (there.0, there.1, command_of there.0 (entered_rows program stop there.0 refl level.0 there.1))
 
 -- the same of the match that is known
@@ -390,7 +409,8 @@ pub record IsParsedAs (words : List Text) (m : Text × List Row) : Type 0 where
   pub match : match_of words ≡ Some m
   pub command : IsCommand m
 
-pub parsed_as : (a : App) (words : List Text) (p : ArgMatches) (name : Text) (rows : List Row) → a ≡ table → (is_simple_and_free a ≡ true → fault_of a words ≡ []) → HasMatchesOf a words p
+pub parsed_as : (a : App) (words : List Text) (p : ArgMatches) (name : Text) (rows : List Row) → a ≡ table →
+    (is_simple_and_free a ≡ true → fault_of a words ≡ []) → HasMatchesOf a words p
     → Some name ≡ subcommand_name_of p → Some rows ≡ option_map (λ (m : Text × List Row). m.1) (subcommand_rows_of p) → IsParsedAs words (name, rows)
 parsed_as a words p name rows is free has named held =
     let matched = subst (λ (b : App). is_simple_and_free b ≡ true → fault_of b words ≡ []) is free refl in
@@ -403,7 +423,8 @@ pub job_is : (words : List Text) (m : Text × List Row) (job : Job) → IsParsed
 job_is words m job p is = record { matched = p.matched; is = ap (option_and_then job_of) p.match ∙ is }
 
 -- an error that isn't want of memory comes only where the table has no match
-pub no_match : (a : App) (words : List Text) (e : Error) → a ≡ table → (is_simple_and_free a ≡ true → HasKind (fault_of a words) e) → (kind_of e ≡ kinds.OutOfMemory → ⊥) → HasMatch words → ⊥
+pub no_match : (a : App) (words : List Text) (e : Error) → a ≡ table → (is_simple_and_free a ≡ true → HasKind (fault_of a words) e) →
+    (kind_of e ≡ kinds.OutOfMemory → ⊥) → HasMatch words → ⊥
 no_match a words e is has other match = elim (subst (λ (b : App). is_simple_and_free b ≡ true → HasKind (fault_of b words) e) is has refl) [
   | inl m ↦ other m
   | inr k ↦ subst (IsAmong (kind_of e)) match k

@@ -15,7 +15,8 @@ use Rattle.gf_front.specs.Choices.{named_choice, choices_of, listed_shape, plain
 use Rattle.gf_front.specs.declared.plain.PlainCommand.{PlainCommand}
 
 -- one more option
-pub one_more : (c d : Command) (a : Arg) (name : Text) (options : List (Text × Choice)) (o : Text × Choice) → AddsArg c a d → a.global ≡ false → rule_of a ≡ rule o.0 o.1 → shape_of c ≡ shape_with name options
+pub one_more : (c d : Command) (a : Arg) (name : Text) (options : List (Text × Choice)) (o : Text × Choice) → AddsArg c a d → a.global ≡ false →
+    rule_of a ≡ rule o.0 o.1 → shape_of c ≡ shape_with name options
     → shape_of d ≡ shape_with name (options ++ o ∷ [])
 one_more c d a name options o adds local is so =
     ap (λ (p : App). p.top) (adds.shape local)
@@ -23,7 +24,8 @@ one_more c d a name options o adds local is so =
     ∙ ap (λ (r : Rule). record (new_shape name) { rules = map (λ x. rule x.0 x.1) options ++ r ∷ [] }) is
     ∙ ap (λ (rs : List Rule). record (new_shape name) { rules = rs }) (sym (map_push (λ x. rule x.0 x.1) options o))
 
-pub one_listed : (c d : Command) (a : Arg) (name : Text) (xs : List (Bor Text × Choice)) (i : ℕ) (x : Bor Text × Choice) → i < length xs → AddsArg c a d → a.global ≡ false
+pub one_listed : (c d : Command) (a : Arg) (name : Text) (xs : List (Bor Text × Choice)) (i : ℕ) (x : Bor Text × Choice) → i < length xs → AddsArg c a d →
+    a.global ≡ false
     → rule_of a ≡ rule (get_or xs i x).0.now (get_or xs i x).1
     → shape_of c ≡ shape_with name (choices_of (take i xs)) → shape_of d ≡ shape_with name (choices_of (take (i + 1) xs))
 one_listed c d a name xs i x l adds local is so =
@@ -34,7 +36,8 @@ pub still_local : (c d : Command) (a : Arg) → AddsArg c a d → a.global ≡ f
 still_local c d a adds local none = adds.globals ∙ ap (λ b. b || a.global) none ∙ local
 
 -- one more command
-one_command : {C : Type 0} (shape_of_listed : C → Shape) (a p q : App) (cs : List C) (i : ℕ) (d : C) → i < length cs → p ≡ fold with_subcommand a (map shape_of_listed (take i cs))
+one_command : {C : Type 0} (shape_of_listed : C → Shape) (a p q : App) (cs : List C) (i : ℕ) (d : C) → i < length cs →
+    p ≡ fold with_subcommand a (map shape_of_listed (take i cs))
     → q ≡ with_subcommand p (shape_of_listed (get_or cs i d)) → q ≡ fold with_subcommand a (map shape_of_listed (take (i + 1) cs))
 one_command s a p q cs i d l so is =
     is
@@ -42,10 +45,13 @@ one_command s a p q cs i d l so is =
     ∙ sym (fold-append with_subcommand a (map s (take i cs)) (s (get_or cs i d) ∷ []))
     ∙ ap (fold with_subcommand a) (sym (map_more s cs i d l))
 
-pub one_plain : (a p q : App) (cs : List (Bor Text × PlainCommand)) (i : ℕ) (d : Bor Text × PlainCommand) → i < length cs → p ≡ fold with_subcommand a (map plain_shape (take i cs))
+pub one_plain : (a p q : App) (cs : List (Bor Text × PlainCommand)) (i : ℕ) (d : Bor Text × PlainCommand) → i < length cs →
+    p ≡ fold with_subcommand a (map plain_shape (take i cs))
     → q ≡ with_subcommand p (plain_shape (get_or cs i d)) → q ≡ fold with_subcommand a (map plain_shape (take (i + 1) cs))
 one_plain a p q cs i d l so is = one_command plain_shape a p q cs i d l so is
 
-pub one_with_options : (a p q : App) (cs : List (Bor Text × Bor (List (Bor Text × Choice)))) (i : ℕ) (d : Bor Text × Bor (List (Bor Text × Choice))) → i < length cs
-    → p ≡ fold with_subcommand a (map listed_shape (take i cs)) → q ≡ with_subcommand p (listed_shape (get_or cs i d)) → q ≡ fold with_subcommand a (map listed_shape (take (i + 1) cs))
+pub one_with_options : (a p q : App) (cs : List (Bor Text × Bor (List (Bor Text × Choice)))) (i : ℕ) (d : Bor Text × Bor (List (Bor Text × Choice))) →
+    i < length cs
+    → p ≡ fold with_subcommand a (map listed_shape (take i cs)) → q ≡ with_subcommand p (listed_shape (get_or cs i d)) →
+    q ≡ fold with_subcommand a (map listed_shape (take (i + 1) cs))
 one_with_options a p q cs i d l so is = one_command listed_shape a p q cs i d l so is

@@ -12,11 +12,13 @@ HoldsFlag id rows = (text : Text) → one_of id rows ≡ Some text → (text ≡
 
 -- the value is a number of 64 bits, and it lies from `least` to `most`
 abbrev pub HoldsUnsigned : Text → List Row → Type 0
-HoldsUnsigned id rows = (text : Text) → one_of id rows ≡ Some text → IsNumeral 10 (without_leading_plus text) × (digits_value 10 (without_leading_plus text) < 2 ^ 64)
+HoldsUnsigned id rows = (text : Text) → one_of id rows ≡ Some text → IsNumeral 10 (without_leading_plus text) ×
+    (digits_value 10 (without_leading_plus text) < 2 ^ 64)
 
 -- the value lies from `least` to `most`
 abbrev pub LiesBetween : Text → ℕ → ℕ → List Row → Type 0
-LiesBetween id least most rows = (text : Text) → one_of id rows ≡ Some text → (least ≤ digits_value 10 (without_leading_plus text)) × (digits_value 10 (without_leading_plus text) ≤ most)
+LiesBetween id least most rows = (text : Text) → one_of id rows ≡ Some text → (least ≤ digits_value 10 (without_leading_plus text)) ×
+    (digits_value 10 (without_leading_plus text) ≤ most)
 
 -- so it is with a number that has these limits
 abbrev pub HoldsNumber : Text → ℕ → ℕ → List Row → Type 0

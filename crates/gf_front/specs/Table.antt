@@ -258,7 +258,8 @@ interactive = record {
 
 -- those with options
 abbrev pub with_options : List Entry
-with_options = buchberger ∷ bases ∷ leading_terms ∷ groebner_cone ∷ weight_vector ∷ to_polyhedral_fan ∷ tropical_intersection ∷ fan_common_refinement ∷ generated ∷ saturation ∷ interactive ∷ []
+with_options = buchberger ∷ bases ∷ leading_terms ∷ groebner_cone ∷ weight_vector ∷ to_polyhedral_fan ∷ tropical_intersection ∷ fan_common_refinement ∷
+    generated ∷ saturation ∷ interactive ∷ []
 
 -- those without options, by their names
 abbrev pub plain_commands : List (Text × PlainCommand)

@@ -95,11 +95,16 @@ in_order-binomial Less x y = record {
   second = Some y;
   binomial = record {
     equation = λ e.
-        ap (λ z. z +ℚ coefficient (plus_term x ∷ []) e) (sym (+ℚ-zero _) ∙ minus_at y e) ∙ ap (λ z. neg_ℚ (indicator (Some y) e) +ℚ z) (plus_at x e) ∙ +ℚ_comm _ _;
+        ap (λ z. z +ℚ coefficient (plus_term x ∷ []) e) (sym (+ℚ-zero _) ∙ minus_at y e) ∙ ap (λ z. neg_ℚ (indicator (Some y) e) +ℚ z) (plus_at x e) ∙
+        +ℚ_comm _ _;
   };
 }
 in_order-binomial Equal x y = record { first = None; second = None; binomial = record { equation = λ e. sym (+ℚ-neg_ℚ _) } }
-in_order-binomial Greater x y = record { first = Some x; second = Some y; binomial = record { equation = λ e. ap (λ z. indicator (Some x) e +ℚ z) (minus_at y e) } }
+in_order-binomial Greater x y = record {
+  first = Some x;
+  second = Some y;
+  binomial = record { equation = λ e. ap (λ z. indicator (Some x) e +ℚ z) (minus_at y e) };
+}
 
 -- ---- the generators
 
@@ -118,22 +123,30 @@ some_more a e = omega (arith, e)
 
 each_nonzero : (k : ℕ) → Each (λ f. f ≢ []) (generated_set k)
 each_nonzero k = (
-  difference-nonzero ((1 + rest_by_three k 1) ∷ 0 ∷ rest_by_three k 2 ∷ rest_by_three k 3 ∷ []) (0 ∷ (1 + rest_by_three k 4) ∷ 0 ∷ 0 ∷ []) 0 (some_more (rest_by_three k 1)),
+  difference-nonzero ((1 + rest_by_three k 1) ∷ 0 ∷ rest_by_three k 2 ∷ rest_by_three k 3 ∷ []) (0 ∷ (1 + rest_by_three k 4) ∷ 0 ∷ 0 ∷ []) 0
+      (some_more (rest_by_three k 1)),
   (
-    difference-nonzero (rest_by_three k 7 ∷ (1 + rest_by_three k 5) ∷ 0 ∷ rest_by_three k 6 ∷ []) (0 ∷ 0 ∷ (1 + rest_by_three k 8) ∷ 0 ∷ []) 1 (some_more (rest_by_three k 5)),
-    (difference-nonzero (rest_by_three k 10 ∷ rest_by_three k 11 ∷ (1 + rest_by_three k 9) ∷ 0 ∷ []) (0 ∷ 0 ∷ 0 ∷ (1 + rest_by_three k 12) ∷ []) 2 (some_more (rest_by_three k 9)), tt),
+    difference-nonzero (rest_by_three k 7 ∷ (1 + rest_by_three k 5) ∷ 0 ∷ rest_by_three k 6 ∷ []) (0 ∷ 0 ∷ (1 + rest_by_three k 8) ∷ 0 ∷ []) 1
+        (some_more (rest_by_three k 5)),
+    (
+      difference-nonzero (rest_by_three k 10 ∷ rest_by_three k 11 ∷ (1 + rest_by_three k 9) ∷ 0 ∷ []) (0 ∷ 0 ∷ 0 ∷ (1 + rest_by_three k 12) ∷ []) 2
+          (some_more (rest_by_three k 9)),
+      tt,
+    ),
   ),
 )
 
 -- ---- two of them
 
 zero_stands_for : generated_set 0 ≡
-    difference (1 ∷ 0 ∷ 0 ∷ 0 ∷ []) (0 ∷ 1 ∷ 0 ∷ 0 ∷ []) ∷ difference (0 ∷ 1 ∷ 0 ∷ 0 ∷ []) (0 ∷ 0 ∷ 1 ∷ 0 ∷ []) ∷ difference (0 ∷ 0 ∷ 1 ∷ 0 ∷ []) (0 ∷ 0 ∷ 0 ∷ 1 ∷ []) ∷ []
+    difference (1 ∷ 0 ∷ 0 ∷ 0 ∷ []) (0 ∷ 1 ∷ 0 ∷ 0 ∷ []) ∷ difference (0 ∷ 1 ∷ 0 ∷ 0 ∷ []) (0 ∷ 0 ∷ 1 ∷ 0 ∷ []) ∷
+    difference (0 ∷ 0 ∷ 1 ∷ 0 ∷ []) (0 ∷ 0 ∷ 0 ∷ 1 ∷ []) ∷ []
 unfolding number_after
 zero_stands_for = refl
 
 one_stands_for : generated_set 1 ≡
-    difference (2 ∷ 0 ∷ 0 ∷ 0 ∷ []) (0 ∷ 2 ∷ 0 ∷ 0 ∷ []) ∷ difference (2 ∷ 2 ∷ 0 ∷ 2 ∷ []) (0 ∷ 0 ∷ 3 ∷ 0 ∷ []) ∷ difference (2 ∷ 1 ∷ 3 ∷ 0 ∷ []) (0 ∷ 0 ∷ 0 ∷ 3 ∷ []) ∷ []
+    difference (2 ∷ 0 ∷ 0 ∷ 0 ∷ []) (0 ∷ 2 ∷ 0 ∷ 0 ∷ []) ∷ difference (2 ∷ 2 ∷ 0 ∷ 2 ∷ []) (0 ∷ 0 ∷ 3 ∷ 0 ∷ []) ∷
+    difference (2 ∷ 1 ∷ 3 ∷ 0 ∷ []) (0 ∷ 0 ∷ 0 ∷ 3 ∷ []) ∷ []
 unfolding number_after
 one_stands_for = refl
 

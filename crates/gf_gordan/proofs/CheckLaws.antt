@@ -1,5 +1,6 @@
 -- Sums of multiples one entry and one vector further, and what the checks of multipliers say together.
-use Rattle.std.proofs.Common.{◌≡◌, ℕ, zero, suc, ◌+◌, ◌<◌, ◌≤◌, List, [], ◌∷◌, ◌++◌, length, ℤ, pos, negsuc, ◌+ℤ◌, ◌*ℤ◌, ◌≤ℤ◌, arith, sym, refl, ap, ap₂, ◌∙◌, subst, take, drop, get_or, set, All, inl, inr, append_assoc}
+use Rattle.std.proofs.Common.{◌≡◌, ℕ, zero, suc, ◌+◌, ◌<◌, ◌≤◌, List, [], ◌∷◌, ◌++◌, length, ℤ, pos, negsuc, ◌+ℤ◌, ◌*ℤ◌, ◌≤ℤ◌, arith, sym, refl, ap, ap₂, ◌∙◌}
+use Rattle.std.proofs.Common.{subst, take, drop, get_or, set, All, inl, inr, append_assoc}
 use Rattle.std.specs.List.{AllByRecursion}
 use Rattle.std.proofs.lemmas.Int.{ints}
 use Rattle.std.proofs.lemmas.List.{take_more, drop_more, drop_all, length-take, get_or_at, set_at}
@@ -11,7 +12,8 @@ use Rattle.gf_gordan.specs.Alternative.{AreRows, IsFarkas}
 
 -- ---- a multiple that is added
 
-added-push : (m : ℤ) (ss xs : List ℤ) (s x : ℤ) → length ss ≡ length xs → vector_sum (ss ++ s ∷ []) (scaled m (xs ++ x ∷ [])) ≡ vector_sum ss (scaled m xs) ++ (s +ℤ m *ℤ x) ∷ []
+added-push : (m : ℤ) (ss xs : List ℤ) (s x : ℤ) → length ss ≡ length xs → vector_sum (ss ++ s ∷ []) (scaled m (xs ++ x ∷ [])) ≡ vector_sum ss (scaled m xs) ++
+    (s +ℤ m *ℤ x) ∷ []
 added-push m [] [] s x e = refl
 added-push m [] (y ∷ xs) s x e = absurd (omega arith)
 added-push m (z ∷ ss) [] s x e = absurd (omega arith)
@@ -23,10 +25,14 @@ pub record Added (m : ℤ) (xs start now : List ℤ) (i : ℕ) : Type 0 where
 
 front_len : (m : ℤ) (start xs : List ℤ) (i : ℕ) → i < length start → length start ≡ length xs → length (vector_sum (take i start) (scaled m (take i xs))) ≡ i
 front_len m start xs i h e =
-    length-plus (take i start) (scaled m (take i xs)) (omega (arith, length-take i start, length-take i xs, length-times m (take i xs))) ∙ omega (arith, length-take i start)
+    length-plus (take i start) (scaled m (take i xs)) (omega (arith, length-take i start, length-take i xs, length-times m (take i xs))) ∙ omega (
+      arith,
+      length-take i start,
+    )
 
 -- the entry at i is as it was
-pub Added-entry : (m : ℤ) (xs start now : List ℤ) (i : ℕ) → i < length start → length start ≡ length xs → Added m xs start now i → get_or now i (pos 0) ≡ get_or start i (pos 0)
+pub Added-entry : (m : ℤ) (xs start now : List ℤ) (i : ℕ) → i < length start → length start ≡ length xs → Added m xs start now i →
+    get_or now i (pos 0) ≡ get_or start i (pos 0)
 Added-entry m xs start now i h e a =
     ap (λ l. get_or l i (pos 0)) (a.items ∙ ap (λ l. vector_sum (take i start) (scaled m (take i xs)) ++ l) (drop_more start i (pos 0) h))
     ∙ get_or_at (vector_sum (take i start) (scaled m (take i xs))) (get_or start i (pos 0)) (drop (i + 1) start) (pos 0) i (front_len m start xs i h e)
@@ -37,9 +43,11 @@ Added-more m xs start now next i z h e ez en a =
     let k : i < length xs = omega arith in
     let front = vector_sum (take i start) (scaled m (take i xs)) in
     let more : vector_sum (take (i + 1) start) (scaled m (take (i + 1) xs)) ≡ front ++ z ∷ [] =
-    rw (take_more start i (pos 0) h, take_more xs i (pos 0) k, ez) (added-push m (take i start) (take i xs) _ _ (omega (arith, length-take i start, length-take i xs))) in
+    rw (take_more start i (pos 0) h, take_more xs i (pos 0) k, ez) (added-push m (take i start) (take i xs) _ _
+    (omega (arith, length-take i start, length-take i xs))) in
     record {
-      items = en ∙ ap (λ l. set l i z) (a.items ∙ ap (λ l. front ++ l) (drop_more start i (pos 0) h)) ∙ set_at front (get_or start i (pos 0)) (drop (i + 1) start) z i (front_len m start xs i h e)
+      items = en ∙ ap (λ l. set l i z) (a.items ∙ ap (λ l. front ++ l) (drop_more start i (pos 0) h)) ∙ set_at front (get_or start i (pos 0))
+          (drop (i + 1) start) z i (front_len m start xs i h e)
           ∙ sym (append_assoc front (z ∷ []) (drop (i + 1) start)) ∙ ap (λ l. l ++ drop (i + 1) start) (sym more);
     }
 
@@ -58,14 +66,16 @@ left_len : (n : ℕ) (ms : List ℤ) (ts : List (List ℤ)) (i : ℕ) → AreRow
 left_len n ms ts i w = length-combined n (drop i ms) (drop i ts) (recursion_from_All (λ t. length t ≡ n) (drop i ts) (All-drop (λ t. length t ≡ n) i ts w))
 
 -- one vector further
-pub Combining-more : (ms : List ℤ) (ts : List (List ℤ)) (start now next : List ℤ) (i : ℕ) (m : ℤ) (t : List ℤ) → i < length ms → length ms ≡ length ts → AreRows (length start) ts →
-    m ≡ get_or ms i (pos 0) → t ≡ get_or ts i [] → next ≡ vector_sum now (scaled m t) → Combining ms ts start now i → Combining ms ts start next (i + 1)
+pub Combining-more : (ms : List ℤ) (ts : List (List ℤ)) (start now next : List ℤ) (i : ℕ) (m : ℤ) (t : List ℤ) → i < length ms → length ms ≡ length ts →
+    AreRows (length start) ts → m ≡ get_or ms i (pos 0) → t ≡ get_or ts i [] → next ≡ vector_sum now (scaled m t) → Combining ms ts start now i →
+    Combining ms ts start next (i + 1)
 Combining-more ms ts start now next i m t h e w em et en c =
     let n = length start in
     let lt : length t ≡ n = ap length et ∙ w i [] (omega arith) in
     record {
       len = ap length en ∙ length-plus now (scaled m t) (omega (arith, c.len, lt, length-times m t)) ∙ c.len;
-      whole = ap (λ l. vector_sum l (combined n (drop (i + 1) ms) (drop (i + 1) ts))) en ∙ plus_assoc now (scaled m t) _ ∙ ap (λ l. vector_sum now l) (ap₂ (λ a b. vector_sum (scaled a b) (combined n (drop (i + 1) ms) (drop (i + 1) ts))) em et ∙ sym (combined_more n ms ts i h e)) ∙ c.whole;
+      whole = ap (λ l. vector_sum l (combined n (drop (i + 1) ms) (drop (i + 1) ts))) en ∙ plus_assoc now (scaled m t) _ ∙ ap (λ l. vector_sum now l)
+          (ap₂ (λ a b. vector_sum (scaled a b) (combined n (drop (i + 1) ms) (drop (i + 1) ts))) em et ∙ sym (combined_more n ms ts i h e)) ∙ c.whole;
     }
 
 -- and past a vector that isn't taken
@@ -76,12 +86,15 @@ Combining-skip ms ts start now i h e w z c =
     let t = get_or ts i [] in
     let lt : length t ≡ n = w i [] (omega arith) in
     let none : vector_sum (scaled (get_or ms i (pos 0)) t) (combined n (drop (i + 1) ms) (drop (i + 1) ts)) ≡ combined n (drop (i + 1) ms) (drop (i + 1) ts) =
-    ap (λ a. vector_sum (scaled a t) (combined n (drop (i + 1) ms) (drop (i + 1) ts))) z ∙ ap (λ l. vector_sum l (combined n (drop (i + 1) ms) (drop (i + 1) ts))) (zero-times t ∙ ap zeros lt) ∙ zeros-plus n _ (left_len n ms ts (i + 1) w) in
+    ap (λ a. vector_sum (scaled a t) (combined n (drop (i + 1) ms) (drop (i + 1) ts))) z ∙
+    ap (λ l. vector_sum l (combined n (drop (i + 1) ms) (drop (i + 1) ts))) (zero-times t ∙ ap zeros lt) ∙ zeros-plus n _ (left_len n ms ts (i + 1) w) in
     record { len = c.len; whole = ap (λ l. vector_sum now l) (sym (combined_more n ms ts i h e ∙ none)) ∙ c.whole }
 
-pub Combining-all : (ms : List ℤ) (ts : List (List ℤ)) (start now : List ℤ) (i : ℕ) → length ms ≤ i → length ms ≡ length ts → Combining ms ts start now i → now ≡ vector_sum start (combined (length start) ms ts)
+pub Combining-all : (ms : List ℤ) (ts : List (List ℤ)) (start now : List ℤ) (i : ℕ) → length ms ≤ i → length ms ≡ length ts → Combining ms ts start now i →
+    now ≡ vector_sum start (combined (length start) ms ts)
 Combining-all ms ts start now i h e c =
-    sym (plus-zeros (length start) now c.len) ∙ ap₂ (λ a b. vector_sum now (combined (length start) a b)) (sym (drop_all i ms h)) (sym (drop_all i ts (omega arith))) ∙ c.whole
+    sym (plus-zeros (length start) now c.len) ∙ ap₂ (λ a b. vector_sum now (combined (length start) a b)) (sym (drop_all i ms h))
+    (sym (drop_all i ts (omega arith))) ∙ c.whole
 
 -- ---- the checks together
 
@@ -105,8 +118,9 @@ positive_not_zero (x ∷ xs) (inl p) z = let e = z.0 in omega (arith, ints)
 positive_not_zero (x ∷ xs) (inr s) z = positive_not_zero xs s z.1
 
 -- what the checks of multipliers say together
-pub IsFarkas-checked : (n : ℕ) (rows equations : List (List ℤ)) (ms es : List ℤ) → length ms ≡ length rows → length es ≡ length equations → All (λ m. pos 0 ≤ℤ m) ms → (All (λ m. m ≡ pos 0) ms → ⊥) →
-    IsContent (ms ++ es) 1 → vector_sum (combined n ms rows) (combined n es equations) ≡ zeros n → IsFarkas n rows equations ms es
+pub IsFarkas-checked : (n : ℕ) (rows equations : List (List ℤ)) (ms es : List ℤ) → length ms ≡ length rows → length es ≡ length equations →
+    All (λ m. pos 0 ≤ℤ m) ms → (All (λ m. m ≡ pos 0) ms → ⊥) → IsContent (ms ++ es) 1 → vector_sum (combined n ms rows) (combined n es equations) ≡ zeros n →
+    IsFarkas n rows equations ms es
 IsFarkas-checked n rows equations ms es lm le h k d z = record {
   rows_len = lm;
   equations_len = le;
@@ -121,7 +135,8 @@ pub IsFarkas-not_zero : (n : ℕ) (rows equations : List (List ℤ)) (ms es : Li
 IsFarkas-not_zero n rows equations ms es f z = positive_not_zero ms f.not_all_zero (recursion_from_All (λ m. m ≡ pos 0) ms z)
 
 -- the sum at the end of both loops
-pub both_sums : (n : ℕ) (start first second a b : List ℤ) → start ≡ zeros n → length a ≡ n → first ≡ vector_sum start a → second ≡ vector_sum first b → second ≡ vector_sum a b
+pub both_sums : (n : ℕ) (start first second a b : List ℤ) → start ≡ zeros n → length a ≡ n → first ≡ vector_sum start a → second ≡ vector_sum first b →
+    second ≡ vector_sum a b
 both_sums n start first second a b es la e f = f ∙ ap (λ l. vector_sum l b) (e ∙ ap (λ l. vector_sum l a) es ∙ zeros-plus n a la)
 
 -- a list of n zeros

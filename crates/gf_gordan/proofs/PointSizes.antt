@@ -49,8 +49,10 @@ pub lifted_up : (n b q : ℕ) (r : List ℤ) (j : ℕ) (v : List ℤ) → IsPivo
 lifted_up n b q r j v p l u k =
     let size = up_times (size_at r j) b q v (size_up b r j u) k in
     let d = dot_up (suc n) b q (remove r j) v (omega (arith, l, length-remove_lem r j p.inside)) (up_remove b r j u) k in
-    let x = product_up (neg_ℤ (int_signum (entry_at r j))) (dot (remove r j) v) 1 (lift_bound n b q) (neg_up (int_signum (entry_at r j)) 1 (signum_up (entry_at r j))) d in
-    up_insert (lift_bound n b q) (scaled (size_at r j) v) j (neg_ℤ (int_signum (entry_at r j)) *ℤ dot (remove r j) v) (omega (arith, x)) (up_weaker (b * q) (lift_bound n b q) _ (grown n (b * q)) size)
+    let x = product_up (neg_ℤ (int_signum (entry_at r j))) (dot (remove r j) v) 1 (lift_bound n b q)
+    (neg_up (int_signum (entry_at r j)) 1 (signum_up (entry_at r j))) d in
+    up_insert (lift_bound n b q) (scaled (size_at r j) v) j (neg_ℤ (int_signum (entry_at r j)) *ℤ dot (remove r j) v)
+    (omega (arith, x)) (up_weaker (b * q) (lift_bound n b q) _ (grown n (b * q)) size)
 
 -- ---- a pushed point
 
@@ -64,11 +66,13 @@ greatest_up n b (t ∷ ts) r z u =
 pub factor_up : (n b : ℕ) (rows : List (List ℤ)) (r : List ℤ) → Sized n b rows → UpTo b r → unsigned_abs (push_factor rows r) ≤ 1 + n * (b * b)
 factor_up n b rows r z u = let g = greatest_up n b rows r z u in omega (arith, g)
 
-pushed_up : (n b q : ℕ) (rows : List (List ℤ)) (r : List ℤ) (j : ℕ) (v u : List ℤ) → IsPivot r j → Sized (suc n) b rows → length r ≡ n + 1 → UpTo b r → UpTo q v → IsPushed rows r j v u → UpTo ((1 + suc n * (b * b)) * lift_bound n b q + b) u
+pushed_up : (n b q : ℕ) (rows : List (List ℤ)) (r : List ℤ) (j : ℕ) (v u : List ℤ) → IsPivot r j → Sized (suc n) b rows → length r ≡ n + 1 → UpTo b r →
+    UpTo q v → IsPushed rows r j v u → UpTo ((1 + suc n * (b * b)) * lift_bound n b q + b) u
 pushed_up n b q rows r j v u p z l ur uv h =
     up_divided _ _ u h.0 h.1
     (up_sum ((1 + suc n * (b * b)) * lift_bound n b q) b (scaled (push_factor rows r) (lifted r j v)) r
-    (up_times (push_factor rows r) (1 + suc n * (b * b)) (lift_bound n b q) (lifted r j v) (factor_up (suc n) b rows r z ur) (lifted_up n b q r j v p l ur uv)) ur)
+    (up_times (push_factor rows r) (1 + suc n * (b * b)) (lift_bound n b q) (lifted r j v) (factor_up (suc n) b rows r z ur) (lifted_up n b q r j v p l ur uv))
+    ur)
 
 pub more : (n : ℕ) → n + 1 ≡ suc n
 more n = omega arith
@@ -83,7 +87,8 @@ point_up n b rows u z (pushed m old r j cs below last v x k whole ek e piv sys p
     let l = last_long (m + 1) b old r zs in
     let ur = last_up (m + 1) b old r zs in
     let q = point_up m (below_bound m b) below v (Sized-below m b r j old cs below piv l ur zo sys) p in
-    subst (λ i. UpTo (point_bound i b) x) (sym (ek ∙ more m)) (pushed_up m b (point_bound m (below_bound m b)) old r j v x piv (subst (λ i. Sized i b old) (more m) zo) l ur q push)
+    subst (λ i. UpTo (point_bound i b) x) (sym (ek ∙ more m)) (pushed_up m b (point_bound m (below_bound m b)) old r j v x piv
+    (subst (λ i. Sized i b old) (more m) zo) l ur q push)
 
 grown_point : (f l b : ℕ) → l ≤ (1 + f) * l + b
 grown_point f l b = omega arith
@@ -92,7 +97,8 @@ grown_point f l b = omega arith
 pub point_on_up : (n b : ℕ) (rows es : List (List ℤ)) (u : List ℤ) → Sized n b (rows ++ es) → IsPointOn n rows es u → UpTo (point_bound n b) u
 point_on_up n b rows es u z (equations.plain m old v p) = point_up m b old v (Sized-front m b old [] z) p
 point_on_up n b rows es u z (equations.dropped m old fs e v whole s none p) =
-    point_on_up m b old fs v (Sized-append m b old fs (Sized-front m b old whole z) (Sized-front m b fs (e ∷ []) (subst (Sized m b) s (Sized-back m b old whole z)))) p
+    point_on_up m b old fs v (Sized-append m b old fs (Sized-front m b old whole z)
+    (Sized-front m b fs (e ∷ []) (subst (Sized m b) s (Sized-back m b old whole z)))) p
 point_on_up n b rows es u z (equations.raised m old fs e j cs by_rows by_es v k whole ek s piv sys p) =
     let ze : Sized (m + 1) b (fs ++ e ∷ []) = subst (λ i. Sized i b (fs ++ e ∷ [])) ek (subst (Sized k b) s (Sized-back k b old whole z)) in
     let zo : Sized (m + 1) b old = subst (λ i. Sized i b old) ek (Sized-front k b old whole z) in
@@ -101,4 +107,5 @@ point_on_up n b rows es u z (equations.raised m old fs e j cs by_rows by_es v k 
     let ue = last_up (m + 1) b fs e ze in
     let q = point_on_up m (below_bound m b) by_rows by_es v (Sized-below m b e j (old ++ fs) cs (by_rows ++ by_es) piv l ue zs sys.system) p in
     let t = lifted_up m b (point_bound m (below_bound m b)) e j v piv l ue q in
-    subst (λ i. UpTo (point_bound i b) (lifted e j v)) (sym (ek ∙ more m)) (up_weaker _ _ (lifted e j v) (grown_point (suc m * (b * b)) (lift_bound m b (point_bound m (below_bound m b))) b) t)
+    subst (λ i. UpTo (point_bound i b) (lifted e j v)) (sym (ek ∙ more m))
+    (up_weaker _ _ (lifted e j v) (grown_point (suc m * (b * b)) (lift_bound m b (point_bound m (below_bound m b))) b) t)

@@ -1,5 +1,6 @@
 -- How large the entries and contents of the system by a vector are.
-use Rattle.std.proofs.Common.{◌≡◌, ◌≢◌, ℕ, zero, suc, ◌+◌, ◌*◌, ◌≤◌, List, [], ◌∷◌, length, ℤ, pos, negsuc, neg_ℤ, ◌<ℤ◌, arith, sym, refl, subst, unsigned_abs, inl, inr, ◌⊎◌, remove}
+use Rattle.std.proofs.Common.{◌≡◌, ◌≢◌, ℕ, zero, suc, ◌+◌, ◌*◌, ◌≤◌, List, [], ◌∷◌, length, ℤ, pos, negsuc, neg_ℤ, ◌<ℤ◌, arith, sym, refl, subst, unsigned_abs}
+use Rattle.std.proofs.Common.{inl, inr, ◌⊎◌, remove}
 use Rattle.std.specs.Int.{int_signum, ◌∣◌}
 use Rattle.std.specs.List.{AllByRecursion}
 use Rattle.std.proofs.lemmas.Int.{ints}
@@ -104,7 +105,8 @@ below_up zero b w u c l d k = single_up u (omega arith) (primitive_of w u (c, d)
 below_up (suc zero) b w u c l d k = single_up u (omega arith) (primitive_of w u (c, d))
 below_up (suc (suc n)) b w u c l d k = up_divided (twice b) w u c d k
 
-entries_below : (n b : ℕ) (r : List ℤ) (j : ℕ) (rows : List (List ℤ)) (cs : List ℤ) (below : List (List ℤ)) → UpTo b r → AllByRecursion (UpTo b) rows → HaveWidth n below → IsSystemBy r j rows cs below → AllByRecursion (UpTo (below_bound n b)) below
+entries_below : (n b : ℕ) (r : List ℤ) (j : ℕ) (rows : List (List ℤ)) (cs : List ℤ) (below : List (List ℤ)) → UpTo b r → AllByRecursion (UpTo b) rows →
+    HaveWidth n below → IsSystemBy r j rows cs below → AllByRecursion (UpTo (below_bound n b)) below
 entries_below n b r j [] [] [] u k w s = tt
 entries_below n b r j [] [] (d ∷ bs) u k w s = absurd s
 entries_below n b r j [] (c ∷ cs) below u k w s = absurd s
@@ -114,7 +116,8 @@ entries_below n b r j (t ∷ ts) (c ∷ cs) (d ∷ bs) u k w s =
     (below_up n b (reduced_by r j t) d c w.0 s.0 (reduced_up b r j t u k.0), entries_below n b r j ts cs bs u k.1 w.1 s.1)
 
 -- the system by r
-pub Sized-below : (n b : ℕ) (r : List ℤ) (j : ℕ) (rows : List (List ℤ)) (cs : List ℤ) (below : List (List ℤ)) → IsPivot r j → length r ≡ n + 1 → UpTo b r → Sized (n + 1) b rows → IsSystemBy r j rows cs below → Sized n (below_bound n b) below
+pub Sized-below : (n b : ℕ) (r : List ℤ) (j : ℕ) (rows : List (List ℤ)) (cs : List ℤ) (below : List (List ℤ)) → IsPivot r j → length r ≡ n + 1 → UpTo b r →
+    Sized (n + 1) b rows → IsSystemBy r j rows cs below → Sized n (below_bound n b) below
 Sized-below n b r j rows cs below p l u z s =
     let w = HaveWidth-below r j n rows cs below p.inside l z.widths s in
     record { widths = w; entries = entries_below n b r j rows cs below u z.entries w s }
@@ -126,14 +129,17 @@ IsSmallContent m c = (pos 0 <ℤ c) × (unsigned_abs c ≤ m)
 pub one_twice : (b : ℕ) → 1 ≤ b → 1 ≤ twice b
 one_twice b h = let k : 1 * 1 ≤ b * b = mul-le-mul h h in omega (arith, k)
 
-pub contents_up : (b : ℕ) (r : List ℤ) (j : ℕ) (rows : List (List ℤ)) (cs : List ℤ) (below : List (List ℤ)) → 1 ≤ b → UpTo b r → AllByRecursion (UpTo b) rows → IsSystemBy r j rows cs below → AllByRecursion (IsSmallContent (twice b)) cs
+pub contents_up : (b : ℕ) (r : List ℤ) (j : ℕ) (rows : List (List ℤ)) (cs : List ℤ) (below : List (List ℤ)) → 1 ≤ b → UpTo b r → AllByRecursion (UpTo b) rows →
+    IsSystemBy r j rows cs below → AllByRecursion (IsSmallContent (twice b)) cs
 contents_up b r j [] [] [] h u k s = tt
 contents_up b r j [] [] (d ∷ bs) h u k s = absurd s
 contents_up b r j [] (c ∷ cs) below h u k s = absurd s
 contents_up b r j (t ∷ ts) [] below h u k s = absurd s
 contents_up b r j (t ∷ ts) (c ∷ cs) [] h u k s = absurd s
-contents_up b r j (t ∷ ts) (c ∷ cs) (d ∷ bs) h u k s =
-    ((s.0.positive, content_up (twice b) (reduced_by r j t) (unsigned_abs c) (one_twice b h) s.0.content (reduced_up b r j t u k.0)), contents_up b r j ts cs bs h u k.1 s.1)
+contents_up b r j (t ∷ ts) (c ∷ cs) (d ∷ bs) h u k s = (
+  (s.0.positive, content_up (twice b) (reduced_by r j t) (unsigned_abs c) (one_twice b h) s.0.content (reduced_up b r j t u k.0)),
+  contents_up b r j ts cs bs h u k.1 s.1,
+)
 
 pub column_up : (b : ℕ) (j : ℕ) (rows : List (List ℤ)) → AllByRecursion (UpTo b) rows → UpTo b (column j rows)
 column_up b j [] k = up_none b

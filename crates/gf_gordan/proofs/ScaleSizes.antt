@@ -1,5 +1,6 @@
 -- How many multipliers of the recursion aren't zero, how large the scale is, and how often a vector is taken.
-use Rattle.std.proofs.Common.{◌≡◌, ◌≢◌, ℕ, zero, suc, ◌+◌, ◌*◌, ◌<◌, ◌≤◌, ◌/◌, List, [], ◌∷◌, ◌++◌, length, ℤ, pos, negsuc, ◌*ℤ◌, neg_ℤ, ◌<ℤ◌, arith, refl, take, unsigned_abs, int_div}
+use Rattle.std.proofs.Common.{◌≡◌, ◌≢◌, ℕ, zero, suc, ◌+◌, ◌*◌, ◌<◌, ◌≤◌, ◌/◌, List, [], ◌∷◌, ◌++◌, length, ℤ, pos, negsuc, ◌*ℤ◌, neg_ℤ, ◌<ℤ◌, arith, refl}
+use Rattle.std.proofs.Common.{take, unsigned_abs, int_div}
 use Rattle.std.specs.List.{AllByRecursion}
 use Rattle.std.proofs.lemmas.Int.{ints}
 use Rattle.std.proofs.Math.IntN.{zero-*ℤ, *ℤ-zero}
@@ -126,27 +127,32 @@ next_size : (t s m p x : ℕ) → x ≤ t * p → t ≤ s * m → x ≤ s * (m *
 next_size t s m p x h k = let l : t * p ≤ s * m * p = mul-le-mul_right p k in omega (arith, l, h)
 
 -- it is at most the product of the contents whose multipliers aren't zero
-pub scale_up : (m n : ℕ) (s : ℤ) (cs ms : List ℤ) → 1 ≤ m → AllByRecursion (IsSmallContent m) cs → used ms ≤ n → unsigned_abs (scale_from s cs ms) ≤ unsigned_abs s * power m n
+pub scale_up : (m n : ℕ) (s : ℤ) (cs ms : List ℤ) → 1 ≤ m → AllByRecursion (IsSmallContent m) cs → used ms ≤ n →
+    unsigned_abs (scale_from s cs ms) ≤ unsigned_abs s * power m n
 scale_up m n s [] ms h k u = same_size s (power m n) (power_one m n h)
 scale_up m n s (c ∷ cs) [] h k u = same_size s (power m n) (power_one m n h)
 scale_up m n s (c ∷ cs) (pos zero ∷ ms) h k u = scale_up m n s cs ms h k.1 (omega arith)
 scale_up m zero s (c ∷ cs) (pos (suc x) ∷ ms) h k u = absurd (omega arith)
 scale_up m (suc n) s (c ∷ cs) (pos (suc x) ∷ ms) h k u =
-    next_size (unsigned_abs (scale_part s c *ℤ c)) (unsigned_abs s) m (power m n) _ (scale_up m n (scale_part s c *ℤ c) cs ms h k.1 (omega arith)) (joined_up s c m k.0.1)
+    next_size (unsigned_abs (scale_part s c *ℤ c)) (unsigned_abs s) m (power m n) _ (scale_up m n (scale_part s c *ℤ c) cs ms h k.1 (omega arith))
+    (joined_up s c m k.0.1)
 scale_up m zero s (c ∷ cs) (negsuc x ∷ ms) h k u = absurd (omega arith)
 scale_up m (suc n) s (c ∷ cs) (negsuc x ∷ ms) h k u =
-    next_size (unsigned_abs (scale_part s c *ℤ c)) (unsigned_abs s) m (power m n) _ (scale_up m n (scale_part s c *ℤ c) cs ms h k.1 (omega arith)) (joined_up s c m k.0.1)
+    next_size (unsigned_abs (scale_part s c *ℤ c)) (unsigned_abs s) m (power m n) _ (scale_up m n (scale_part s c *ℤ c) cs ms h k.1 (omega arith))
+    (joined_up s c m k.0.1)
 
 skip_size : (t s m c p x : ℕ) → x ≤ t * (c * p) → t ≤ s * m → x ≤ s * (c * (m * p))
 skip_size t s m c p x h k = let l : t * (c * p) ≤ s * m * (c * p) = mul-le-mul_right (c * p) k in omega (arith, l, h)
 
-scale_here : (m n : ℕ) (s c : ℤ) (cs ms : List ℤ) → 1 ≤ m → AllByRecursion (IsSmallContent m) cs → used ms ≤ n → unsigned_abs (scale_from (scale_part s c *ℤ c) cs ms) ≤ unsigned_abs s * (unsigned_abs c * power m n)
+scale_here : (m n : ℕ) (s c : ℤ) (cs ms : List ℤ) → 1 ≤ m → AllByRecursion (IsSmallContent m) cs → used ms ≤ n →
+    unsigned_abs (scale_from (scale_part s c *ℤ c) cs ms) ≤ unsigned_abs s * (unsigned_abs c * power m n)
 scale_here m n s c cs ms h k u =
-    next_size (unsigned_abs (scale_part s c *ℤ c)) (unsigned_abs s) (unsigned_abs c) (power m n) _ (scale_up m n (scale_part s c *ℤ c) cs ms h k u) (joined_up s c (unsigned_abs c) (omega arith))
+    next_size (unsigned_abs (scale_part s c *ℤ c)) (unsigned_abs s) (unsigned_abs c) (power m n) _ (scale_up m n (scale_part s c *ℤ c) cs ms h k u)
+    (joined_up s c (unsigned_abs c) (omega arith))
 
 -- it is at most so many times each of these contents
-pub scale_at : (m n : ℕ) (s : ℤ) (cs ms : List ℤ) (i : ℕ) → 1 ≤ m → AllByRecursion (IsSmallContent m) cs → length cs ≡ length ms → i < length ms → entry_at ms i ≢ pos 0 → used ms ≤ suc n →
-    unsigned_abs (scale_from s cs ms) ≤ unsigned_abs s * (unsigned_abs (entry_at cs i) * power m n)
+pub scale_at : (m n : ℕ) (s : ℤ) (cs ms : List ℤ) (i : ℕ) → 1 ≤ m → AllByRecursion (IsSmallContent m) cs → length cs ≡ length ms → i < length ms →
+    entry_at ms i ≢ pos 0 → used ms ≤ suc n → unsigned_abs (scale_from s cs ms) ≤ unsigned_abs s * (unsigned_abs (entry_at cs i) * power m n)
 scale_at m n s [] [] i h k e l z u = absurd (omega arith)
 scale_at m n s [] (x ∷ ms) i h k e l z u = absurd (omega arith)
 scale_at m n s (c ∷ cs) [] i h k e l z u = absurd (omega arith)
@@ -155,11 +161,13 @@ scale_at m n s (c ∷ cs) (pos zero ∷ ms) (suc i) h k e l z u = scale_at m n s
 scale_at m n s (c ∷ cs) (pos (suc x) ∷ ms) zero h k e l z u = scale_here m n s c cs ms h k.1 (omega arith)
 scale_at m zero s (c ∷ cs) (pos (suc x) ∷ ms) (suc i) h k e l z u = absurd (let o = some_used ms i z in omega (arith, o))
 scale_at m (suc n) s (c ∷ cs) (pos (suc x) ∷ ms) (suc i) h k e l z u =
-    skip_size (unsigned_abs (scale_part s c *ℤ c)) (unsigned_abs s) m (unsigned_abs (entry_at cs i)) (power m n) _ (scale_at m n (scale_part s c *ℤ c) cs ms i h k.1 (omega arith) (omega arith) z (omega arith)) (joined_up s c m k.0.1)
+    skip_size (unsigned_abs (scale_part s c *ℤ c)) (unsigned_abs s) m (unsigned_abs (entry_at cs i)) (power m n) _
+    (scale_at m n (scale_part s c *ℤ c) cs ms i h k.1 (omega arith) (omega arith) z (omega arith)) (joined_up s c m k.0.1)
 scale_at m n s (c ∷ cs) (negsuc x ∷ ms) zero h k e l z u = scale_here m n s c cs ms h k.1 (omega arith)
 scale_at m zero s (c ∷ cs) (negsuc x ∷ ms) (suc i) h k e l z u = absurd (let o = some_used ms i z in omega (arith, o))
 scale_at m (suc n) s (c ∷ cs) (negsuc x ∷ ms) (suc i) h k e l z u =
-    skip_size (unsigned_abs (scale_part s c *ℤ c)) (unsigned_abs s) m (unsigned_abs (entry_at cs i)) (power m n) _ (scale_at m n (scale_part s c *ℤ c) cs ms i h k.1 (omega arith) (omega arith) z (omega arith)) (joined_up s c m k.0.1)
+    skip_size (unsigned_abs (scale_part s c *ℤ c)) (unsigned_abs s) m (unsigned_abs (entry_at cs i)) (power m n) _
+    (scale_at m n (scale_part s c *ℤ c) cs ms i h k.1 (omega arith) (omega arith) z (omega arith)) (joined_up s c m k.0.1)
 
 -- ---- the takings
 
@@ -186,17 +194,20 @@ one_time : (x : ℕ) → unsigned_abs (pos 1) * x ≡ x
 one_time x = omega arith
 
 -- how often one vector is taken
-pub taking_up : (m n l : ℕ) (cs ms : List ℤ) (i : ℕ) → 1 ≤ m → AllByRecursion (IsSmallContent m) cs → length cs ≡ length ms → used ms ≤ suc n → UpTo l ms → i < length ms →
-    unsigned_abs (entry_at ms i *ℤ int_div (scale_from (pos 1) cs ms) (entry_at cs i)) ≤ l * power m n
+pub taking_up : (m n l : ℕ) (cs ms : List ℤ) (i : ℕ) → 1 ≤ m → AllByRecursion (IsSmallContent m) cs → length cs ≡ length ms → used ms ≤ suc n → UpTo l ms →
+    i < length ms → unsigned_abs (entry_at ms i *ℤ int_div (scale_from (pos 1) cs ms) (entry_at cs i)) ≤ l * power m n
 taking_up m n l cs ms i h k e u v b =
     taking_one (entry_at ms i) (int_div (scale_from (pos 1) cs ms) (entry_at cs i)) l (power m n) (v.at i)
     (λ z. lacking_up (scale_from (pos 1) cs ms) (entry_at cs i) (power m n) (content_at m cs i (omega arith) k).0
     (let s = scale_at m n (pos 1) cs ms i h k e b z u in omega (arith, s, one_time (unsigned_abs (entry_at cs i) * power m n))))
 
-taken_from : (scale : ℤ) (q : ℕ) (cs ms : List ℤ) → length cs ≡ length ms → ((i : ℕ) → i < length ms → unsigned_abs (entry_at ms i *ℤ int_div scale (entry_at cs i)) ≤ q) → UpTo q (taken_by scale cs ms)
+taken_from : (scale : ℤ) (q : ℕ) (cs ms : List ℤ) → length cs ≡ length ms →
+    ((i : ℕ) → i < length ms → unsigned_abs (entry_at ms i *ℤ int_div scale (entry_at cs i)) ≤ q) → UpTo q (taken_by scale cs ms)
 taken_from scale q [] ms e f = up_none q
 taken_from scale q (c ∷ cs) [] e f = up_none q
-taken_from scale q (c ∷ cs) (m ∷ ms) e f = up_cons q (m *ℤ int_div scale c) (taken_by scale cs ms) (f 0 (omega arith)) (taken_from scale q cs ms (omega arith) (λ i l. f (suc i) (omega arith)))
+taken_from scale q (c ∷ cs) (m ∷ ms) e f = up_cons q (m *ℤ int_div scale c) (taken_by scale cs ms) (f 0 (omega arith))
+    (taken_from scale q cs ms (omega arith) (λ i l. f (suc i) (omega arith)))
 
-pub taken_up : (m n l : ℕ) (cs ms : List ℤ) → 1 ≤ m → AllByRecursion (IsSmallContent m) cs → length cs ≡ length ms → used ms ≤ suc n → UpTo l ms → UpTo (l * power m n) (taken_by (scale_from (pos 1) cs ms) cs ms)
+pub taken_up : (m n l : ℕ) (cs ms : List ℤ) → 1 ≤ m → AllByRecursion (IsSmallContent m) cs → length cs ≡ length ms → used ms ≤ suc n → UpTo l ms →
+    UpTo (l * power m n) (taken_by (scale_from (pos 1) cs ms) cs ms)
 taken_up m n l cs ms h k e u v = taken_from (scale_from (pos 1) cs ms) (l * power m n) cs ms e (λ i b. taking_up m n l cs ms i h k e u v b)

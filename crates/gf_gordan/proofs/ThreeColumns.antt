@@ -17,19 +17,64 @@ use Rattle.gf_gordan.proofs.StepSizes.{HasRoomAt, HasRoom, no_step}
 -- ---- the numbers: entries of 500, then of 500,000, then of 1
 
 one_unit : HasRoomAt 0 1
-one_unit = record { reducing = omega arith; lifting = omega arith; factor = omega arith; pushing = omega arith; testing = omega arith; scaling = omega arith; carrying = omega arith; taking = omega arith }
+one_unit = record {
+  reducing = omega arith;
+  lifting = omega arith;
+  factor = omega arith;
+  pushing = omega arith;
+  testing = omega arith;
+  scaling = omega arith;
+  carrying = omega arith;
+  taking = omega arith;
+}
 
 one_column : HasRoomAt 0 500
-one_column = record { reducing = omega arith; lifting = omega arith; factor = omega arith; pushing = omega arith; testing = omega arith; scaling = omega arith; carrying = omega arith; taking = omega arith }
+one_column = record {
+  reducing = omega arith;
+  lifting = omega arith;
+  factor = omega arith;
+  pushing = omega arith;
+  testing = omega arith;
+  scaling = omega arith;
+  carrying = omega arith;
+  taking = omega arith;
+}
 
 two_columns : HasRoomAt 1 500
-two_columns = record { reducing = omega arith; lifting = omega arith; factor = omega arith; pushing = omega arith; testing = omega arith; scaling = omega arith; carrying = omega arith; taking = omega arith }
+two_columns = record {
+  reducing = omega arith;
+  lifting = omega arith;
+  factor = omega arith;
+  pushing = omega arith;
+  testing = omega arith;
+  scaling = omega arith;
+  carrying = omega arith;
+  taking = omega arith;
+}
 
 two_below : HasRoomAt 1 500000
-two_below = record { reducing = omega arith; lifting = omega arith; factor = omega arith; pushing = omega arith; testing = omega arith; scaling = omega arith; carrying = omega arith; taking = omega arith }
+two_below = record {
+  reducing = omega arith;
+  lifting = omega arith;
+  factor = omega arith;
+  pushing = omega arith;
+  testing = omega arith;
+  scaling = omega arith;
+  carrying = omega arith;
+  taking = omega arith;
+}
 
 three_columns : HasRoomAt 2 500
-three_columns = record { reducing = omega arith; lifting = omega arith; factor = omega arith; pushing = omega arith; testing = omega arith; scaling = omega arith; carrying = omega arith; taking = omega arith }
+three_columns = record {
+  reducing = omega arith;
+  lifting = omega arith;
+  factor = omega arith;
+  pushing = omega arith;
+  testing = omega arith;
+  scaling = omega arith;
+  carrying = omega arith;
+  taking = omega arith;
+}
 
 room : (n : ℕ) → n ≤ 3 → HasRoom n 500
 room zero h = tt
@@ -51,9 +96,10 @@ sized n b vectors w e = record {
 }
 
 -- a refusal is want of memory
-pub not_refused : (r : Result Answer GordanError) (all n : ℕ) (rows equations : List (List ℤ)) → AreRows n rows → AreRows n equations → IfErr r (Failed (IsStepOn all n rows equations)) →
-    n ≤ 3 → HaveEntriesUpTo 500 rows → HaveEntriesUpTo 500 equations → IfErr r (λ e. e ≡ Memory)
+pub not_refused : (r : Result Answer GordanError) (all n : ℕ) (rows equations : List (List ℤ)) → AreRows n rows → AreRows n equations →
+    IfErr r (Failed (IsStepOn all n rows equations)) → n ≤ 3 → HaveEntriesUpTo 500 rows → HaveEntriesUpTo 500 equations → IfErr r (λ e. e ≡ Memory)
 not_refused (Ok a) all n rows equations w we f h k l = tt
 not_refused (Err (Cone s)) all n rows equations w we f h k l =
-    absurd (no_step all n 500 rows equations s (omega arith) (Sized-append n 500 rows equations (sized n 500 rows w k) (sized n 500 equations we l)) (room n h) f)
+    absurd (no_step all n 500 rows equations s (omega arith) (Sized-append n 500 rows equations (sized n 500 rows w k) (sized n 500 equations we l)) (room n h)
+    f)
 not_refused (Err Memory) all n rows equations w we f h k l = refl

@@ -136,7 +136,8 @@ fn sums_to_zero(
     requires equations { AreRows (length sum.old) equations.now }
     requires rows_len { length ms.now ≡ length rows.now }
     requires equations_len { length es.now ≡ length equations.now }
-    ensures ok { IfOk result (λ b. IsTrue b ↔ vector_sum (combined (length sum.old) ms.now rows.now) (combined (length sum.old) es.now equations.now) ≡ zeros (length sum.old)) }
+    ensures ok { IfOk result (λ b. IsTrue b ↔ vector_sum (combined (length sum.old) ms.now rows.now) (combined (length sum.old) es.now equations.now) ≡
+        zeros (length sum.old)) }
     ensures wide { IfErr result IsWide }
 {
     add_combination(sum, ms, rows)?;

@@ -38,8 +38,8 @@ nowhere r c i l h = λ n k bs is a u. (
 
 -- ---- as a program reads it
 
-pub facet_read : (r : List ℤ) (c : ConeRows) (t : Towards) (i : ℕ) (given : List (List ℤ)) (x : List ℤ) → IsFacetTold r c t → t ≡ Facet i → given ≡ c.normals → x ≡ get_or given i x →
-    (n : ℕ) (k : Region) (bs : List MarkedPolynomial) → IsConeOf n k bs c → LeadsTowards n k r bs x
+pub facet_read : (r : List ℤ) (c : ConeRows) (t : Towards) (i : ℕ) (given : List (List ℤ)) (x : List ℤ) → IsFacetTold r c t → t ≡ Facet i → given ≡ c.normals →
+    x ≡ get_or given i x → (n : ℕ) (k : Region) (bs : List MarkedPolynomial) → IsConeOf n k bs c → LeadsTowards n k r bs x
 facet_read r c t i given x h e q s n k bs is =
     let f = subst (IsFacetTold r c) e h in
     subst (LeadsTowards n k r bs) (sym (s ∙ ap (λ (z : List (List ℤ)). get_or z i x) q ∙ get_or_default c.normals i x [] f.0)) (f.1 n k bs is)

@@ -26,7 +26,8 @@ use Rattle.gf_groebner_walk.specs.declared.steps.Step.TheVariants.{Arrived, Acro
 
 -- ---- steps
 
-pub crossing_towards : (s : MarkedPolynomials) (r a : List ℤ) → IsSomeBasis s → LeadsTowards s.variables (all_positive s.variables) r s.items a → IsCrossing s.variables s.items a
+pub crossing_towards : (s : MarkedPolynomials) (r a : List ℤ) → IsSomeBasis s → LeadsTowards s.variables (all_positive s.variables) r s.items a →
+    IsCrossing s.variables s.items a
 crossing_towards s r a b u = reached_crossing b.0 s a b.1 u.flippable
 
 pub walked_none : (s : MarkedPolynomials) → IsWalkedFrom s s
@@ -44,7 +45,8 @@ walk_ends r s t x w told e = record { walked = w; arrived = subst (IsConversionS
 pub some_walked : (s t : MarkedPolynomials) → IsSomeBasis s → IsWalkedFrom s t → IsSomeBasis t
 some_walked s t b w = (b.0, w.bases b.0 b.1)
 
-pub by_degree : (o : MonomialOrder) (n : ℕ) (fs : List Terms) (s : MarkedPolynomials) → o ≡ MonomialOrder.deglex → IsArrangedBasis o n fs s → IsArrangedBasis MonomialOrder.deglex n fs s
+pub by_degree : (o : MonomialOrder) (n : ℕ) (fs : List Terms) (s : MarkedPolynomials) → o ≡ MonomialOrder.deglex → IsArrangedBasis o n fs s →
+    IsArrangedBasis MonomialOrder.deglex n fs s
 by_degree o n fs s e b = subst (λ (z : MonomialOrder). IsArrangedBasis z n fs s) e b
 
 pub start_basis : (n : ℕ) (fs : List Terms) (s : MarkedPolynomials) → HaveRingVariables n fs → IsArrangedBasis MonomialOrder.deglex n fs s → IsSomeBasis s
@@ -53,19 +55,27 @@ start_basis n fs s v b = (fs, reached_first n fs s v b)
 -- ---- the end
 
 -- the reduced basis by a weight and then lex is that for the order
-by_order : (order : MonomialOrder) (n : ℕ) (fs : List Terms) (r : List ℤ) (bs : List MarkedPolynomial) → IsWeightBeforeLex order n r → IsReducedBasisFor n fs (IsWeightedBelow (gains r)) bs → IsReducedBasisFor n fs (below_of order) bs
+by_order : (order : MonomialOrder) (n : ℕ) (fs : List Terms) (r : List ℤ) (bs : List MarkedPolynomial) → IsWeightBeforeLex order n r →
+    IsReducedBasisFor n fs (IsWeightedBelow (gains r)) bs → IsReducedBasisFor n fs (below_of order) bs
 by_order order n fs r bs w h = record {
   basis = record {
     members = h.basis.members;
-    marked = λ b c. record { monic = (h.basis.marked b c).monic; tail = λ x m. elim ((h.basis.marked b c).tail x m) [ inl e ↦ inl e | inr l ↦ inr ((w.compares x b.head).1 l) ] };
-    initial = λ f m x g. h.basis.initial f m x (record { there = g.there; greatest = λ y k. elim (g.greatest y k) [ inl e ↦ inl e | inr l ↦ inr ((w.compares y x).0 l) ] });
+    marked = λ b c. record {
+      monic = (h.basis.marked b c).monic;
+      tail = λ x m. elim ((h.basis.marked b c).tail x m) [ inl e ↦ inl e | inr l ↦ inr ((w.compares x b.head).1 l) ];
+    };
+    initial = λ f m x g. h.basis.initial f m x (record {
+      there = g.there;
+      greatest = λ y k. elim (g.greatest y k) [ inl e ↦ inl e | inr l ↦ inr ((w.compares y x).0 l) ];
+    });
   };
   tails = h.tails;
   heads = h.heads;
 }
 
 -- a walk from the basis by degree ends at the basis for the order of its weight
-arrived_basis : (order : MonomialOrder) (n : ℕ) (fs : List Terms) (r : List ℤ) (s t : MarkedPolynomials) → HaveRingVariables n fs → IsWeightBeforeLex order n r → IsArrangedBasis MonomialOrder.deglex n fs s → IsWalkEnd r s t → IsArrangedBasis order n fs t
+arrived_basis : (order : MonomialOrder) (n : ℕ) (fs : List Terms) (r : List ℤ) (s t : MarkedPolynomials) → HaveRingVariables n fs →
+    IsWeightBeforeLex order n r → IsArrangedBasis MonomialOrder.deglex n fs s → IsWalkEnd r s t → IsArrangedBasis order n fs t
 arrived_basis order n fs r s t v w b h = record {
   variables = wide;
   reduced = reduced;
@@ -92,8 +102,11 @@ arrived_basis order n fs r s t v w b h = record {
 
     reduced : IsReducedBasisFor n fs (below_of order) t.items
     reduced = by_order order n fs r t.items w
-        ((root_has_no_way_up.exactly n fs (all_positive n) r t.items generators (all_positive-region n).widths (root_has_no_way_up.everywhere n r w.width w.natural) basis).0 arrived)
+        ((root_has_no_way_up.exactly n fs (all_positive n) r t.items generators (all_positive-region n).widths
+        (root_has_no_way_up.everywhere n r w.width w.natural) basis).0 arrived)
 
-pub some_arrived : (order : MonomialOrder) (n : ℕ) (fs : List Terms) (r : List ℤ) (s : MarkedPolynomials) (o : Option MarkedPolynomials) → HaveRingVariables n fs → IsWeightBeforeLex order n r → IsArrangedBasis MonomialOrder.deglex n fs s → IfSome o (IsWalkEnd r s) → IfSome o (IsArrangedBasis order n fs)
+pub some_arrived : (order : MonomialOrder) (n : ℕ) (fs : List Terms) (r : List ℤ) (s : MarkedPolynomials) (o : Option MarkedPolynomials) →
+    HaveRingVariables n fs → IsWeightBeforeLex order n r → IsArrangedBasis MonomialOrder.deglex n fs s → IfSome o (IsWalkEnd r s) →
+    IfSome o (IsArrangedBasis order n fs)
 some_arrived order n fs r s (Some t) v w b h = arrived_basis order n fs r s t v w b h
 some_arrived order n fs r s None v w b h = tt

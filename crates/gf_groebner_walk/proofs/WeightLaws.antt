@@ -21,16 +21,24 @@ pub lex_weight : (n : ℕ) (o : MonomialOrder) (r : List ℤ) → o ≡ Monomial
 lex_weight n o r e q = subst (λ (z : MonomialOrder). IsWeightBeforeLex z n r) (sym e) (subst (IsWeightBeforeLex MonomialOrder.lex n) (sym q) (record {
   width = length-replicate n (pos 0);
   natural = All-replicate (λ c. pos 0 ≤ℤ c) n (pos 0) (omega (arith, ints));
-  compares = λ x y. (λ l. inr (weight-zeros n x ∙ sym (weight-zeros n y), l), λ h. elim h [ inl l ↦ absurd (omega (arith, l, weight-zeros n x, weight-zeros n y)) | inr l ↦ l.1 ]);
+  compares = λ x y. (
+    λ l. inr (weight-zeros n x ∙ sym (weight-zeros n y), l),
+    λ h. elim h [
+      | inl l ↦ absurd (omega (arith, l, weight-zeros n x, weight-zeros n y))
+      | inr l ↦ l.1
+    ],
+  );
 }))
 
 -- a weight before lex compares by that weight, and then by lex
-pub weighted_weight : (n : ℕ) (o : MonomialOrder) (w r : List ℤ) → o ≡ MonomialOrder.weighted (gains w) → HasEntries n o → All (λ c. pos 0 ≤ℤ c) w → r ≡ w → IsWeightBeforeLex o n r
-weighted_weight n o w r e h p q = subst (λ (z : MonomialOrder). IsWeightBeforeLex z n r) (sym e) (subst (IsWeightBeforeLex (MonomialOrder.weighted (gains w)) n) (sym q) (record {
-  width = sym (length-gains w) ∙ subst (HasEntries n) e h;
-  natural = p;
-  compares = λ x y. (λ l. l, λ l. l);
-}))
+pub weighted_weight : (n : ℕ) (o : MonomialOrder) (w r : List ℤ) → o ≡ MonomialOrder.weighted (gains w) → HasEntries n o → All (λ c. pos 0 ≤ℤ c) w → r ≡ w →
+    IsWeightBeforeLex o n r
+weighted_weight n o w r e h p q = subst (λ (z : MonomialOrder). IsWeightBeforeLex z n r) (sym e) (subst (IsWeightBeforeLex (MonomialOrder.weighted (gains w)) n)
+    (sym q) (record {
+      width = sym (length-gains w) ∙ subst (HasEntries n) e h;
+      natural = p;
+      compares = λ x y. (λ l. l, λ l. l);
+    }))
 
 -- which is lex where it has no weight
 pub lex_remains : (o : MonomialOrder) → is_weight_before_lex o ≡ true → ((w : List ℕ) → o ≡ MonomialOrder.weighted w → ⊥) → o ≡ MonomialOrder.lex

@@ -27,7 +27,8 @@ IsLeadTold r c i b = (n : ℕ) (k : Region) (bs : List MarkedPolynomial) → IsC
 -- region
 abbrev pub IsFacetTold : List ℤ → ConeRows → Towards → Type 0
 IsFacetTold r c Nowhere = (n : ℕ) (k : Region) (bs : List MarkedPolynomial) → IsConeOf n k bs c → (a : List ℤ) → LeadsTowards n k r bs a → ⊥
-IsFacetTold r c (Facet i) = (i < length c.normals) × ((n : ℕ) (k : Region) (bs : List MarkedPolynomial) → IsConeOf n k bs c → LeadsTowards n k r bs (normal_at c i))
+IsFacetTold r c (Facet i) = (i < length c.normals) × ((n : ℕ) (k : Region) (bs : List MarkedPolynomial) → IsConeOf n k bs c →
+    LeadsTowards n k r bs (normal_at c i))
 
 -- ---- by the basis
 

@@ -26,8 +26,10 @@ at_places : (bs : List MarkedPolynomial) → AreApart bs → ApartAt bs
 unfolding ApartAt
 at_places [] a i j d l m n = absurd (omega arith)
 at_places (b ∷ bs) a zero zero d l m n = absurd (n refl)
-at_places (b ∷ bs) a zero (suc j) d l m n = (contained_each (λ (c : MarkedPolynomial). NoMultiple b.head c.head × NoMultiple c.head b.head) bs a.0 (get_or bs j d) (j, omega arith, default bs j (get_or bs j d) d (omega arith))).0
-at_places (b ∷ bs) a (suc i) zero d l m n = (contained_each (λ (c : MarkedPolynomial). NoMultiple b.head c.head × NoMultiple c.head b.head) bs a.0 (get_or bs i d) (i, omega arith, default bs i (get_or bs i d) d (omega arith))).1
+at_places (b ∷ bs) a zero (suc j) d l m n = (contained_each (λ (c : MarkedPolynomial). NoMultiple b.head c.head × NoMultiple c.head b.head) bs a.0
+    (get_or bs j d) (j, omega arith, default bs j (get_or bs j d) d (omega arith))).0
+at_places (b ∷ bs) a (suc i) zero d l m n = (contained_each (λ (c : MarkedPolynomial). NoMultiple b.head c.head × NoMultiple c.head b.head) bs a.0
+    (get_or bs i d) (i, omega arith, default bs i (get_or bs i d) d (omega arith))).1
 at_places (b ∷ bs) a (suc i) (suc j) d l m n = at_places bs a.1 i j d (omega arith) (omega arith) (λ e. n (omega arith))
 
 from_places : (bs : List MarkedPolynomial) → ApartAt bs → AreApart bs
@@ -35,7 +37,10 @@ unfolding ApartAt
 from_places [] h = tt
 from_places (b ∷ bs) h = (
   each_contained (λ (c : MarkedPolynomial). NoMultiple b.head c.head × NoMultiple c.head b.head) bs
-      (λ c k. (subst (λ (x : MarkedPolynomial). NoMultiple b.head x.head) k.2 (h 0 (suc k.0) c (omega arith) (omega (arith, k.1)) (λ e. absurd (omega arith))), subst (λ (x : MarkedPolynomial). NoMultiple x.head b.head) k.2 (h (suc k.0) 0 c (omega (arith, k.1)) (omega arith) (λ e. absurd (omega arith))))),
+      (λ c k. (
+        subst (λ (x : MarkedPolynomial). NoMultiple b.head x.head) k.2 (h 0 (suc k.0) c (omega arith) (omega (arith, k.1)) (λ e. absurd (omega arith))),
+        subst (λ (x : MarkedPolynomial). NoMultiple x.head b.head) k.2 (h (suc k.0) 0 c (omega (arith, k.1)) (omega arith) (λ e. absurd (omega arith))),
+      )),
   from_places bs (λ i j d l m n. h (suc i) (suc j) d (omega arith) (omega arith) (λ e. n (omega arith))),
 )
 
@@ -69,7 +74,8 @@ came_from xs ys a b i d la lb li e = at (swapped_from_swap xs ys a b d la lb e) 
 apart-swap : (xs : List MarkedPolynomial) (a b : ℕ) → a < length xs → b < length xs → AreApart xs →
     AreApart (swap xs a b)
 unfolding ApartAt
-apart-swap xs a b la lb h = from_places (swap xs a b) (λ i j d li lj n. at i j d n (came_from xs (swap xs a b) a b i d la lb (omega (arith, length-swap xs a b)) refl) (came_from xs (swap xs a b) a b j d la lb (omega (arith, length-swap xs a b)) refl))
+apart-swap xs a b la lb h = from_places (swap xs a b) (λ i j d li lj n. at i j d n (came_from xs (swap xs a b) a b i d la lb (omega (arith, length-swap xs a b))
+    refl) (came_from xs (swap xs a b) a b j d la lb (omega (arith, length-swap xs a b)) refl))
   where
     at : (i j : ℕ) (d : MarkedPolynomial) → (i ≡ j → ⊥) →
         ((k : ℕ) × (k < length xs) × (get_or (swap xs a b) i d ≡ get_or xs k d) × IsFrom a b i k) →
@@ -89,7 +95,8 @@ length-moved xs (m ∷ ms) = length-swap (apply_swaps xs ms) m.0 m.1 ∙ length-
 apart-moved : (xs : List MarkedPolynomial) (ms : List (ℕ × ℕ)) → SwapsInRange (length xs) ms → AreApart xs →
     AreApart (apply_swaps xs ms)
 apart-moved xs [] r h = h
-apart-moved xs (m ∷ ms) r h = apart-swap (apply_swaps xs ms) m.0 m.1 (omega (arith, r.0, length-moved xs ms)) (omega (arith, r.1, length-moved xs ms)) (apart-moved xs ms r.2 h)
+apart-moved xs (m ∷ ms) r h = apart-swap (apply_swaps xs ms) m.0 m.1 (omega (arith, r.0, length-moved xs ms)) (omega (arith, r.1, length-moved xs ms))
+    (apart-moved xs ms r.2 h)
 
 -- marks stay apart in any order
 pub apart-arranged : (bs cs : List MarkedPolynomial) → IsPermutation bs cs → AreApart bs → AreApart cs

@@ -83,7 +83,8 @@ pub member_pieces : (n : ℕ) (fs : List Terms) (bs : List MarkedPolynomial) (B 
     AreInVariables n fs → IsBasis n fs bs → IsClosed (Contains bs) B → IsMember n fs f → IsWithin B f →
     (ps : List Piece) × Each (IsPieceIn (Contains bs) B) ps × SamePolynomial f (value ps)
 member_pieces n fs bs B f v b d mem h =
-    at (divided bs b.marked.0 C f b.marked.2 (closed-both (Contains bs) B (IsInRing n) d (closed-ring n (Contains bs) (λ c k. variables_of_member n fs c.poly v (b.members c k)))) (λ x m. (h x m, variables_of_member n fs f v mem x m)))
+    at (divided bs b.marked.0 C f b.marked.2 (closed-both (Contains bs) B (IsInRing n) d
+    (closed-ring n (Contains bs) (λ c k. variables_of_member n fs c.poly v (b.members c k)))) (λ x m. (h x m, variables_of_member n fs f v mem x m)))
   where
     C : Exponents → Type 0
     C x = B x × IsInRing n x
@@ -98,17 +99,21 @@ member_pieces n fs bs B f v b d mem h =
         taken : (e : Exponents) →
             coefficient q.remainder e ≡ coefficient (f ++ times (neg_ℚ one_ℚ) [] (value q.pieces)) e
         taken e =
-            away (coefficient f e) (coefficient q.remainder e) one_ℚ (coefficient (value q.pieces) e) (q.equal e ∙ ap (λ z. coefficient q.remainder e +ℚ z) (sym (one-*ℚ _)))
-            ∙ ap (λ z. coefficient f e +ℚ z) (sym (coefficient-factor (neg_ℚ one_ℚ) [] (value q.pieces) e ∙ ap (λ g. neg_ℚ one_ℚ *ℚ coefficient g e) (times-plain (value q.pieces))))
+            away (coefficient f e) (coefficient q.remainder e) one_ℚ (coefficient (value q.pieces) e)
+            (q.equal e ∙ ap (λ z. coefficient q.remainder e +ℚ z) (sym (one-*ℚ _)))
+            ∙ ap (λ z. coefficient f e +ℚ z) (sym (coefficient-factor (neg_ℚ one_ℚ) [] (value q.pieces) e ∙ ap (λ g. neg_ℚ one_ℚ *ℚ coefficient g e)
+            (times-plain (value q.pieces))))
             ∙ sym (coefficient-++ f (times (neg_ℚ one_ℚ) [] (value q.pieces)) e)
 
         spanned : Spans fs q.remainder
         spanned = Spans-equal fs (f ++ times (neg_ℚ one_ℚ) [] (value q.pieces)) q.remainder (λ e. sym (taken e))
             (Spans-difference fs f (value q.pieces) (spans_of_member n fs f mem)
-            (spans_value fs (Contains bs) (λ c k. spans_of_member n fs c.poly (b.members c k)) q.pieces (Each-weaker (IsPieceIn (Contains bs) C) (λ (p : Piece). Contains bs p.of) (λ p k. k.member) q.pieces q.inside)))
+            (spans_value fs (Contains bs) (λ c k. spans_of_member n fs c.poly (b.members c k)) q.pieces
+            (Each-weaker (IsPieceIn (Contains bs) C) (λ (p : Piece). Contains bs p.of) (λ p k. k.member) q.pieces q.inside)))
 
         in_ring : IsInVariables n q.remainder
-        in_ring = by_terms (IsInRing n) q.remainder (ring-along n) (Each-weaker (λ (t : Term). C t.mono) (λ (t : Term). IsInRing n t.mono) (λ t k. k.1) q.remainder q.kept)
+        in_ring = by_terms (IsInRing n) q.remainder (ring-along n) (Each-weaker (λ (t : Term). C t.mono) (λ (t : Term). IsInRing n t.mono) (λ t k. k.1)
+            q.remainder q.kept)
 
         zero : SamePolynomial q.remainder []
         zero = b.decides q.remainder (member_of_spans n fs q.remainder v in_ring spanned) (irreducible_terms bs q.remainder q.irreducible)
@@ -121,19 +126,22 @@ pub basis_heaviest : (n : ℕ) (fs : List Terms) (bs : List MarkedPolynomial) (w
     IsDivisible (Contains bs) x
 basis_heaviest n fs bs w f x v b m mem t =
     at (member_pieces n fs bs (λ y. weight w y ≤ weight w x) f v b
-    (closed_downward (Contains bs) (lighter w) (λ y. weight w y ≤ weight w x) (lighter-strict w) m (λ y z s h. omega (arith, weight-same w y z s)) (λ y z l h. omega arith)) mem (λ e k. t.heaviest e k))
+    (closed_downward (Contains bs) (lighter w) (λ y. weight w y ≤ weight w x) (lighter-strict w) m (λ y z s h. omega (arith, weight-same w y z s))
+    (λ y z l h. omega arith)) mem (λ e k. t.heaviest e k))
   where
     at : ((ps : List Piece) × Each (IsPieceIn (Contains bs) (λ y. weight w y ≤ weight w x)) ps × SamePolynomial f (value ps)) →
         IsDivisible (Contains bs) x
     at r = divisible_on_top (Contains bs) (lighter w) x r.0 (lighter-strict w) m
-        (Each-weaker (IsPieceIn (Contains bs) (λ y. weight w y ≤ weight w x)) (IsPieceNotPast (Contains bs) (lighter w) x) (λ p q. record { member = q.member; not_past = λ l. absurd (omega (arith, q.inside)) }) r.0 r.1)
+        (Each-weaker (IsPieceIn (Contains bs) (λ y. weight w y ≤ weight w x)) (IsPieceNotPast (Contains bs) (lighter w) x)
+        (λ p q. record { member = q.member; not_past = λ l. absurd (omega (arith, q.inside)) }) r.0 r.1)
         (λ z. t.there (r.2 x ∙ z))
 
 -- by each order that gives the marks
 pub basis_greatest : (n : ℕ) (fs : List Terms) (bs : List MarkedPolynomial) (below : Exponents → Exponents → Type 0) (f : Terms) (x : Exponents) →
     AreInVariables n fs → IsBasis n fs bs → IsStrict below → AreMarked below bs → IsMember n fs f →
     IsGreatest below f x → IsDivisible (Contains bs) x
-basis_greatest n fs bs below f x v b o m mem t = at (member_pieces n fs bs (IsUpTo below x) f v b (closed-up_to (Contains bs) below x o m) mem (λ e k. t.greatest e k))
+basis_greatest n fs bs below f x v b o m mem t =
+    at (member_pieces n fs bs (IsUpTo below x) f v b (closed-up_to (Contains bs) below x o m) mem (λ e k. t.greatest e k))
   where
     not_past : (y : Exponents) → IsUpTo below x y → below x y → ⊥
     not_past y (inl q) l = o.irreflexive x y (same_flip y x q) l
@@ -142,7 +150,8 @@ basis_greatest n fs bs below f x v b o m mem t = at (member_pieces n fs bs (IsUp
     at : ((ps : List Piece) × Each (IsPieceIn (Contains bs) (IsUpTo below x)) ps × SamePolynomial f (value ps)) →
         IsDivisible (Contains bs) x
     at r = divisible_on_top (Contains bs) below x r.0 o m
-        (Each-weaker (IsPieceIn (Contains bs) (IsUpTo below x)) (IsPieceNotPast (Contains bs) below x) (λ p q. record { member = q.member; not_past = λ l. not_past (level p) q.inside l }) r.0 r.1)
+        (Each-weaker (IsPieceIn (Contains bs) (IsUpTo below x)) (IsPieceNotPast (Contains bs) below x)
+        (λ p q. record { member = q.member; not_past = λ l. not_past (level p) q.inside l }) r.0 r.1)
         (λ z. t.there (r.2 x ∙ z))
 
 -- ---- the pairs of a basis are settled
@@ -170,7 +179,8 @@ settled_of_basis n fs bs below b c v basis o m hb hc =
 
     parts : (e : Exponents) →
         coefficient s e ≡ coefficient (times one_ℚ u b.poly) e +ℚ neg_ℚ (coefficient (times one_ℚ x c.poly) e)
-    parts e = coefficient-++ (times one_ℚ u b.poly) (times (neg_ℚ one_ℚ) x c.poly) e ∙ ap (λ z. coefficient (times one_ℚ u b.poly) e +ℚ z) (coefficient-factor (neg_ℚ one_ℚ) x c.poly e ∙ neg_one _)
+    parts e = coefficient-++ (times one_ℚ u b.poly) (times (neg_ℚ one_ℚ) x c.poly) e ∙
+        ap (λ z. coefficient (times one_ℚ u b.poly) e +ℚ z) (coefficient-factor (neg_ℚ one_ℚ) x c.poly e ∙ neg_one _)
 
     at : ((ps : List Piece) × Each (IsPieceIn (Contains bs) (λ y. below y (join b.head c.head))) ps × SamePolynomial s (value ps)) →
         IsSettledAtJoin (Contains bs) below b c
@@ -181,7 +191,12 @@ settled_of_basis n fs bs below b c v basis o m hb hc =
       of_right = minus_right b.head c.head;
       bridge = record {
         pieces = r.0;
-        lower = Each-weaker (IsPieceIn (Contains bs) (λ y. below y (join b.head c.head))) (IsPieceBelow (Contains bs) below (plus u b.head)) (λ p q. record { member = q.member; lower = o.along_right (level p) (join b.head c.head) (plus u b.head) (same_flip (plus u b.head) (join b.head c.head) (minus_left b.head c.head)) q.inside }) r.0 r.1;
+        lower = Each-weaker (IsPieceIn (Contains bs) (λ y. below y (join b.head c.head))) (IsPieceBelow (Contains bs) below (plus u b.head))
+            (λ p q. record {
+              member = q.member;
+              lower = o.along_right (level p) (join b.head c.head) (plus u b.head) (same_flip (plus u b.head) (join b.head c.head) (minus_left b.head c.head))
+                  q.inside;
+            }) r.0 r.1;
         equation = λ e. taken_over _ _ _ _ (parts e) (r.2 e);
       };
     }
@@ -205,7 +220,10 @@ basis_along n fs gs bs s b = record { members = λ c k. s.inside c.poly (b.membe
 -- by a positive weight that gives the marks
 pub groebner_by_weight : (n : ℕ) (fs : List Terms) (bs : List MarkedPolynomial) (w : List ℕ) → AreInVariables n fs →
     IsBasis n fs bs → IsPositive n w → AreMarked (lighter w) bs → IsGroebnerBasis n fs w bs
-groebner_by_weight n fs bs w v b p m = record { positive = p; basis = record { members = b.members; marked = m; initial = λ f k x y. basis_heaviest n fs bs w f x v b m k y } }
+groebner_by_weight n fs bs w v b p m = record {
+  positive = p;
+  basis = record { members = b.members; marked = m; initial = λ f k x y. basis_heaviest n fs bs w f x v b m k y };
+}
 
 -- by an order that gives the marks
 pub groebner_by_order : (n : ℕ) (fs : List Terms) (bs : List MarkedPolynomial) (below : Exponents → Exponents → Type 0) →
@@ -225,9 +243,17 @@ decided n fs below Top bs t b f m i = at (t.some f)
 -- a Gröbner basis for a weight is a basis
 pub basis_of_groebner : (n : ℕ) (fs : List Terms) (bs : List MarkedPolynomial) (w : List ℕ) →
     IsGroebnerBasis n fs w bs → IsBasis n fs bs
-basis_of_groebner n fs bs w b = record { members = b.basis.members; marked = (w, b.positive, b.basis.marked); decides = decided n fs (lighter w) (IsHeaviest w) bs (top_heaviest w) b.basis }
+basis_of_groebner n fs bs w b = record {
+  members = b.basis.members;
+  marked = (w, b.positive, b.basis.marked);
+  decides = decided n fs (lighter w) (IsHeaviest w) bs (top_heaviest w) b.basis;
+}
 
 -- so is one for an order, where a positive weight gives its marks
 pub basis_of_groebner_for : (n : ℕ) (fs : List Terms) (bs : List MarkedPolynomial) (below : Exponents → Exponents → Type 0) →
     IsMonomialOrder below → HasPositiveWeight n bs → IsGroebnerBasisFor n fs below bs → IsBasis n fs bs
-basis_of_groebner_for n fs bs below o m b = record { members = b.members; marked = m; decides = decided n fs below (IsGreatest below) bs (top_greatest below o) b }
+basis_of_groebner_for n fs bs below o m b = record {
+  members = b.members;
+  marked = m;
+  decides = decided n fs below (IsGreatest below) bs (top_greatest below o) b;
+}

@@ -19,19 +19,22 @@ use Rattle.gf_ideal_theory.proofs.IntegerPairLaws.{settled_of_pair, pair_of_sett
 pub pair_by_steps : (n : ℕ) (bs : List MarkedPolynomial) (below : Exponents → Exponents → Type 0) (b c : MarkedPolynomial) (s r : Terms) →
     AreInVariables n (polys bs) → IsStrict below → AreMarked below bs → Contains bs b → Contains bs c →
     IsSPolynomial b c s → Reached (Contains bs) s r → IsKept (Contains bs) r → IsSettledPair n bs below b c
-pair_by_steps n bs below b c s r v o m hb hc q steps k = pair_of_settled n bs below b c v o m hb hc (settled_by_steps (Contains bs) (Contains bs) below b c s r o m (λ d j. j) hb hc q steps k)
+pair_by_steps n bs below b c s r v o m hb hc q steps k =
+    pair_of_settled n bs below b c v o m hb hc (settled_by_steps (Contains bs) (Contains bs) below b c s r o m (λ d j. j) hb hc q steps k)
 
 -- the marks are coprime
 pub pair_by_product : (n : ℕ) (bs : List MarkedPolynomial) (below : Exponents → Exponents → Type 0) (b c : MarkedPolynomial) →
     AreInVariables n (polys bs) → IsStrict below → AreMarked below bs → Contains bs b → Contains bs c →
     AreCoprime b.head c.head → IsSettledPair n bs below b c
-pair_by_product n bs below b c v o m hb hc q = pair_of_settled n bs below b c v o m hb hc (settled_by_product (Contains bs) below b c o (m b hb) (m c hc) hb hc q)
+pair_by_product n bs below b c v o m hb hc q =
+    pair_of_settled n bs below b c v o m hb hc (settled_by_product (Contains bs) below b c o (m b hb) (m c hc) hb hc q)
 
 -- both are monomials
 pub pair_by_monomials : (n : ℕ) (bs : List MarkedPolynomial) (below : Exponents → Exponents → Type 0) (b c : MarkedPolynomial) →
     AreInVariables n (polys bs) → IsStrict below → AreMarked below bs → Contains bs b → Contains bs c → HasOneMonomial b →
     HasOneMonomial c → IsSettledPair n bs below b c
-pair_by_monomials n bs below b c v o m hb hc p q = pair_of_settled n bs below b c v o m hb hc (settled_monomials (Contains bs) below b c (m b hb).monic (m c hc).monic p q)
+pair_by_monomials n bs below b c v o m hb hc p q =
+    pair_of_settled n bs below b c v o m hb hc (settled_monomials (Contains bs) below b c (m b hb).monic (m c hc).monic p q)
 
 -- the mark of a third member divides the least common multiple, and its pairs with both are settled
 pub pair_by_chain : (n : ℕ) (bs : List MarkedPolynomial) (below : Exponents → Exponents → Type 0) (b c d : MarkedPolynomial) (u : Exponents) →
@@ -40,13 +43,16 @@ pub pair_by_chain : (n : ℕ) (bs : List MarkedPolynomial) (below : Exponents �
     IsSettledPair n bs below b c
 pair_by_chain n bs below b c d u v o m hb hc h p q =
     pair_of_settled n bs below b c v o m hb hc (settled_at_join (Contains bs) below b c
-    (settled_by_chain (Contains bs) below b c d u o h (settled_everywhere (Contains bs) below b d o (settled_of_pair n bs below b d o p)) (settled_everywhere (Contains bs) below d c o (settled_of_pair n bs below d c o q))))
+    (settled_by_chain (Contains bs) below b c d u o h (settled_everywhere (Contains bs) below b d o (settled_of_pair n bs below b d o p))
+    (settled_everywhere (Contains bs) below d c o (settled_of_pair n bs below d c o q))))
 
 -- the pair the other way round
 pub pair_turned : (n : ℕ) (bs : List MarkedPolynomial) (below : Exponents → Exponents → Type 0) (b c : MarkedPolynomial) →
     AreInVariables n (polys bs) → IsStrict below → AreMarked below bs → Contains bs b → Contains bs c →
     IsSettledPair n bs below b c → IsSettledPair n bs below c b
-pair_turned n bs below b c v o m hb hc p = pair_of_settled n bs below c b v o m hc hb (settled_at_join (Contains bs) below c b (settled_turned (Contains bs) below b c o (settled_everywhere (Contains bs) below b c o (settled_of_pair n bs below b c o p))))
+pair_turned n bs below b c v o m hb hc p = pair_of_settled n bs below c b v o m hc hb
+    (settled_at_join (Contains bs) below c b (settled_turned (Contains bs) below b c o
+    (settled_everywhere (Contains bs) below b c o (settled_of_pair n bs below b c o p))))
 
 -- in a longer list
 pub pair_more : (n : ℕ) (bs ks : List MarkedPolynomial) (below : Exponents → Exponents → Type 0) (b c : MarkedPolynomial) →
@@ -58,7 +64,8 @@ pair_more n bs ks below b c h p = record {
   factor = p.factor;
   positive = p.positive;
   multiples = p.multiples;
-  lower = Each-weaker (IsMultipleBelow n bs below (join b.head c.head)) (IsMultipleBelow n ks below (join b.head c.head)) (λ (q : IntegerPiece) k. record { contained = h q.of k.contained; in_ring = k.in_ring; lower = k.lower }) p.multiples p.lower;
+  lower = Each-weaker (IsMultipleBelow n bs below (join b.head c.head)) (IsMultipleBelow n ks below (join b.head c.head))
+      (λ (q : IntegerPiece) k. record { contained = h q.of k.contained; in_ring = k.in_ring; lower = k.lower }) p.multiples p.lower;
   equation = p.equation;
 }
 

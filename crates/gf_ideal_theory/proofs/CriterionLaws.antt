@@ -49,7 +49,8 @@ IsStandard by w f = SamePolynomial f [] ⊎ HasTop by w f
 IsStandard-equal : (by : MarkedPolynomial → Type 0) (w : List ℕ) (f g : Terms) → SamePolynomial f g →
     IsStandard by w g → IsStandard by w f
 IsStandard-equal by w f g h (inl z) = inl (λ e. h e ∙ z e)
-IsStandard-equal by w f g h (inr t) = inr (record { pieces = t.pieces; top = t.top; there = λ z. t.there (sym (h t.top) ∙ z); within = t.within; equal = λ e. h e ∙ t.equal e })
+IsStandard-equal by w f g h (inr t) =
+    inr (record { pieces = t.pieces; top = t.top; there = λ z. t.there (sym (h t.top) ∙ z); within = t.within; equal = λ e. h e ∙ t.equal e })
 
 -- ---- the coefficient at the greatest weight
 pub not_same : (x y : Exponents) → (same x y ≡ true → ⊥) → same x y ≡ false
@@ -132,15 +133,20 @@ within_all by w d e ps qs q h k =
 -- two pieces at one exponent become one, and pieces below
 merge_equal : (p q : Piece) (rest ts qs : List Piece) (e : Exponents) →
     coefficient (times one_ℚ q.shift q.of.poly) e ≡ coefficient (times one_ℚ p.shift p.of.poly) e +ℚ coefficient (value ts) e →
-    coefficient (times p.factor p.shift p.of.poly) e +ℚ ((coefficient (times q.factor q.shift q.of.poly) e +ℚ coefficient (value rest) e) +ℚ coefficient (value qs) e)
-    ≡ coefficient (times (p.factor +ℚ q.factor) p.shift p.of.poly) e +ℚ (coefficient (value rest) e +ℚ (coefficient (value (scale q.factor [] ts)) e +ℚ coefficient (value qs) e))
+    coefficient (times p.factor p.shift p.of.poly) e +ℚ ((coefficient (times q.factor q.shift q.of.poly) e +ℚ coefficient (value rest) e) +ℚ
+    coefficient (value qs) e)
+    ≡ coefficient (times (p.factor +ℚ q.factor) p.shift p.of.poly) e +ℚ
+    (coefficient (value rest) e +ℚ (coefficient (value (scale q.factor [] ts)) e +ℚ coefficient (value qs) e))
 merge_equal p q rest ts qs e h =
-    ap (λ z. z +ℚ ((coefficient (times q.factor q.shift q.of.poly) e +ℚ coefficient (value rest) e) +ℚ coefficient (value qs) e)) (coefficient-factor p.factor p.shift p.of.poly e)
-    ∙ ap (λ z. p.factor *ℚ a +ℚ ((z +ℚ coefficient (value rest) e) +ℚ coefficient (value qs) e)) (coefficient-factor q.factor q.shift q.of.poly e ∙ ap (λ z. q.factor *ℚ z) h)
+    ap (λ z. z +ℚ ((coefficient (times q.factor q.shift q.of.poly) e +ℚ coefficient (value rest) e) +ℚ coefficient (value qs) e))
+    (coefficient-factor p.factor p.shift p.of.poly e)
+    ∙ ap (λ z. p.factor *ℚ a +ℚ ((z +ℚ coefficient (value rest) e) +ℚ coefficient (value qs) e)) (coefficient-factor q.factor q.shift q.of.poly e ∙
+    ap (λ z. q.factor *ℚ z) h)
     ∙ turn (p.factor *ℚ a) (q.factor *ℚ (a +ℚ t)) (coefficient (value rest) e) (coefficient (value qs) e)
     ∙ ap (λ z. z +ℚ (coefficient (value rest) e +ℚ coefficient (value qs) e)) (merged p.factor q.factor a t)
     ∙ exchange_inner _ _ _ _
-    ∙ ap (λ z. z +ℚ (coefficient (value rest) e +ℚ (q.factor *ℚ t +ℚ coefficient (value qs) e))) (sym (coefficient-factor (p.factor +ℚ q.factor) p.shift p.of.poly e))
+    ∙ ap (λ z. z +ℚ (coefficient (value rest) e +ℚ (q.factor *ℚ t +ℚ coefficient (value qs) e)))
+    (sym (coefficient-factor (p.factor +ℚ q.factor) p.shift p.of.poly e))
     ∙ ap (λ z. coefficient (times (p.factor +ℚ q.factor) p.shift p.of.poly) e +ℚ (coefficient (value rest) e +ℚ (z +ℚ coefficient (value qs) e))) (sym scaled)
   where
     a : Fraction
@@ -153,7 +159,8 @@ merge_equal p q rest ts qs e h =
     turn a b r s = ap (λ z. a +ℚ z) (+ℚ_assoc b r s) ∙ sym (+ℚ_assoc a b (r +ℚ s))
 
     scaled : coefficient (value (scale q.factor [] ts)) e ≡ q.factor *ℚ coefficient (value ts) e
-    scaled = ap (λ z. coefficient z e) (value-scale q.factor [] ts) ∙ coefficient-factor q.factor [] (value ts) e ∙ ap (λ z. q.factor *ℚ coefficient z e) (times-plain (value ts))
+    scaled = ap (λ z. coefficient z e) (value-scale q.factor [] ts) ∙ coefficient-factor q.factor [] (value ts) e ∙ ap (λ z. q.factor *ℚ coefficient z e)
+        (times-plain (value ts))
 
 standard_at : (by : MarkedPolynomial → Type 0) (w : List ℕ) (d : ℕ) →
     ((b : MarkedPolynomial) → by b → IsMarked (lighter w) b) →
@@ -173,20 +180,26 @@ standard_at by w d m s lower (suc n) (p ∷ ps) qs l h k = at (find (IsPieceAt b
         let r = s q.of p.of f.holds.member h.0.member q.shift p.shift (same_flip (level p) (level q) f.like) in
         let p' : Piece = record { factor = p.factor +ℚ q.factor; shift = p.shift; of = p.of } in
         let low : Each (IsPieceUnder by w d) (scale q.factor [] r.pieces) =
-        Each-scale (IsPieceBelow by (lighter w) (level q)) (IsPieceUnder by w d) q.factor [] (λ t g. record { member = g.member; under = omega (arith, g.lower, f.holds.here) }) r.pieces r.lower in
+        Each-scale (IsPieceBelow by (lighter w) (level q)) (IsPieceUnder by w d) q.factor
+        [] (λ t g. record { member = g.member; under = omega (arith, g.lower, f.holds.here) }) r.pieces r.lower in
         IsStandard-equal by w (value (p ∷ ps ++ qs)) (value (p' ∷ f.rest ++ (scale q.factor [] r.pieces ++ qs)))
         (λ e.
         coefficient-++ (times p.factor p.shift p.of.poly) (value (ps ++ qs)) e
         ∙ ap (λ z. coefficient (times p.factor p.shift p.of.poly) e +ℚ z) (coefficient-value-++ ps qs e ∙ ap (λ z. z +ℚ coefficient (value qs) e) (f.equal e))
         ∙ merge_equal p q f.rest r.pieces qs e (r.equation e)
         ∙ ap (λ z. coefficient (times (p.factor +ℚ q.factor) p.shift p.of.poly) e +ℚ z)
-        (ap (λ z. coefficient (value f.rest) e +ℚ z) (sym (coefficient-value-++ (scale q.factor [] r.pieces) qs e)) ∙ sym (coefficient-value-++ f.rest (scale q.factor [] r.pieces ++ qs) e))
+        (ap (λ z. coefficient (value f.rest) e +ℚ z) (sym (coefficient-value-++ (scale q.factor [] r.pieces) qs e)) ∙
+        sym (coefficient-value-++ f.rest (scale q.factor [] r.pieces ++ qs) e))
         ∙ sym (coefficient-++ (times p'.factor p'.shift p'.of.poly) (value (f.rest ++ (scale q.factor [] r.pieces ++ qs))) e))
-        (rec (p' ∷ f.rest) (scale q.factor [] r.pieces ++ qs) (omega (arith, f.shorter)) (record { member = h.0.member; here = h.0.here }, f.rest_holds) (Each-++ (IsPieceUnder by w d) (scale q.factor [] r.pieces) qs low k))
+        (rec (p' ∷ f.rest) (scale q.factor [] r.pieces ++ qs) (omega (arith, f.shorter)) (
+          record { member = h.0.member; here = h.0.here },
+          f.rest_holds,
+        ) (Each-++ (IsPieceUnder by w d) (scale q.factor [] r.pieces) qs low k))
     at (inr none) rec = elim (zero_or_not p.factor) [
       | inl z ↦ IsStandard-equal by w (value (p ∷ ps ++ qs)) (value (ps ++ qs))
           (λ e. coefficient-++ (times p.factor p.shift p.of.poly) (value (ps ++ qs)) e
-          ∙ ap (λ y. y +ℚ coefficient (value (ps ++ qs)) e) (coefficient-factor p.factor p.shift p.of.poly e ∙ ap (λ y. y *ℚ coefficient (times one_ℚ p.shift p.of.poly) e) z ∙ *ℚ_comm zero_ℚ _ ∙ *ℚ-zero _)
+          ∙ ap (λ y. y +ℚ coefficient (value (ps ++ qs)) e) (coefficient-factor p.factor p.shift p.of.poly e ∙
+          ap (λ y. y *ℚ coefficient (times one_ℚ p.shift p.of.poly) e) z ∙ *ℚ_comm zero_ℚ _ ∙ *ℚ-zero _)
           ∙ zero-+ℚ _)
           (rec ps qs (omega arith) h.1 k)
       | inr z ↦ inr (record {
@@ -200,13 +213,18 @@ standard_at by w d m s lower (suc n) (p ∷ ps) qs l h k = at (find (IsPieceAt b
       where
         below_none : (xs : List Piece) → Each (IsPieceUnder by w d) xs → NoneAt (level p) xs
         below_none [] k = tt
-        below_none (x ∷ xs) k = (not_same (level p) (level x) (λ y. absurd (omega (arith, k.0.under, h.0.here, weight-same w (level p) (level x) y))), below_none xs k.1)
+        below_none (x ∷ xs) k = (
+          not_same (level p) (level x) (λ y. absurd (omega (arith, k.0.under, h.0.here, weight-same w (level p) (level x) y))),
+          below_none xs k.1,
+        )
 
         alone : NoneAt (level p) ps → coefficient (value (p ∷ ps ++ qs)) (level p) ≡ p.factor
         alone none =
             coefficient-++ (times p.factor p.shift p.of.poly) (value (ps ++ qs)) (level p)
-            ∙ ap (λ z. z +ℚ coefficient (value (ps ++ qs)) (level p)) (coefficient-mark p.factor p.shift (level p) p.of (m p.of h.0.member).monic (same-refl (level p)))
-            ∙ ap (λ z. p.factor +ℚ z) (nothing_at by w (level p) (ps ++ qs) m (within_all by w d (weight w (level p)) ps qs (sym h.0.here) h.1 k) (Each-++ _ ps qs none (below_none qs k)))
+            ∙ ap (λ z. z +ℚ coefficient (value (ps ++ qs)) (level p)) (coefficient-mark p.factor p.shift (level p) p.of (m p.of h.0.member).monic
+            (same-refl (level p)))
+            ∙ ap (λ z. p.factor +ℚ z) (nothing_at by w (level p) (ps ++ qs) m (within_all by w d (weight w (level p)) ps qs (sym h.0.here) h.1 k)
+            (Each-++ _ ps qs none (below_none qs k)))
             ∙ +ℚ-zero p.factor
 
 -- sums of lighter multiples are 0, or have a term at a mark that no multiple passes
@@ -230,8 +248,14 @@ bounded by w (p ∷ ps) h = at (bounded by w ps h.1)
   where
     at : ((d : ℕ) × Each (IsPieceUnder by w d) ps) → (d : ℕ) × Each (IsPieceUnder by w d) (p ∷ ps)
     at r =
-        let d = suc (max r.0 (weight w (level p))) in
-        (d, (record { member = h.0; under = omega arith }, Each-weaker (IsPieceUnder by w r.0) (IsPieceUnder by w d) (λ q k. record { member = k.member; under = omega (arith, k.under) }) ps r.1))
+        let d = suc (max r.0 (weight w (level p))) in (
+          d,
+          (
+            record { member = h.0; under = omega arith },
+            Each-weaker (IsPieceUnder by w r.0) (IsPieceUnder by w d)
+                (λ q k. record { member = k.member; under = omega (arith, k.under) }) ps r.1,
+          ),
+        )
 
 -- so are all sums of multiples
 pub standard : (by : MarkedPolynomial → Type 0) (w : List ℕ) (f : Terms) →
@@ -244,7 +268,13 @@ standard by w f m s c =
   where
     at : IsStandard by w (value c.pieces) → IsStandard by w f
     at (inl z) = inl (λ e. c.equal e ∙ z e)
-    at (inr t) = inr (record { pieces = t.pieces; top = t.top; there = λ z. t.there (sym (c.equal t.top) ∙ z); within = t.within; equal = λ e. c.equal e ∙ t.equal e })
+    at (inr t) = inr (record {
+      pieces = t.pieces;
+      top = t.top;
+      there = λ z. t.there (sym (c.equal t.top) ∙ z);
+      within = t.within;
+      equal = λ e. c.equal e ∙ t.equal e;
+    })
 
 -- a term at an exponent that no piece passes by weight stands at a mark
 divisible_at : (by : MarkedPolynomial → Type 0) (w : List ℕ) (x : Exponents) (ps : List Piece) →

@@ -1,7 +1,8 @@
 -- Division: each polynomial is an irreducible remainder and a sum of multiples, inside any set that steps don't leave.
 -- To cite: divisible_or_not, divided, irreducible_terms. The rest are steps: terms are divided or kept weight by weight,
 -- so that the recursion is on the weight and needs no normal form.
-use Rattle.std.proofs.Common.{◌≡◌, ◌⊎◌, ◌≢◌, ℕ, zero, suc, ◌<◌, ◌≤◌, Bool, true, false, if◌then◌else◌, List, [], ◌∷◌, ◌++◌, Contains, max, arith, refl, sym, ap, ◌∙◌, inl, inr}
+use Rattle.std.proofs.Common.{◌≡◌, ◌⊎◌, ◌≢◌, ℕ, zero, suc, ◌<◌, ◌≤◌, Bool, true, false, if◌then◌else◌, List, [], ◌∷◌, ◌++◌, Contains, max, arith, refl, sym, ap}
+use Rattle.std.proofs.Common.{◌∙◌, inl, inr}
 use Rattle.std.proofs.lemmas.Bool.{cases_lt}
 use Rattle.gf_frac.specs.Fraction.{Fraction, ◌+ℚ◌, ◌*ℚ◌, neg_ℚ, zero_ℚ, one_ℚ}
 use Rattle.gf_frac.proofs.FractionLaws.{+ℚ_assoc, +ℚ-zero, *ℚ-one}
@@ -79,10 +80,12 @@ taken_term t b k u e one s =
   where
     monic : (y : Exponents) →
         coefficient b.poly y ≡ (if same y b.head then one_ℚ else zero_ℚ) +ℚ coefficient (without b.head k.terms) y
-    monic y = k.equal y ∙ apart b.head k.terms y ∙ ap (λ z. (if same y b.head then z else zero_ℚ) +ℚ coefficient (without b.head k.terms) y) (sym (k.equal b.head) ∙ one)
+    monic y = k.equal y ∙ apart b.head k.terms y ∙ ap (λ z. (if same y b.head then z else zero_ℚ) +ℚ coefficient (without b.head k.terms) y)
+        (sym (k.equal b.head) ∙ one)
 
     here : (if same e (plus u b.head) then t.coef *ℚ one_ℚ else zero_ℚ) ≡ (if same e t.mono then t.coef else zero_ℚ)
-    here = ap (λ c. if same e (plus u b.head) then c else zero_ℚ) (*ℚ-one t.coef) ∙ ap (λ b. if b then t.coef else zero_ℚ) (same-sym e (plus u b.head) ∙ sym (same_along t.mono (plus u b.head) e s) ∙ same-sym t.mono e)
+    here = ap (λ c. if same e (plus u b.head) then c else zero_ℚ) (*ℚ-one t.coef) ∙ ap (λ b. if b then t.coef else zero_ℚ)
+        (same-sym e (plus u b.head) ∙ sym (same_along t.mono (plus u b.head) e s) ∙ same-sym t.mono e)
 
 -- ---- division
 -- f is an irreducible remainder and a sum of pieces, all inside B
@@ -115,7 +118,17 @@ Each-times P Q c u h (t ∷ f) k = (h t.mono k.0, Each-times P Q c u h f k.1)
 split : (bs : List MarkedPolynomial) (w : List ℕ) (B : Exponents → Type 0) → AreMarked (lighter w) bs →
     IsClosed (Contains bs) B → (d : ℕ) (f : Terms) → Each (λ (t : Term). weight w t.mono < suc d) f →
     Each (λ (t : Term). B t.mono) f → Split bs w d B f
-split bs w B mw dw d [] h k = record { remainder = []; kept = tt; irreducible = tt; pieces = []; inside = tt; lower = []; under = tt; within = tt; equal = λ e. sym (ap (λ z. zero_ℚ +ℚ z) (+ℚ-zero zero_ℚ) ∙ +ℚ-zero zero_ℚ) }
+split bs w B mw dw d [] h k = record {
+  remainder = [];
+  kept = tt;
+  irreducible = tt;
+  pieces = [];
+  inside = tt;
+  lower = [];
+  under = tt;
+  within = tt;
+  equal = λ e. sym (ap (λ z. zero_ℚ +ℚ z) (+ℚ-zero zero_ℚ) ∙ +ℚ-zero zero_ℚ);
+}
 split bs w B mw dw d (t ∷ f) h k = at (split bs w B mw dw d f h.1 k.1) (cases_lt (weight w t.mono) d) (divisible_or_not bs t.mono)
   where
     at : Split bs w d B f → (weight w t.mono < d) ⊎ (d ≤ weight w t.mono) →
@@ -149,7 +162,13 @@ split bs w B mw dw d (t ∷ f) h k = at (split bs w B mw dw d f h.1 k.1) (cases_
         let kb = canonical b.poly in
         let rest = without b.head kb.terms in
         let under : Each (λ (s : Term). weight w s.mono < d) (times (neg_ℚ t.coef) u rest) =
-        Each-times (λ x. lighter w x b.head) (λ x. weight w x < d) (neg_ℚ t.coef) u (λ x l. omega (arith, weight-plus w u x, weight-plus w u b.head, weight-same w t.mono (plus u b.head) q.divides, h.0)) rest
+        Each-times (λ x. lighter w x b.head) (λ x. weight w x < d) (neg_ℚ t.coef) u (λ x l. omega (
+          arith,
+          weight-plus w u x,
+          weight-plus w u b.head,
+          weight-same w t.mono (plus u b.head) q.divides,
+          h.0,
+        )) rest
         (without-below (lighter w) b.head kb.terms (canonical_terms (λ y. (same y b.head ≡ true) ⊎ lighter w y b.head) b.poly kb (mw b q.contained).tail)) in
         let within : Each (λ (s : Term). B s.mono) (times (neg_ℚ t.coef) u rest) =
         Each-times (λ x. HasMonomial b.poly x) B (neg_ℚ t.coef) u (λ x n. dw.lower b q.contained u x n top) rest
@@ -167,8 +186,10 @@ split bs w B mw dw d (t ∷ f) h k = at (split bs w B mw dw d f h.1 k.1) (cases_
               ap (λ z. z +ℚ coefficient f e) (taken_term t b kb u e (mw b q.contained).monic q.divides)
               ∙ ap (λ z. (coefficient (times t.coef u b.poly) e +ℚ coefficient (times (neg_ℚ t.coef) u rest) e) +ℚ z) (r.equal e)
               ∙ into_pieces _ _ _ _ _
-              ∙ ap (λ z. coefficient r.remainder e +ℚ (z +ℚ (coefficient (times (neg_ℚ t.coef) u rest) e +ℚ coefficient r.lower e))) (sym (coefficient-++ (times t.coef u b.poly) (value r.pieces) e))
-              ∙ ap (λ z. coefficient r.remainder e +ℚ (coefficient (times t.coef u b.poly ++ value r.pieces) e +ℚ z)) (sym (coefficient-++ (times (neg_ℚ t.coef) u rest) r.lower e));
+              ∙ ap (λ z. coefficient r.remainder e +ℚ (z +ℚ (coefficient (times (neg_ℚ t.coef) u rest) e +ℚ coefficient r.lower e)))
+              (sym (coefficient-++ (times t.coef u b.poly) (value r.pieces) e))
+              ∙ ap (λ z. coefficient r.remainder e +ℚ (coefficient (times t.coef u b.poly ++ value r.pieces) e +ℚ z))
+              (sym (coefficient-++ (times (neg_ℚ t.coef) u rest) r.lower e));
         }
 
 divide_under : (bs : List MarkedPolynomial) (w : List ℕ) (B : Exponents → Type 0) → AreMarked (lighter w) bs →
@@ -203,7 +224,14 @@ heavy w (t ∷ f) = at (heavy w f)
   where
     at : ((d : ℕ) × Each (λ (t : Term). weight w t.mono < d) f) →
         (d : ℕ) × Each (λ (s : Term). weight w s.mono < d) (t ∷ f)
-    at r = (suc (max r.0 (weight w t.mono)), (omega arith, Each-weaker (λ (s : Term). weight w s.mono < r.0) (λ (s : Term). weight w s.mono < suc (max r.0 (weight w t.mono))) (λ s l. omega arith) f r.1))
+    at r = (
+      suc (max r.0 (weight w t.mono)),
+      (
+        omega arith,
+        Each-weaker (λ (s : Term). weight w s.mono < r.0) (λ (s : Term). weight w s.mono <
+            suc (max r.0 (weight w t.mono))) (λ s l. omega arith) f r.1,
+      ),
+    )
 
 -- each polynomial is divided, and neither multiples nor the remainder leave a set that steps don't leave
 pub divided : (bs : List MarkedPolynomial) (w : List ℕ) (B : Exponents → Type 0) (f : Terms) →
@@ -215,12 +243,25 @@ divided bs w B f mw dw h = at (canonical f)
       where
         finish : ((d : ℕ) × Each (λ (t : Term). weight w t.mono < d) c.terms) → Divided bs B f
         finish d =
-            let r = divide_under bs w B mw dw d.0 c.terms d.1 (Each-weaker (λ (t : Term). coefficient f t.mono ≢ zero_ℚ) (λ (t : Term). B t.mono) (λ t n. h t.mono n) c.terms c.there) in
-            record { remainder = r.remainder; kept = r.kept; irreducible = r.irreducible; pieces = r.pieces; inside = r.inside; equal = λ e. c.equal e ∙ r.equal e }
+            let r = divide_under bs w B mw dw d.0 c.terms d.1 (Each-weaker (λ (t : Term). coefficient f t.mono ≢ zero_ℚ) (λ (t : Term). B t.mono)
+            (λ t n. h t.mono n) c.terms c.there) in
+            record {
+              remainder = r.remainder;
+              kept = r.kept;
+              irreducible = r.irreducible;
+              pieces = r.pieces;
+              inside = r.inside;
+              equal = λ e. c.equal e ∙ r.equal e;
+            }
 
 -- terms that no mark divides are irreducible
 pub irreducible_terms : (bs : List MarkedPolynomial) (f : Terms) → Each (λ (t : Term). NoMark bs t.mono) f →
     IsIrreducible (Contains bs) f
 irreducible_terms bs f h x n d =
     let r = found_term (λ (t : Term). NoMark bs t.mono) one_ℚ [] f x h (λ z. n (ap (λ g. coefficient g x) (sym (times-plain f)) ∙ z)) in
-    undivided bs r.0.mono r.1 (record { member = d.member; contained = d.contained; rest = d.rest; divides = same_trans r.0.mono x (plus d.rest d.member.head) (same_flip x r.0.mono r.2) d.divides })
+    undivided bs r.0.mono r.1 (record {
+      member = d.member;
+      contained = d.contained;
+      rest = d.rest;
+      divides = same_trans r.0.mono x (plus d.rest d.member.head) (same_flip x r.0.mono r.2) d.divides;
+    })

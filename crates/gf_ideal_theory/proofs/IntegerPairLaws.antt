@@ -38,7 +38,8 @@ Each-with n bs below x (p ∷ ps) h = (record { member = h.0.contained; lower = 
 
 spoly-parts : (b c : MarkedPolynomial) (s : Terms) (q : IsSPolynomial b c s) (e : Exponents) →
     coefficient s e ≡ coefficient (times one_ℚ q.left b.poly) e +ℚ neg_ℚ (coefficient (times one_ℚ q.right c.poly) e)
-spoly-parts b c s q e = q.equal e ∙ coefficient-++ (times one_ℚ q.left b.poly) (times (neg_ℚ one_ℚ) q.right c.poly) e ∙ ap (λ z. coefficient (times one_ℚ q.left b.poly) e +ℚ z) (coefficient-factor (neg_ℚ one_ℚ) q.right c.poly e ∙ neg_one _)
+spoly-parts b c s q e = q.equal e ∙ coefficient-++ (times one_ℚ q.left b.poly) (times (neg_ℚ one_ℚ) q.right c.poly) e ∙
+    ap (λ z. coefficient (times one_ℚ q.left b.poly) e +ℚ z) (coefficient-factor (neg_ℚ one_ℚ) q.right c.poly e ∙ neg_one _)
 
 -- from whole numbers to fractions
 pub settled_of_pair : (n : ℕ) (bs : List MarkedPolynomial) (below : Exponents → Exponents → Type 0) (b c : MarkedPolynomial) →
@@ -53,13 +54,18 @@ settled_of_pair n bs below b c o h =
       bridge = record {
         pieces = scale d [] (with_fractions h.multiples);
         lower = Each-scale (IsPieceBelow (Contains bs) below (join b.head c.head)) (IsPieceBelow (Contains bs) below (plus h.is_s.left b.head)) d []
-            (λ p q. record { member = q.member; lower = o.along_right (level p) (join b.head c.head) (plus h.is_s.left b.head) (same_flip (plus h.is_s.left b.head) (join b.head c.head) h.is_s.of_left) q.lower })
+            (λ p q. record {
+              member = q.member;
+              lower = o.along_right (level p) (join b.head c.head) (plus h.is_s.left b.head) (same_flip (plus h.is_s.left b.head) (join b.head c.head)
+                  h.is_s.of_left) q.lower;
+            })
             (with_fractions h.multiples) (Each-with n bs below (join b.head c.head) h.multiples h.lower);
         equation = λ e. taken_over _ _ _ _ (spoly-parts b c h.s h.is_s e)
             (sym (one-*ℚ (coefficient h.s e))
             ∙ ap (λ z. z *ℚ coefficient h.s e) (sym (inverse h.factor h.positive))
             ∙ *ℚ_assoc d (whole (pos h.factor)) (coefficient h.s e)
-            ∙ ap (λ z. d *ℚ z) (h.equation e ∙ ap (λ z. coefficient z e) (sym (value-with h.multiples) ∙ sym (times-plain (value (with_fractions h.multiples)))))
+            ∙ ap (λ z. d *ℚ z) (h.equation e ∙ ap (λ z. coefficient z e)
+            (sym (value-with h.multiples) ∙ sym (times-plain (value (with_fractions h.multiples)))))
             ∙ sym (coefficient-factor d [] (value (with_fractions h.multiples)) e)
             ∙ ap (λ z. coefficient z e) (sym (value-scale d [] (with_fractions h.multiples))));
       };
@@ -75,7 +81,9 @@ coefficient-whole_times : (k : ℤ) (ps : List IntegerPiece) (e : Exponents) →
 coefficient-whole_times k [] e = sym (*ℚ-zero (whole k))
 coefficient-whole_times k (p ∷ ps) e =
     coefficient-++ (times (whole (k *ℤ p.factor)) p.shift p.of.poly) (integer_value (whole_times k ps)) e
-    ∙ ap (λ z. z +ℚ coefficient (integer_value (whole_times k ps)) e) (coefficient-factor (whole (k *ℤ p.factor)) p.shift p.of.poly e ∙ ap (λ z. z *ℚ coefficient (times one_ℚ p.shift p.of.poly) e) (whole-* k p.factor) ∙ *ℚ_assoc _ _ _ ∙ ap (λ z. whole k *ℚ z) (sym (coefficient-factor (whole p.factor) p.shift p.of.poly e)))
+    ∙ ap (λ z. z +ℚ coefficient (integer_value (whole_times k ps)) e) (coefficient-factor (whole (k *ℤ p.factor)) p.shift p.of.poly e ∙
+    ap (λ z. z *ℚ coefficient (times one_ℚ p.shift p.of.poly) e) (whole-* k p.factor) ∙ *ℚ_assoc _ _ _ ∙
+    ap (λ z. whole k *ℚ z) (sym (coefficient-factor (whole p.factor) p.shift p.of.poly e)))
     ∙ ap (λ z. whole k *ℚ coefficient (times (whole p.factor) p.shift p.of.poly) e +ℚ z) (coefficient-whole_times k ps e)
     ∙ sym (*ℚ-+ℚ (whole k) _ _)
     ∙ ap (λ z. whole k *ℚ z) (sym (coefficient-++ (times (whole p.factor) p.shift p.of.poly) (integer_value ps) e))
@@ -83,7 +91,14 @@ coefficient-whole_times k (p ∷ ps) e =
 Each-whole_times : (n : ℕ) (bs : List MarkedPolynomial) (below : Exponents → Exponents → Type 0) (x : Exponents) (k : ℤ) (ps : List IntegerPiece) →
     Each (IsMultipleBelow n bs below x) ps → Each (IsMultipleBelow n bs below x) (whole_times k ps)
 Each-whole_times n bs below x k [] h = tt
-Each-whole_times n bs below x k (p ∷ ps) h = (record { contained = h.0.contained; in_ring = h.0.in_ring; lower = h.0.lower }, Each-whole_times n bs below x k ps h.1)
+Each-whole_times n bs below x k (p ∷ ps) h = (
+  record {
+    contained = h.0.contained;
+    in_ring = h.0.in_ring;
+    lower = h.0.lower;
+  },
+  Each-whole_times n bs below x k ps h.1,
+)
 
 record IsRingPieceBelow (n : ℕ) (bs : List MarkedPolynomial) (below : Exponents → Exponents → Type 0) (x : Exponents) (p : Piece) : Type 0 where
   piece : IsPieceBelow (Contains bs) below x p
@@ -106,7 +121,14 @@ cleared n bs below x (p ∷ ps) h = at (cleared n bs below x ps h.1)
       factor = r.factor * p.factor.den;
       positive = mul-pos r.positive p.factor.positive;
       multiples = record { factor = pos r.factor *ℤ p.factor.num; shift = p.shift; of = p.of } ∷ whole_times (pos p.factor.den) r.multiples;
-      lower = (record { contained = h.0.piece.member; in_ring = h.0.shift; lower = h.0.piece.lower }, Each-whole_times n bs below x (pos p.factor.den) r.multiples r.lower);
+      lower = (
+        record {
+          contained = h.0.piece.member;
+          in_ring = h.0.shift;
+          lower = h.0.piece.lower;
+        },
+        Each-whole_times n bs below x (pos p.factor.den) r.multiples r.lower,
+      );
       equation = λ e. equal e;
     }
       where
@@ -117,20 +139,29 @@ cleared n bs below x (p ∷ ps) h = at (cleared n bs below x ps h.1)
         m = whole (pos p.factor.den)
 
         first : (x : Fraction) → (d *ℚ m) *ℚ (p.factor *ℚ x) ≡ whole (pos r.factor *ℤ p.factor.num) *ℚ x
-        first x = sym (*ℚ_assoc (d *ℚ m) p.factor x) ∙ ap (λ z. z *ℚ x) (*ℚ_assoc d m p.factor ∙ ap (λ z. d *ℚ z) (den_times p.factor) ∙ sym (whole-* (pos r.factor) p.factor.num))
+        first x = sym (*ℚ_assoc (d *ℚ m) p.factor x) ∙ ap (λ z. z *ℚ x) (*ℚ_assoc d m p.factor ∙ ap (λ z. d *ℚ z) (den_times p.factor) ∙
+            sym (whole-* (pos r.factor) p.factor.num))
 
         second : (v : Fraction) → (d *ℚ m) *ℚ v ≡ m *ℚ (d *ℚ v)
         second v = ap (λ z. z *ℚ v) (*ℚ_comm d m) ∙ *ℚ_assoc m d v
 
-        equal : (e : Exponents) →
-            whole (pos (r.factor * p.factor.den)) *ℚ coefficient (value (p ∷ ps)) e ≡ coefficient (integer_value (record { factor = pos r.factor *ℤ p.factor.num; shift = p.shift; of = p.of } ∷ whole_times (pos p.factor.den) r.multiples)) e
+        equal : (e : Exponents) → whole (pos (r.factor * p.factor.den)) *ℚ coefficient (value (p ∷ ps)) e ≡
+            coefficient (integer_value (record {
+              factor = pos r.factor *ℤ p.factor.num;
+              shift = p.shift;
+              of = p.of;
+            } ∷ whole_times (pos p.factor.den) r.multiples)) e
         equal e =
             ap (λ z. z *ℚ coefficient (value (p ∷ ps)) e) (whole-* (pos r.factor) (pos p.factor.den))
-            ∙ ap (λ z. (d *ℚ m) *ℚ z) (coefficient-++ (times p.factor p.shift p.of.poly) (value ps) e ∙ ap (λ z. z +ℚ coefficient (value ps) e) (coefficient-factor p.factor p.shift p.of.poly e))
+            ∙ ap (λ z. (d *ℚ m) *ℚ z) (coefficient-++ (times p.factor p.shift p.of.poly) (value ps) e ∙ ap (λ z. z +ℚ coefficient (value ps) e)
+            (coefficient-factor p.factor p.shift p.of.poly e))
             ∙ *ℚ-+ℚ (d *ℚ m) _ _
-            ∙ ap (λ z. z +ℚ (d *ℚ m) *ℚ coefficient (value ps) e) (first _ ∙ sym (coefficient-factor (whole (pos r.factor *ℤ p.factor.num)) p.shift p.of.poly e))
-            ∙ ap (λ z. coefficient (times (whole (pos r.factor *ℤ p.factor.num)) p.shift p.of.poly) e +ℚ z) (second (coefficient (value ps) e) ∙ ap (λ z. m *ℚ z) (r.equation e) ∙ sym (coefficient-whole_times (pos p.factor.den) r.multiples e))
-            ∙ sym (coefficient-++ (times (whole (pos r.factor *ℤ p.factor.num)) p.shift p.of.poly) (integer_value (whole_times (pos p.factor.den) r.multiples)) e)
+            ∙ ap (λ z. z +ℚ (d *ℚ m) *ℚ coefficient (value ps) e)
+            (first _ ∙ sym (coefficient-factor (whole (pos r.factor *ℤ p.factor.num)) p.shift p.of.poly e))
+            ∙ ap (λ z. coefficient (times (whole (pos r.factor *ℤ p.factor.num)) p.shift p.of.poly) e +ℚ z) (second (coefficient (value ps) e) ∙
+            ap (λ z. m *ℚ z) (r.equation e) ∙ sym (coefficient-whole_times (pos p.factor.den) r.multiples e))
+            ∙ sym (coefficient-++ (times (whole (pos r.factor *ℤ p.factor.num)) p.shift p.of.poly) (integer_value (whole_times (pos p.factor.den) r.multiples))
+            e)
 
 -- ---- pieces with shifts in the ring
 
@@ -150,16 +181,19 @@ ring_pieces P n (p ∷ ps) g h = at (in_ring n p.shift) (ring_pieces P n ps g h.
     at (inl k) r = record {
       pieces = p ∷ r.pieces;
       holds = ((h.0, k), r.holds);
-      alike = λ e j. coefficient-++ (times p.factor p.shift p.of.poly) (value ps) e ∙ ap (λ z. coefficient (times p.factor p.shift p.of.poly) e +ℚ z) (r.alike e j) ∙ sym (coefficient-++ (times p.factor p.shift p.of.poly) (value r.pieces) e);
+      alike = λ e j. coefficient-++ (times p.factor p.shift p.of.poly) (value ps) e ∙ ap (λ z. coefficient (times p.factor p.shift p.of.poly) e +ℚ
+          z) (r.alike e j) ∙ sym (coefficient-++ (times p.factor p.shift p.of.poly) (value r.pieces) e);
       nothing = λ e j. coefficient-++ (times p.factor p.shift p.of.poly) (value r.pieces) e
-          ∙ ap (λ z. z +ℚ coefficient (value r.pieces) e) (nothing_there p.factor p.shift p.of.poly e (λ y m s. j (ring-along n (plus p.shift y) e (same_flip e (plus p.shift y) s) (ring-plus n p.shift y k (g p h.0 y m)))))
+          ∙ ap (λ z. z +ℚ coefficient (value r.pieces) e) (nothing_there p.factor p.shift p.of.poly e
+          (λ y m s. j (ring-along n (plus p.shift y) e (same_flip e (plus p.shift y) s) (ring-plus n p.shift y k (g p h.0 y m)))))
           ∙ zero-+ℚ _ ∙ r.nothing e j;
     }
     at (inr k) r = record {
       pieces = r.pieces;
       holds = r.holds;
       alike = λ e j. coefficient-++ (times p.factor p.shift p.of.poly) (value ps) e
-          ∙ ap (λ z. z +ℚ coefficient (value ps) e) (nothing_there p.factor p.shift p.of.poly e (λ y m s. k (ring-left n p.shift y (ring-along n e (plus p.shift y) s j))))
+          ∙ ap (λ z. z +ℚ coefficient (value ps) e) (nothing_there p.factor p.shift p.of.poly e
+          (λ y m s. k (ring-left n p.shift y (ring-along n e (plus p.shift y) s j))))
           ∙ zero-+ℚ _ ∙ r.alike e j;
       nothing = r.nothing;
     }
@@ -172,7 +206,9 @@ pub pair_of_settled : (n : ℕ) (bs : List MarkedPolynomial) (below : Exponents 
     IsSettledAtJoin (Contains bs) below b c → IsSettledPair n bs below b c
 pair_of_settled n bs below b c v o m hb hc h =
     at (ring_pieces (IsPieceBelow (Contains bs) below (join b.head c.head)) n h.bridge.pieces (λ p k. inside p.of k.member)
-    (Each-weaker (IsPieceBelow (Contains bs) below (plus h.left b.head)) (IsPieceBelow (Contains bs) below (join b.head c.head)) (λ p q. record { member = q.member; lower = o.along_right (level p) (plus h.left b.head) (join b.head c.head) h.of_left q.lower }) h.bridge.pieces h.bridge.lower))
+    (Each-weaker (IsPieceBelow (Contains bs) below (plus h.left b.head)) (IsPieceBelow (Contains bs) below (join b.head c.head))
+    (λ p q. record { member = q.member; lower = o.along_right (level p) (plus h.left b.head) (join b.head c.head) h.of_left q.lower })
+    h.bridge.pieces h.bridge.lower))
   where
     inside : (d : MarkedPolynomial) → Contains bs d → IsInVariables n d.poly
     inside d k = v d.poly (Contains-polys bs d k)
@@ -190,11 +226,14 @@ pair_of_settled n bs below b c v o m hb hc h =
     less l m v q = ap (λ z. z +ℚ neg_ℚ m) (q ∙ +ℚ_comm m v) ∙ +ℚ_assoc v m (neg_ℚ m) ∙ ap (λ z. v +ℚ z) (+ℚ-neg_ℚ m) ∙ +ℚ-zero v
 
     sum : (e : Exponents) → coefficient s e ≡ coefficient (value h.bridge.pieces) e
-    sum e = spoly-parts b c s is_s e ∙ less (coefficient (times one_ℚ h.left b.poly) e) (coefficient (times one_ℚ h.right c.poly) e) (coefficient (value h.bridge.pieces) e) (h.bridge.equation e)
+    sum e = spoly-parts b c s is_s e ∙ less (coefficient (times one_ℚ h.left b.poly) e) (coefficient (times one_ℚ h.right c.poly) e)
+        (coefficient (value h.bridge.pieces) e) (h.bridge.equation e)
 
     at : RingPieces (IsPieceBelow (Contains bs) below (join b.head c.head)) n h.bridge.pieces →
         IsSettledPair n bs below b c
-    at r = finish (cleared n bs below (join b.head c.head) r.pieces (Each-weaker (λ (p : Piece). IsPieceBelow (Contains bs) below (join b.head c.head) p × IsInRing n p.shift) (IsRingPieceBelow n bs below (join b.head c.head)) (λ p k. record { piece = k.0; shift = k.1 }) r.pieces r.holds))
+    at r = finish (cleared n bs below (join b.head c.head) r.pieces
+        (Each-weaker (λ (p : Piece). IsPieceBelow (Contains bs) below (join b.head c.head) p × IsInRing n p.shift)
+        (IsRingPieceBelow n bs below (join b.head c.head)) (λ p k. record { piece = k.0; shift = k.1 }) r.pieces r.holds))
       where
         equal : (e : Exponents) → IsInRing n e ⊎ (IsInRing n e → ⊥) → coefficient s e ≡ coefficient (value r.pieces) e
         equal e (inl k) = sum e ∙ r.alike e k

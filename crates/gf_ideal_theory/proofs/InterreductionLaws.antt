@@ -1,5 +1,6 @@
 -- Interreduction: members that are not needed may go, tails may be reduced, and what is left is the reduced basis.
--- To cite: interreduced, reduced-tails, apart-tails (all at once), basis-kept, basis-tails, tail-marked, tail-member, tail-head, reduced_by_weight, reduced_by_order.
+-- To cite: interreduced, reduced-tails, apart-tails (all at once), basis-kept, basis-tails, tail-marked, tail-member, tail-head, reduced_by_weight,
+-- reduced_by_order.
 use Rattle.std.proofs.Common.{◌≡◌, ◌⊎◌, ℕ, Bool, true, false, List, [], ◌∷◌, Contains, arith, refl, sym, ap, ◌∙◌, subst, inl, inr}
 use Rattle.gf_frac.specs.Fraction.{◌+ℚ◌, neg_ℚ, zero_ℚ}
 use Rattle.gf_frac.proofs.FractionLaws.{+ℚ-zero, zero_or_not}
@@ -33,7 +34,8 @@ divisible_through bs ks over x d =
       contained = o.contained;
       rest = plus d.rest o.rest;
       divides = same_trans x (plus d.rest d.member.head) (plus (plus d.rest o.rest) o.member.head) d.divides
-          (same_trans (plus d.rest d.member.head) (plus d.rest (plus o.rest o.member.head)) (plus (plus d.rest o.rest) o.member.head) (same_shift d.rest d.member.head (plus o.rest o.member.head) o.divides) (same_of _ _ (sym (plus_assoc d.rest o.rest o.member.head))));
+          (same_trans (plus d.rest d.member.head) (plus d.rest (plus o.rest o.member.head)) (plus (plus d.rest o.rest) o.member.head)
+          (same_shift d.rest d.member.head (plus o.rest o.member.head) o.divides) (same_of _ _ (sym (plus_assoc d.rest o.rest o.member.head))));
     }
 
 -- members whose marks still divide each mark are a basis
@@ -66,7 +68,11 @@ basis-tails n fs bs cs b inside marked heads = record {
 tail_step : (by : MarkedPolynomial → Type 0) (below : Exponents → Exponents → Type 0) (f g : Terms) (h : Exponents) (s : IsStep by f g) →
     IsStrict below → ((b : MarkedPolynomial) → by b → IsMarked below b) → IsWithin (IsUpTo below h) f →
     same s.at h ≡ false → (coefficient g h ≡ coefficient f h) × IsWithin (IsUpTo below h) g
-tail_step by below f g h s o m w n = (kept, sum_within (IsUpTo below h) f (times (neg_ℚ (coefficient f s.at)) s.rest s.member.poly) g w (multiple_within by (IsUpTo below h) s.member (neg_ℚ (coefficient f s.at)) s.rest down s.contained top) s.equal)
+tail_step by below f g h s o m w n = (
+  kept,
+  sum_within (IsUpTo below h) f (times (neg_ℚ (coefficient f s.at)) s.rest s.member.poly) g w
+      (multiple_within by (IsUpTo below h) s.member (neg_ℚ (coefficient f s.at)) s.rest down s.contained top) s.equal,
+)
   where
     down : IsClosed by (IsUpTo below h)
     down = closed-up_to by below h o m
@@ -84,7 +90,8 @@ tail_step by below f g h s o m w n = (kept, sum_within (IsUpTo below h) f (times
     none : coefficient (times (neg_ℚ (coefficient f s.at)) s.rest s.member.poly) h ≡ zero_ℚ
     none = elim (zero_or_not (coefficient (times (neg_ℚ (coefficient f s.at)) s.rest s.member.poly) h)) [
       | inl z ↦ z
-      | inr k ↦ absurd (o.irreflexive h h (same-refl h) (multiple_within by (λ y. below y h) s.member (neg_ℚ (coefficient f s.at)) s.rest (closed-below by below h o m) s.contained under h k))
+      | inr k ↦ absurd (o.irreflexive h h (same-refl h) (multiple_within by (λ y. below y h) s.member (neg_ℚ (coefficient f s.at)) s.rest
+          (closed-below by below h o m) s.contained under h k))
     ]
 
     kept : coefficient g h ≡ coefficient f h
@@ -111,14 +118,16 @@ tail-marked below bs b o m (IsTail.step d e t h s n) = at (tail-marked below bs 
 pub tail-member : (n : ℕ) (fs : List Terms) (bs : List MarkedPolynomial) (b : MarkedPolynomial) → AreInVariables n fs →
     AreMembers n fs bs → IsTail bs b → IsMember n fs b.poly
 tail-member n fs bs b v m (IsTail.member d c) = m b c
-tail-member n fs bs b v m (IsTail.step d e t h s k) = member-reached n fs (Contains bs) d.poly b.poly v m (reached-one (Contains bs) d.poly b.poly s) (tail-member n fs bs d v m t)
+tail-member n fs bs b v m (IsTail.step d e t h s k) = member-reached n fs (Contains bs) d.poly b.poly v m (reached-one (Contains bs) d.poly b.poly s)
+    (tail-member n fs bs d v m t)
 
 -- a basis of tails
 pub basis-of_tails : (n : ℕ) (fs : List Terms) (bs cs : List MarkedPolynomial) → AreInVariables n fs → IsBasis n fs bs →
     ((c : MarkedPolynomial) → Contains cs c → IsTail bs c) →
     ((d : MarkedPolynomial) → Contains bs d → (c : MarkedPolynomial) × Contains cs c × (same d.head c.head ≡ true)) →
     IsBasis n fs cs
-basis-of_tails n fs bs cs v b t h = basis-tails n fs bs cs b (λ c k. tail-member n fs bs c v b.members (t c k)) (λ c k. tail-marked (lighter b.marked.0) bs c (lighter-strict b.marked.0) b.marked.2 (t c k)) h
+basis-of_tails n fs bs cs v b t h = basis-tails n fs bs cs b (λ c k. tail-member n fs bs c v b.members (t c k))
+    (λ c k. tail-marked (lighter b.marked.0) bs c (lighter-strict b.marked.0) b.marked.2 (t c k)) h
 
 -- ---- all tails reduced, place by place
 
@@ -155,7 +164,8 @@ apart-along h k x y s t n rest = at (same y (plus x rest)) refl
     at false e = refl
     at true e =
         let f : same k (plus h rest) ≡ false = n rest in
-        let g : same k (plus h rest) ≡ true = same_trans k y (plus h rest) t (same_trans y (plus x rest) (plus h rest) e (same_shift_right rest x h (same_flip h x s))) in
+        let g : same k (plus h rest) ≡ true =
+        same_trans k y (plus h rest) t (same_trans y (plus x rest) (plus h rest) e (same_shift_right rest x h (same_flip h x s))) in
         absurd (cc)
 
 -- members with the same marks are apart too
@@ -171,7 +181,13 @@ apart-tails bs (k ∷ ks) (c ∷ cs) h a = (first ks cs h.1 a.0, apart-tails bs 
     first [] [] r e = tt
     first [] (d ∷ cs) r e = elim r [ ]
     first (j ∷ ks) [] r e = elim r [ ]
-    first (j ∷ ks) (d ∷ cs) r e = ((apart-along k.head j.head c.head d.head h.0.head r.0.head e.0.0, apart-along j.head k.head d.head c.head r.0.head h.0.head e.0.1), first ks cs r.1 e.1)
+    first (j ∷ ks) (d ∷ cs) r e = (
+      (
+        apart-along k.head j.head c.head d.head h.0.head r.0.head e.0.0,
+        apart-along j.head k.head d.head c.head r.0.head h.0.head e.0.1,
+      ),
+      first ks cs r.1 e.1,
+    )
 
 -- the tails of members that are apart, reduced by them
 pub reduced-tails : (ks cs : List MarkedPolynomial) → AreReducedTails ks ks cs → HasReducedTails cs
@@ -189,7 +205,8 @@ pub interreduced : (n : ℕ) (fs : List Terms) (bs ks cs : List MarkedPolynomial
     IsBasis n fs bs → ((k : MarkedPolynomial) → Contains ks k → Contains bs k) →
     ((b : MarkedPolynomial) → Contains bs b → IsDivisible (Contains ks) b.head) → AreReducedTails ks ks cs →
     IsBasis n fs cs
-interreduced n fs bs ks cs v b inside over t = basis-of_tails n fs ks cs v (basis-kept n fs bs ks b inside over) (λ c q. (tails-of_place ks ks cs t c q).2.tail) (λ k q. tails-at_place ks ks cs t k q)
+interreduced n fs bs ks cs v b inside over t = basis-of_tails n fs ks cs v (basis-kept n fs bs ks b inside over) (λ c q. (tails-of_place ks ks cs t c q).2.tail)
+    (λ k q. tails-at_place ks ks cs t k q)
 
 -- ---- reduced bases
 
@@ -197,7 +214,10 @@ interreduced n fs bs ks cs v b inside over t = basis-of_tails n fs ks cs v (basi
 pub reduced_by_weight : (n : ℕ) (fs : List Terms) (bs : List MarkedPolynomial) (w : List ℕ) → AreInVariables n fs →
     IsBasis n fs bs → IsPositive n w → AreMarked (lighter w) bs → HasReducedTails bs → AreApart bs →
     IsReducedBasis n fs w bs
-reduced_by_weight n fs bs w v b p m t h = record { positive = p; reduced = record { basis = (groebner_by_weight n fs bs w v b p m).basis; tails = t; heads = h } }
+reduced_by_weight n fs bs w v b p m t h = record {
+  positive = p;
+  reduced = record { basis = (groebner_by_weight n fs bs w v b p m).basis; tails = t; heads = h };
+}
 
 -- reduced for an order
 pub reduced_by_order : (n : ℕ) (fs : List Terms) (bs : List MarkedPolynomial) (below : Exponents → Exponents → Type 0) →

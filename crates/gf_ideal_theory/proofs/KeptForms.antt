@@ -41,7 +41,11 @@ marked_there n b v m = term_there n b.poly (record { coef = m.mark; mono = b.hea
 -- what a program makes monic is the monic form
 pub monic_form : (n : ℕ) (f g : MarkedPolynomial) → HasVariables n f.poly → IsDescending f.poly → IsMonicOf f g →
     IsMonicForm f.poly g
-monic_form n f g v d q = record { there = λ z. nonzero (sym at_head ∙ z); equation = λ x. ap (λ z. z *ℚ coefficient g.poly x) at_head ∙ ap (λ z. q.mark *ℚ z) (q.quotients x) ∙ sym (*ℚ_assoc q.mark (reciprocal_ℚ q.mark) (coefficient f.poly x)) ∙ ap (λ z. z *ℚ coefficient f.poly x) (*ℚ-reciprocal_ℚ q.mark nonzero) ∙ one-*ℚ _ }
+monic_form n f g v d q = record {
+  there = λ z. nonzero (sym at_head ∙ z);
+  equation = λ x. ap (λ z. z *ℚ coefficient g.poly x) at_head ∙ ap (λ z. q.mark *ℚ z) (q.quotients x) ∙
+      sym (*ℚ_assoc q.mark (reciprocal_ℚ q.mark) (coefficient f.poly x)) ∙ ap (λ z. z *ℚ coefficient f.poly x) (*ℚ-reciprocal_ℚ q.mark nonzero) ∙ one-*ℚ _;
+}
   where
     nonzero : q.mark ≢ zero_ℚ
     nonzero = term_nonzero f.poly (record { coef = q.mark; mono = f.head }) d q.term
@@ -62,7 +66,8 @@ ascending_from n (b ∷ c ∷ cs) l a s = at (ascending_from n (c ∷ cs) l.1 a.
         is_lt (lex (slice_index_or (c ∷ cs) (k + 1) d).head (slice_index_or (c ∷ cs) k d).head) ≡ false
     later k d p q =
         let e : suc k + 1 ≡ suc (k + 1) = omega arith in
-        subst (λ (i : ℕ). is_lt (lex (slice_index_or (b ∷ c ∷ cs) i d).head (slice_index_or (b ∷ c ∷ cs) (suc k) d).head) ≡ false) e (s (suc k) d (omega arith) (omega (arith, q)))
+        subst (λ (i : ℕ). is_lt (lex (slice_index_or (b ∷ c ∷ cs) i d).head (slice_index_or (b ∷ c ∷ cs) (suc k) d).head) ≡ false) e
+        (s (suc k) d (omega arith) (omega (arith, q)))
 
     next : (o : Ordering) → MatchOrdering o (IsLexBelow c.head b.head) (c.head ≡ b.head) (IsLexBelow b.head c.head) →
         is_lt o ≡ false → IsLexBelow b.head c.head
@@ -75,13 +80,23 @@ ascending_from n (b ∷ c ∷ cs) l a s = at (ascending_from n (c ∷ cs) l.1 a.
 
     at : HaveAscendingMarks (c ∷ cs) → HaveAscendingMarks (b ∷ c ∷ cs)
     at r =
-        let first = next (lex c.head b.head) (lex-compares c.head b.head (l.1.0 ∙ sym l.0)) (s 0 b (omega arith) (omega arith)) in
-        ((first, Each-weaker (λ (d : MarkedPolynomial). IsLexBelow c.head d.head) (λ (d : MarkedPolynomial). IsLexBelow b.head d.head) (λ d m. lex-strict.transitive b.head c.head d.head first m) cs r.0), r)
+        let first = next (lex c.head b.head) (lex-compares c.head b.head (l.1.0 ∙ sym l.0)) (s 0 b (omega arith) (omega arith)) in (
+          (
+            first,
+            Each-weaker (λ (d : MarkedPolynomial). IsLexBelow c.head d.head) (λ (d : MarkedPolynomial). IsLexBelow b.head d.head)
+                (λ d m. lex-strict.transitive b.head c.head d.head first m) cs r.0,
+          ),
+          r,
+        )
 
 -- an arranged list of members as a program keeps them, that are apart
 pub arranged_list : (n : ℕ) (s t : MarkedPolynomials) → IsArranged s t →
     ((b : MarkedPolynomial) → Contains s.items b → IsCanonical n b) → AreApart s.items → AreArranged n t.items
-arranged_list n s t r c a = record { canonical = kept; ascending = ascending_from n t.items (each_contained (λ (b : MarkedPolynomial). length b.head ≡ n) t.items (λ b q. (kept b q).head)) (apart-arranged s.items t.items r.members a) r.ascending }
+arranged_list n s t r c a = record {
+  canonical = kept;
+  ascending = ascending_from n t.items (each_contained (λ (b : MarkedPolynomial). length b.head ≡ n) t.items (λ b q. (kept b q).head))
+      (apart-arranged s.items t.items r.members a) r.ascending;
+}
   where
     kept : (b : MarkedPolynomial) → Contains t.items b → IsCanonical n b
     kept b q = c b (Contains-permutation t.items s.items b (IsPermutation-sym s.items t.items r.members) q)

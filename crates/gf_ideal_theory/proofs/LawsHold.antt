@@ -21,7 +21,15 @@ pub members_are_spanned : MembersAreSpanned
 members_are_spanned = record { spanned = spans_of_member; in_variables = variables_of_member; back = member_of_spans }
 
 pub ideals_are_closed : IdealsAreClosed
-ideals_are_closed = record { zero = member-zero; generator = member-generator; equal = member-equal; sum = member-++; difference = member-difference; multiple = member-times; generated = member-trans }
+ideals_are_closed = record {
+  zero = member-zero;
+  generator = member-generator;
+  equal = member-equal;
+  sum = member-++;
+  difference = member-difference;
+  multiple = member-times;
+  generated = member-trans;
+}
 
 pub steps_keep_the_ideal : StepsKeepTheIdeal
 steps_keep_the_ideal = record {

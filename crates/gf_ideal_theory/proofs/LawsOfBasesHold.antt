@@ -49,7 +49,8 @@ graded o n grade bs m h b c e k = h b.poly (Contains-polys bs b c) e b.head k (m
 
 settled_by_reduction : (k : Comparison) (n : ℕ) (bs : List MarkedPolynomial) → AreInVariables n (polys bs) →
     AreMarked (compared_by k) bs → DoPairsReduceToZero bs → ArePairsSettled n bs (compared_by k)
-settled_by_reduction k n bs v m h i j b c l p q = let r = h i j b c l p q in pair_by_steps n bs (compared_by k) b c r.0 [] v (compared-strict k) m (member_contained bs i b p) (member_contained bs j c q) r.1 r.2 (inl (λ x. refl))
+settled_by_reduction k n bs v m h i j b c l p q = let r = h i j b c l p q in pair_by_steps n bs (compared_by k) b c r.0 [] v (compared-strict k) m
+    (member_contained bs i b p) (member_contained bs j c q) r.1 r.2 (inl (λ x. refl))
 
 -- a basis of its own ideal has settled pairs
 settled_pairs : (k : Comparison) (n : ℕ) (bs : List MarkedPolynomial) → AreInVariables n (polys bs) →
@@ -66,7 +67,8 @@ weight_basis n w bs p m s = basis_by_pairs n (polys bs) bs (w, p, m) (member_of_
 own_basis : (o : MonomialOrder) (n : ℕ) (grade : List ℕ) (bs : List MarkedPolynomial) → IsAdmissible o n grade →
     AreHomogeneous n grade (polys bs) → AreMarked (below_of o) bs → ArePairsSettled n bs (below_of o) →
     IsBasis n (polys bs) bs
-own_basis o n grade bs a h m s = order_basis o n grade (polys bs) bs a m (graded o n grade bs m h) (member_of_polys n bs) (λ f k. member-generator n (polys bs) f k) s
+own_basis o n grade bs a h m s = order_basis o n grade (polys bs) bs a m (graded o n grade bs m h) (member_of_polys n bs)
+    (λ f k. member-generator n (polys bs) f k) s
 
 marks_of : (o : MonomialOrder) (n : ℕ) (grade : List ℕ) (bs : List MarkedPolynomial) → IsAdmissible o n grade →
     AreHomogeneous n grade (polys bs) → AreMarked (below_of o) bs → HasPositiveWeight n bs
@@ -78,10 +80,13 @@ pub buchbergers_criterion : BuchbergersCriterion
 buchbergers_criterion = record {
   for_weight = λ n w bs v p m s. groebner_by_weight n (polys bs) bs w v (weight_basis n w bs p m s) p m;
   weight_only_if = λ n w bs v b. settled_pairs (Comparison.by_weight w) n bs v b.basis.marked (basis_of_groebner n (polys bs) bs w b);
-  weight_by_reduction = λ n w bs v p m r. groebner_by_weight n (polys bs) bs w v (weight_basis n w bs p m (settled_by_reduction (Comparison.by_weight w) n bs v m r)) p m;
+  weight_by_reduction =
+      λ n w bs v p m r. groebner_by_weight n (polys bs) bs w v (weight_basis n w bs p m (settled_by_reduction (Comparison.by_weight w) n bs v m r)) p m;
   for_order = λ o n grade bs a v h m s. groebner_by_order n (polys bs) bs (below_of o) v (own_basis o n grade bs a h m s) (order-is o).strict m;
-  order_only_if = λ o n grade bs a v h b. settled_pairs (Comparison.by_order o) n bs v b.marked (basis_of_groebner_for n (polys bs) bs (below_of o) (order-is o) (marks_of o n grade bs a h b.marked) b);
-  order_by_reduction = λ o n grade bs a v h m r. groebner_by_order n (polys bs) bs (below_of o) v (own_basis o n grade bs a h m (settled_by_reduction (Comparison.by_order o) n bs v m r)) (order-is o).strict m;
+  order_only_if = λ o n grade bs a v h b. settled_pairs (Comparison.by_order o) n bs v b.marked (basis_of_groebner_for n (polys bs) bs (below_of o) (order-is o)
+      (marks_of o n grade bs a h b.marked) b);
+  order_by_reduction = λ o n grade bs a v h m r. groebner_by_order n (polys bs) bs (below_of o) v
+      (own_basis o n grade bs a h m (settled_by_reduction (Comparison.by_order o) n bs v m r)) (order-is o).strict m;
 }
 
 pub pairs_are_settled : PairsAreSettled
@@ -149,7 +154,8 @@ runs_end_with_a_basis = record {
   marked = λ fs o bs w. work-marked fs (below_of o) bs w;
   homogeneous = homogeneous;
   basis = λ o n grade fs bs a v h w back s. run_basis o n grade fs bs a v h w back s;
-  for_order = λ o n grade fs bs a v h w back s. groebner_by_order n fs bs (below_of o) v (run_basis o n grade fs bs a v h w back s) (order-is o).strict (work-marked fs (below_of o) bs w);
+  for_order = λ o n grade fs bs a v h w back s. groebner_by_order n fs bs (below_of o) v (run_basis o n grade fs bs a v h w back s) (order-is o).strict
+      (work-marked fs (below_of o) bs w);
 }
   where
     homogeneous : (n : ℕ) (grade : List ℕ) (fs : List Terms) (o : MonomialOrder) (bs : List MarkedPolynomial) →

@@ -47,7 +47,16 @@ greatest_of below P o s (u ∷ g) h k = at (greatest_of below P o s g h k.1)
       | inl l ↦ record { top = r.top; holds = r.holds; first = r.first; rest = (inr l, r.rest) }
       | inr q ↦ elim q [
         | inl e ↦ record { top = r.top; holds = r.holds; first = r.first; rest = (inl e, r.rest) }
-        | inr l ↦ record { top = u; holds = k.0; first = up s.mono r.top.mono u.mono r.first l; rest = (inl (same-refl u.mono), Each-weaker (λ (t : Term). (same t.mono r.top.mono ≡ true) ⊎ below t.mono r.top.mono) (λ (t : Term). (same t.mono u.mono ≡ true) ⊎ below t.mono u.mono) (λ t m. up t.mono r.top.mono u.mono m l) g r.rest) }
+        | inr l ↦ record {
+          top = u;
+          holds = k.0;
+          first = up s.mono r.top.mono u.mono r.first l;
+          rest = (
+            inl (same-refl u.mono),
+            Each-weaker (λ (t : Term). (same t.mono r.top.mono ≡ true) ⊎ below t.mono r.top.mono)
+                (λ (t : Term). (same t.mono u.mono ≡ true) ⊎ below t.mono u.mono) (λ t m. up t.mono r.top.mono u.mono m l) g r.rest,
+          );
+        }
       ]
     ]
 
@@ -67,7 +76,8 @@ greatest below f o = at (canonical f)
               r.top.mono,
               record {
                 there = r.holds;
-                greatest = λ y n. place r.top.mono y (found_term (λ (t : Term). (same t.mono r.top.mono ≡ true) ⊎ below t.mono r.top.mono) one_ℚ [] (s ∷ g) y (r.first, r.rest) (λ z. n (e y ∙ ap (λ g. coefficient g y) (sym (times-plain (s ∷ g))) ∙ z)));
+                greatest = λ y n. place r.top.mono y (found_term (λ (t : Term). (same t.mono r.top.mono ≡ true) ⊎ below t.mono r.top.mono) one_ℚ [] (s ∷ g) y
+                    (r.first, r.rest) (λ z. n (e y ∙ ap (λ g. coefficient g y) (sym (times-plain (s ∷ g))) ∙ z)));
               },
             )
           where
@@ -93,7 +103,16 @@ heavy w P s (u ∷ g) h k = more (heavy w P s g h k.1)
     more : ((t : Term) × P t × (weight w s.mono ≤ weight w t.mono) × Each (λ (u : Term). weight w u.mono ≤ weight w t.mono) g) →
         (t : Term) × P t × (weight w s.mono ≤ weight w t.mono) × Each (λ (u : Term). weight w u.mono ≤ weight w t.mono) (u ∷ g)
     more r = elim (cases_lt (weight w r.0.mono) (weight w u.mono)) [
-      | inl l ↦ (u, k.0, omega (arith, r.2), (omega arith, Each-weaker (λ (v : Term). weight w v.mono ≤ weight w r.0.mono) (λ (v : Term). weight w v.mono ≤ weight w u.mono) (λ v q. omega arith) g r.3))
+      | inl l ↦ (
+        u,
+        k.0,
+        omega (arith, r.2),
+        (
+          omega arith,
+          Each-weaker (λ (v : Term). weight w v.mono ≤ weight w r.0.mono)
+              (λ (v : Term). weight w v.mono ≤ weight w u.mono) (λ v q. omega arith) g r.3,
+        ),
+      )
       | inr l ↦ (r.0, r.1, r.2, (l, r.3))
     ]
 
@@ -122,7 +141,8 @@ top_heaviest w = record {
               r.0.mono,
               record {
                 there = r.1;
-                heaviest = λ y n. place r.0.mono y (found_term (λ (t : Term). weight w t.mono ≤ weight w r.0.mono) one_ℚ [] (s ∷ g) y (r.2, r.3) (λ z. n (e y ∙ ap (λ g. coefficient g y) (sym (times-plain (s ∷ g))) ∙ z)));
+                heaviest = λ y n. place r.0.mono y (found_term (λ (t : Term). weight w t.mono ≤ weight w r.0.mono) one_ℚ [] (s ∷ g) y
+                    (r.2, r.3) (λ z. n (e y ∙ ap (λ g. coefficient g y) (sym (times-plain (s ∷ g))) ∙ z)));
               },
             )
           where

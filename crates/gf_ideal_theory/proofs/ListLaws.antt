@@ -46,4 +46,11 @@ collect P up [] h = (0, tt)
 collect P up (x ∷ xs) h = at h.0 (collect P up xs h.1)
   where
     at : ((k : ℕ) × P x k) → ((k : ℕ) × Each (λ a. P a k) xs) → (k : ℕ) × Each (λ a. P a k) (x ∷ xs)
-    at r s = (max r.0 s.0, (up x r.0 (max r.0 s.0) (omega arith) r.1, Each-weaker (λ a. P a s.0) (λ a. P a (max r.0 s.0)) (λ a p. up a s.0 (max r.0 s.0) (omega arith) p) xs s.1))
+    at r s = (
+      max r.0 s.0,
+      (
+        up x r.0 (max r.0 s.0) (omega arith) r.1,
+        Each-weaker (λ a. P a s.0) (λ a. P a (max r.0 s.0))
+            (λ a p. up a s.0 (max r.0 s.0) (omega arith) p) xs s.1,
+      ),
+    )

@@ -46,8 +46,13 @@ poly_traded b = over (canonical b.poly)
         at : ((k : ℕ) × Each (λ (t : Term). IsShort k t.mono) c.terms) → ((k : ℕ) × IsShort k b.head) →
             (k : ℕ) × IsPolyTraded b k
         at r s =
-            let k = max r.0 s.0 in
-            (k, record { head = short-up b.head s.0 k (omega arith) s.1; each = λ e n. short-up e r.0 k (omega arith) (canonical_exponents (IsShort r.0) b.poly c (short-along r.0) r.1 e n) })
+            let k = max r.0 s.0 in (
+              k,
+              record {
+                head = short-up b.head s.0 k (omega arith) s.1;
+                each = λ e n. short-up e r.0 k (omega arith) (canonical_exponents (IsShort r.0) b.poly c (short-along r.0) r.1 e n);
+              },
+            )
 
 -- and in each larger one
 pub poly-up : (b : MarkedPolynomial) (k l : ℕ) → k ≤ l → IsPolyTraded b k → IsPolyTraded b l
@@ -55,7 +60,8 @@ poly-up b k l h t = record { head = short-up b.head k l h t.head; each = λ e n.
 
 -- finitely many are in one box
 pub polys_traded : (bs : List MarkedPolynomial) → (k : ℕ) × Each (λ b. IsPolyTraded b k) bs
-polys_traded bs = collect (λ b k. IsPolyTraded b k) (λ b k l j t. poly-up b k l j t) bs (each_contained (λ b. (k : ℕ) × IsPolyTraded b k) bs (λ b c. poly_traded b))
+polys_traded bs = collect (λ b k. IsPolyTraded b k) (λ b k l j t. poly-up b k l j t) bs (each_contained (λ b. (k : ℕ) × IsPolyTraded b k) bs
+    (λ b c. poly_traded b))
 
 -- marks by an order are marks by a weight that compares alike in the box
 pub marked_by : (below : Exponents → Exponents → Type 0) (Alike : Exponents → Exponents → Type 0) (k : ℕ) (w : List ℕ) (b : MarkedPolynomial) →
@@ -88,7 +94,8 @@ mark-there below b m z = one_not_zero (sym m.monic ∙ z)
 pub order-marks : (o : MonomialOrder) (n : ℕ) (grade : List ℕ) (bs : List MarkedPolynomial) → IsAdmissible o n grade →
     AreMarked (below_of o) bs → ((b : MarkedPolynomial) → Contains bs b → IsHomogeneous n grade b.poly) →
     HasPositiveWeight n bs
-order-marks o n grade bs a m g = marked_positive (IsOfGrade n grade) (below_of o) n bs (order-weights o n grade a) m (λ b c e k. g b c e b.head k (mark-there (below_of o) b (m b c)))
+order-marks o n grade bs a m g = marked_positive (IsOfGrade n grade) (below_of o) n bs (order-weights o n grade a) m
+    (λ b c e k. g b c e b.head k (mark-there (below_of o) b (m b c)))
 
 -- ---- finitely many comparisons
 
@@ -100,7 +107,8 @@ record IsPairShort (p : Exponents × Exponents) (k : ℕ) : Type 0 where
 pub list_traded : (Alike below : Exponents → Exponents → Type 0) (n : ℕ) (ps : List (Exponents × Exponents)) →
     HasWeightsFor Alike below → ArePairs Alike ps → ArePairs below ps →
     (w : List ℕ) × IsPositive n w × ArePairs (lighter w) ps
-list_traded Alike below n ps h g b = at (collect (λ p k. IsPairShort p k) (λ p k l j t. record { first = short-up p.0 k l j t.first; second = short-up p.1 k l j t.second }) ps (boxes ps))
+list_traded Alike below n ps h g b =
+    at (collect (λ p k. IsPairShort p k) (λ p k l j t. record { first = short-up p.0 k l j t.first; second = short-up p.1 k l j t.second }) ps (boxes ps))
   where
     boxes : (ps : List (Exponents × Exponents)) → Each (λ p. (k : ℕ) × IsPairShort p k) ps
     boxes [] = tt

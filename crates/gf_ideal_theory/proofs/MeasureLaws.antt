@@ -1,7 +1,8 @@
 -- A step of reduction leaves less work, wherever some weight sets each mark above the rest.
 -- To cite: work_left-smaller, work_left-smaller_at, work_left-step. The rest are steps: lists of monomials and what they sum to, the monomials of a polynomial,
 -- heights that no longer change once they are as deep as the box is large, the box itself.
-use Rattle.std.proofs.Common.{◌≡◌, ◌⊎◌, ℕ, zero, suc, ◌+◌, ◌<◌, ◌≤◌, ◌||◌, ℤ, pos, negsuc, Bool, true, false, if◌then◌else◌, List, [], ◌∷◌, ◌++◌, length, Contains, arith, refl, sym, ap, ◌∙◌, subst, inl, inr}
+use Rattle.std.proofs.Common.{◌≡◌, ◌⊎◌, ℕ, zero, suc, ◌+◌, ◌<◌, ◌≤◌, ◌||◌, ℤ, pos, negsuc, Bool, true, false, if◌then◌else◌, List, [], ◌∷◌, ◌++◌, length}
+use Rattle.std.proofs.Common.{Contains, arith, refl, sym, ap, ◌∙◌, subst, inl, inr}
 use Rattle.std.proofs.lemmas.Bool.{cases_lt, or_parts, or_right, cases_Bool}
 use Rattle.gf_frac.specs.Fraction.{Fraction, ◌+ℚ◌, neg_ℚ, zero_ℚ}
 use Rattle.gf_frac.proofs.FractionLaws.{zero_by_num, zero-+ℚ, zero_or_not, num_by_zero}
@@ -151,7 +152,8 @@ total-covered : (f : Exponents → ℕ) (xs ys : List Exponents) → IsAlike f �
 total-covered f [] ys a p c = omega arith
 total-covered f (x ∷ xs) ys a p c =
     let here : within ys x ≡ true = c x (ap (λ b. b || within xs x) (same-refl x)) in
-    let rest : total f xs ≤ total f (except x ys) = total-covered f xs (except x ys) a p.1 (λ e o. within-except x e ys (apart e o (cases_Bool (same x e))) (c e (or_right (same e x) (within xs e) o))) in
+    let rest : total f xs ≤ total f (except x ys) =
+    total-covered f xs (except x ys) a p.1 (λ e o. within-except x e ys (apart e o (cases_Bool (same x e))) (c e (or_right (same e x) (within xs e) o))) in
     omega (arith, rest, total-except f x ys a here)
   where
     apart : (e : Exponents) → within xs e ≡ true → (same x e ≡ true) ⊎ (same x e ≡ false) → same x e ≡ false
@@ -200,7 +202,11 @@ support_in-has f (t ∷ g) x h = at (lists g t.mono || is_zero_number (coefficie
         HasMonomial f x × ((same x t.mono || lists g x) ≡ true)
     at true q r h = let p = r h in (p.0, or_right (same x t.mono) (lists g x) p.1)
     at false q r h = elim (cases_Bool (same x t.mono)) [
-      | inl s ↦ (λ z. clash (sym (number_zero (coefficient f t.mono) (sym (coefficient-same f x t.mono s) ∙ z)) ∙ (or_parts (lists g t.mono) (is_zero_number (coefficient f t.mono).num) q).1), ap (λ b. b || lists g x) s)
+      | inl s ↦ (
+        λ z. clash (sym (number_zero (coefficient f t.mono) (sym (coefficient-same f x t.mono s) ∙ z)) ∙
+            (or_parts (lists g t.mono) (is_zero_number (coefficient f t.mono).num) q).1),
+        ap (λ b. b || lists g x) s,
+      )
       | inr m ↦ let p = r (sym (ap (λ b. b || within (support_in f g) x) m) ∙ h) in (p.0, or_right (same x t.mono) (lists g x) p.1)
     ]
 
@@ -219,7 +225,8 @@ support_in-all f (t ∷ g) x n h = at (lists g t.mono || is_zero_number (coeffic
       | inr m ↦ r (sym (ap (λ b. b || lists g x) m) ∙ h)
       | inl s ↦ elim (cases_Bool (lists g t.mono)) [
         | inl l ↦ r (lists-along g x t.mono s ∙ l)
-        | inr l ↦ absurd (n (coefficient-same f x t.mono s ∙ zero_number (coefficient f t.mono) (sym (ap (λ b. b || is_zero_number (coefficient f t.mono).num) l) ∙ q)))
+        | inr l ↦ absurd (n (coefficient-same f x t.mono s ∙ zero_number (coefficient f t.mono)
+            (sym (ap (λ b. b || is_zero_number (coefficient f t.mono).num) l) ∙ q)))
       ]
     ]
 
@@ -259,12 +266,21 @@ minus-along d e h s = same_by_entries (minus d h) (minus e h) (λ i. omega (arit
 -- whether h divides is a matter of the monomial
 divides-along : (d e h : Exponents) → same d e ≡ true → same d (plus (minus d h) h) ≡ true →
     same e (plus (minus e h) h) ≡ true
-divides-along d e h s p = same_by_entries e (plus (minus e h) h) (λ i. omega (arith, entries_same d e s i, entries_same d (plus (minus d h) h) p i, entry-plus (minus d h) h i, entry-plus (minus e h) h i, entry-minus d h i, entry-minus e h i))
+divides-along d e h s p = same_by_entries e (plus (minus e h) h) (λ i. omega (
+  arith,
+  entries_same d e s i,
+  entries_same d (plus (minus d h) h) p i,
+  entry-plus (minus d h) h i,
+  entry-plus (minus e h) h i,
+  entry-minus d h i,
+  entry-minus e h i,
+))
 
 brought-alike : (f : Exponents → ℕ) (b : MarkedPolynomial) (d e : Exponents) → IsAlike f → same d e ≡ true →
     total f (brought b d) ≡ total f (brought b e)
 brought-alike f b d e a s =
-    ap (λ t. total f (if t then all_raised (minus d b.head) rest else [])) (one_test (same d (plus (minus d b.head) b.head)) (same e (plus (minus e b.head) b.head)) (divides-along d e b.head s) (divides-along e d b.head (same_flip d e s)))
+    ap (λ t. total f (if t then all_raised (minus d b.head) rest else [])) (one_test (same d (plus (minus d b.head) b.head))
+    (same e (plus (minus e b.head) b.head)) (divides-along d e b.head s) (divides-along e d b.head (same_flip d e s)))
     ∙ at (same e (plus (minus e b.head) b.head))
   where
     rest : List Exponents
@@ -278,11 +294,18 @@ brought-alike f b d e a s =
 all_brought-alike : (f : Exponents → ℕ) (bs : List MarkedPolynomial) (d e : Exponents) → IsAlike f → same d e ≡ true →
     total f (all_brought bs d) ≡ total f (all_brought bs e)
 all_brought-alike f [] d e a s = refl
-all_brought-alike f (b ∷ bs) d e a s = omega (arith, total-++ f (brought b d) (all_brought bs d), total-++ f (brought b e) (all_brought bs e), brought-alike f b d e a s, all_brought-alike f bs d e a s)
+all_brought-alike f (b ∷ bs) d e a s = omega (
+  arith,
+  total-++ f (brought b d) (all_brought bs d),
+  total-++ f (brought b e) (all_brought bs e),
+  brought-alike f b d e a s,
+  all_brought-alike f bs d e a s,
+)
 
 height-alike : (xs : List Exponents) (bs : List MarkedPolynomial) (k : ℕ) → IsAlike (height xs bs k)
 height-alike xs bs zero d e s = refl
-height-alike xs bs (suc k) d e s = ap suc (all_brought-alike (inside_list xs (height xs bs k)) bs d e (inside-alike xs (height xs bs k) (height-alike xs bs k)) s)
+height-alike xs bs (suc k) d e s = ap suc (all_brought-alike (inside_list xs (height xs bs k)) bs d e (inside-alike xs (height xs bs k) (height-alike xs bs k))
+    s)
 
 -- ---- what a step brings is lighter
 
@@ -293,7 +316,8 @@ each-raised w x u h (y ∷ ys) s k = (omega (arith, k.0, weight-plus w u y, weig
 
 tail-lighter : (w : List ℕ) (b : MarkedPolynomial) → IsMarked (lighter w) b →
     Each (λ y. lighter w y b.head) (except b.head (support b.poly))
-tail-lighter w b m = each_within (λ y. lighter w y b.head) (except b.head (support b.poly)) (λ y h. let p = except-within b.head y (support b.poly) h in at y p.1 (m.tail y (support-has b.poly y p.0)))
+tail-lighter w b m = each_within (λ y. lighter w y b.head) (except b.head (support b.poly)) (λ y h. let p = except-within b.head y (support b.poly) h in
+    at y p.1 (m.tail y (support-has b.poly y p.0)))
   where
     at : (y : Exponents) → same b.head y ≡ false → (same y b.head ≡ true) ⊎ lighter w y b.head → lighter w y b.head
     at y n (inl s) = clash (sym (same_flip y b.head s) ∙ n)
@@ -354,10 +378,12 @@ total-nothing xs (y ∷ ys) = omega (arith, at (within xs y), total-nothing xs y
 height-stable : (xs : List Exponents) (w : List ℕ) (bs : List MarkedPolynomial) (k : ℕ) (s : List Exponents) (x : Exponents) →
     Each (IsMarked (lighter w)) bs → length s ≤ k
     → ((e : Exponents) → lighter w e x → within xs e ≡ true → within s e ≡ true) → height xs bs k x ≡ height xs bs (suc k) x
-height-stable xs w bs zero [] x m l c = ap suc (sym (all_brought-agree xs w (λ _. 1) (λ _. 0) bs x (λ e p q. clash (sym (c e p q))) m ∙ total-nothing xs (all_brought bs x)))
+height-stable xs w bs zero [] x m l c =
+    ap suc (sym (all_brought-agree xs w (λ _. 1) (λ _. 0) bs x (λ e p q. clash (sym (c e p q))) m ∙ total-nothing xs (all_brought bs x)))
 height-stable xs w bs zero (z ∷ s) x m l c = absurd (omega arith)
 height-stable xs w bs (suc k) s x m l c = ap suc (all_brought-agree xs w (height xs bs k) (height xs bs (suc k)) bs x
-    (λ y less here. height-stable xs w bs k (except y s) y m (omega (arith, except-shorter y s (c y less here))) (λ e lower q. within-except y e s (apart y e lower (cases_Bool (same y e))) (c e (omega (arith, less, lower)) q))) m)
+    (λ y less here. height-stable xs w bs k (except y s) y m (omega (arith, except-shorter y s (c y less here)))
+    (λ e lower q. within-except y e s (apart y e lower (cases_Bool (same y e))) (c e (omega (arith, less, lower)) q))) m)
   where
     apart : (y e : Exponents) → lighter w e y → (same y e ≡ true) ⊎ (same y e ≡ false) → same y e ≡ false
     apart y e l (inr n) = n
@@ -372,7 +398,8 @@ brought-le f (d ∷ bs) b x c = at (Contains-cases d b bs c) (λ k. brought-le f
   where
     at : (d ≡ b) ⊎ Contains bs b → (Contains bs b → total f (brought b x) ≤ total f (all_brought bs x)) →
         total f (brought b x) ≤ total f (brought d x ++ all_brought bs x)
-    at (inl e) r = subst (λ (z : MarkedPolynomial). total f (brought b x) ≤ total f (brought z x ++ all_brought bs x)) (sym e) (omega (arith, total-++ f (brought b x) (all_brought bs x)))
+    at (inl e) r = subst (λ (z : MarkedPolynomial). total f (brought b x) ≤ total f (brought z x ++ all_brought bs x)) (sym e)
+        (omega (arith, total-++ f (brought b x) (all_brought bs x)))
     at (inr k) r = omega (arith, total-++ f (brought d x) (all_brought bs x), r k)
 
 -- a monomial of u b other than x = u times the mark is brought
@@ -380,7 +407,9 @@ multiple-brought : (b : MarkedPolynomial) (c : Fraction) (u x e : Exponents) →
     same x e ≡ false → HasMonomial (times c u b.poly) e → within (brought b x) e ≡ true
 multiple-brought b c u x e s n m = let r = found c u b.poly e m in
     ap (λ t. within (if t then all_raised (minus x b.head) (except b.head (support b.poly)) else []) e) divides
-    ∙ within-raised (minus x b.head) r.0 e (except b.head (support b.poly)) (within-except b.head r.0 (support b.poly) (other r.0 r.2 (cases_Bool (same b.head r.0))) (support-all b.poly r.0 r.1)) (same_trans e (plus u r.0) (plus (minus x b.head) r.0) r.2 (same_shift_right r.0 u (minus x b.head) shift))
+    ∙ within-raised (minus x b.head) r.0 e (except b.head (support b.poly))
+    (within-except b.head r.0 (support b.poly) (other r.0 r.2 (cases_Bool (same b.head r.0))) (support-all b.poly r.0 r.1))
+    (same_trans e (plus u r.0) (plus (minus x b.head) r.0) r.2 (same_shift_right r.0 u (minus x b.head) shift))
   where
     shift : same u (minus x b.head) ≡ true
     shift = same_by_entries u (minus x b.head) (λ i. omega (arith, entries_same x (plus u b.head) s i, entry-plus u b.head i, entry-minus x b.head i))
@@ -391,7 +420,8 @@ multiple-brought b c u x e s n m = let r = found c u b.poly e m in
     other : (y : Exponents) → same e (plus u y) ≡ true → (same b.head y ≡ true) ⊎ (same b.head y ≡ false) →
         same b.head y ≡ false
     other y q (inr k) = k
-    other y q (inl k) = clash (sym (same_trans x (plus u b.head) e s (same_trans (plus u b.head) (plus u y) e (same_shift u b.head y k) (same_flip e (plus u y) q))) ∙ n)
+    other y q (inl k) =
+        clash (sym (same_trans x (plus u b.head) e s (same_trans (plus u b.head) (plus u y) e (same_shift u b.head y k) (same_flip e (plus u y) q))) ∙ n)
 
 work_in-step : (xs : List Exponents) (w : List ℕ) (bs : List MarkedPolynomial) (f g : Terms) (s : IsStep (Contains bs) f g) →
     AreMarked (lighter w) bs → Each (IsMarked (lighter w)) bs → within xs s.at ≡ true →
@@ -402,7 +432,8 @@ work_in-step xs w bs f g s m each here =
     let alike : IsAlike v = inside-alike xs (height xs bs k) (height-alike xs bs k) in
     let there : within (support f) s.at ≡ true = support-all f s.at s.there in
     let cover : total v (support g) ≤ total v (except s.at (support f) ++ brought s.member s.at) =
-    total-covered v (support g) (except s.at (support f) ++ brought s.member s.at) alike (support_in-distinct g g) (λ e q. from e (support-has g e q) (cases_Bool (same s.at e)) (zero_or_not (coefficient f e))) in
+    total-covered v (support g) (except s.at (support f) ++ brought s.member s.at) alike (support_in-distinct g g)
+    (λ e q. from e (support-has g e q) (cases_Bool (same s.at e)) (zero_or_not (coefficient f e))) in
     let parts = total-++ v (except s.at (support f)) (brought s.member s.at) in
     let at_x : v s.at ≡ height xs bs k s.at = ap (λ q. if q then height xs bs k s.at else 0) here in
     let stable : height xs bs k s.at ≡ suc (total v (all_brought bs s.at)) = height-stable xs w bs k xs s.at each (omega arith) (λ e l q. q) in
@@ -416,8 +447,10 @@ work_in-step xs w bs f g s m each here =
         within (except s.at (support f) ++ brought s.member s.at) e ≡ true
     from e n (inl q) r = absurd (n (sym (coefficient-same g s.at e q) ∙ gone))
     from e n (inr q) (inr r) = within-left (except s.at (support f)) (brought s.member s.at) e (within-except s.at e (support f) q (support-all f e r))
-    from e n (inr q) (inl z) = within-right (except s.at (support f)) (brought s.member s.at) e (multiple-brought s.member (neg_ℚ (coefficient f s.at)) s.rest s.at e s.divides q
-        (λ y. n (s.equal e ∙ coefficient-++ f (times (neg_ℚ (coefficient f s.at)) s.rest s.member.poly) e ∙ ap (λ c. c +ℚ coefficient (times (neg_ℚ (coefficient f s.at)) s.rest s.member.poly) e) z ∙ zero-+ℚ _ ∙ y)))
+    from e n (inr q) (inl z) = within-right (except s.at (support f)) (brought s.member s.at) e (multiple-brought s.member (neg_ℚ (coefficient f s.at))
+        s.rest s.at e s.divides q
+        (λ y. n (s.equal e ∙ coefficient-++ f (times (neg_ℚ (coefficient f s.at)) s.rest s.member.poly) e ∙
+        ap (λ c. c +ℚ coefficient (times (neg_ℚ (coefficient f s.at)) s.rest s.member.poly) e) z ∙ zero-+ℚ _ ∙ y)))
 
 -- ---- the box
 
@@ -451,7 +484,8 @@ within-box limit zero x h = ap (λ b. b || false) (same_by_entries x [] (λ i. h
 within-box limit (suc n) [] h =
     within-along (fronts limit (box limit n)) [] (0 ∷ []) refl
     ∙ within-fronts limit 0 (box limit n) [] (h.below 0) (within-box limit n [] (record { below = λ i. h.below 0; beyond = λ i l. refl }))
-within-box limit (suc n) (a ∷ x) h = within-fronts limit a (box limit n) x (h.below 0) (within-box limit n x (record { below = λ i. h.below (suc i); beyond = λ i l. h.beyond (suc i) (omega arith) }))
+within-box limit (suc n) (a ∷ x) h = within-fronts limit a (box limit n) x (h.below 0)
+    (within-box limit n x (record { below = λ i. h.below (suc i); beyond = λ i l. h.beyond (suc i) (omega arith) }))
 
 each_marked : (w : List ℕ) (bs cs : List MarkedPolynomial) → AreMarked (lighter w) bs →
     ((b : MarkedPolynomial) → Contains cs b → Contains bs b) → Each (IsMarked (lighter w)) cs

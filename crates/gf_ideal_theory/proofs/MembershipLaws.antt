@@ -40,12 +40,14 @@ nothing_outside n f x h o = at (zero_or_not (coefficient f x))
 
 -- a sum
 pub variables-++ : (n : ℕ) (f g : Terms) → IsInVariables n f → IsInVariables n g → IsInVariables n (f ++ g)
-variables-++ n f g h k = variables_by n (f ++ g) (λ x o. coefficient-++ f g x ∙ ap (λ z. z +ℚ coefficient g x) (nothing_outside n f x h o) ∙ zero-+ℚ _ ∙ nothing_outside n g x k o)
+variables-++ n f g h k = variables_by n (f ++ g) (λ x o. coefficient-++ f g x ∙ ap (λ z. z +ℚ coefficient g x) (nothing_outside n f x h o) ∙ zero-+ℚ _ ∙
+    nothing_outside n g x k o)
 
 -- a multiple by a monomial in the variables
 pub variables-times : (n : ℕ) (c : Fraction) (u : Exponents) (f : Terms) → IsInRing n u → IsInVariables n f →
     IsInVariables n (times c u f)
-variables-times n c u f r h = variables_by n (times c u f) (λ x o. nothing_there c u f x (λ y m s. o (ring-along n (plus u y) x (same_flip x (plus u y) s) (ring-plus n u y r (h y m)))))
+variables-times n c u f r h = variables_by n (times c u f) (λ x o. nothing_there c u f x
+    (λ y m s. o (ring-along n (plus u y) x (same_flip x (plus u y) s) (ring-plus n u y r (h y m)))))
 
 -- an equal polynomial
 pub variables-equal : (n : ℕ) (f g : Terms) → SamePolynomial f g → IsInVariables n f → IsInVariables n g
@@ -160,7 +162,13 @@ coefficient-added (h ∷ hs) (k ∷ ks) (f ∷ fs) e =
 
 -- an equal polynomial is a member
 pub member-equal : (n : ℕ) (fs : List Terms) (f g : Terms) → SamePolynomial f g → IsMember n fs f → IsMember n fs g
-member-equal n fs f g h m = record { factor = m.factor; positive = m.positive; multipliers = m.multipliers; in_ring = m.in_ring; equation = λ e. ap (λ z. whole (pos m.factor) *ℚ z) (sym (h e)) ∙ m.equation e }
+member-equal n fs f g h m = record {
+  factor = m.factor;
+  positive = m.positive;
+  multipliers = m.multipliers;
+  in_ring = m.in_ring;
+  equation = λ e. ap (λ z. whole (pos m.factor) *ℚ z) (sym (h e)) ∙ m.equation e;
+}
 
 -- zero is a member
 pub member-zero : (n : ℕ) (fs : List Terms) → IsMember n fs []
@@ -177,7 +185,13 @@ member-here n f fs = record {
 }
 
 member-there : (n : ℕ) (f g : Terms) (fs : List Terms) → IsMember n fs f → IsMember n (g ∷ fs) f
-member-there n f g fs m = record { factor = m.factor; positive = m.positive; multipliers = [] ∷ m.multipliers; in_ring = (tt, m.in_ring); equation = m.equation }
+member-there n f g fs m = record {
+  factor = m.factor;
+  positive = m.positive;
+  multipliers = [] ∷ m.multipliers;
+  in_ring = (tt, m.in_ring);
+  equation = m.equation;
+}
 
 -- a generator is a member
 pub member-generator : (n : ℕ) (fs : List Terms) (f : Terms) → Contains fs f → IsMember n fs f
@@ -194,15 +208,18 @@ member-++ n fs f g m k = record {
   factor = m.factor * k.factor;
   positive = mul-pos m.positive k.positive;
   multipliers = added (all_scaled (pos k.factor) m.multipliers) (all_scaled (pos m.factor) k.multipliers);
-  in_ring = added-ring n (all_scaled (pos k.factor) m.multipliers) (all_scaled (pos m.factor) k.multipliers) (all_scaled-ring n (pos k.factor) m.multipliers m.in_ring) (all_scaled-ring n (pos m.factor) k.multipliers k.in_ring);
+  in_ring = added-ring n (all_scaled (pos k.factor) m.multipliers) (all_scaled (pos m.factor) k.multipliers)
+      (all_scaled-ring n (pos k.factor) m.multipliers m.in_ring) (all_scaled-ring n (pos m.factor) k.multipliers k.in_ring);
   equation = λ e.
       let c = whole (pos m.factor) in
       let d = whole (pos k.factor) in
       ap (λ z. whole (pos (m.factor * k.factor)) *ℚ z) (coefficient-++ f g e)
       ∙ ap (λ z. z *ℚ (coefficient f e +ℚ coefficient g e)) (whole-* (pos m.factor) (pos k.factor))
       ∙ *ℚ-+ℚ (c *ℚ d) (coefficient f e) (coefficient g e)
-      ∙ ap (λ z. z +ℚ (c *ℚ d) *ℚ coefficient g e) (exchange c d (coefficient f e) ∙ ap (λ z. d *ℚ z) (m.equation e) ∙ sym (coefficient-all_scaled (pos k.factor) m.multipliers fs e))
-      ∙ ap (λ z. coefficient (combination (all_scaled (pos k.factor) m.multipliers) fs) e +ℚ z) (*ℚ_assoc c d (coefficient g e) ∙ ap (λ z. c *ℚ z) (k.equation e) ∙ sym (coefficient-all_scaled (pos m.factor) k.multipliers fs e))
+      ∙ ap (λ z. z +ℚ (c *ℚ d) *ℚ coefficient g e) (exchange c d (coefficient f e) ∙ ap (λ z. d *ℚ z) (m.equation e) ∙
+      sym (coefficient-all_scaled (pos k.factor) m.multipliers fs e))
+      ∙ ap (λ z. coefficient (combination (all_scaled (pos k.factor) m.multipliers) fs) e +ℚ z) (*ℚ_assoc c d (coefficient g e) ∙
+      ap (λ z. c *ℚ z) (k.equation e) ∙ sym (coefficient-all_scaled (pos m.factor) k.multipliers fs e))
       ∙ sym (coefficient-added (all_scaled (pos k.factor) m.multipliers) (all_scaled (pos m.factor) k.multipliers) fs e);
 }
 
@@ -218,9 +235,11 @@ member-times n fs f c u i m = record {
       let d = whole (pos m.factor) in
       let b = whole (pos c.den) in
       sym (coefficient-times_factor (whole (pos (m.factor * c.den))) c u f e)
-      ∙ ap (λ z. coefficient (times z u f) e) (ap (λ z. z *ℚ c) (whole-* (pos m.factor) (pos c.den)) ∙ *ℚ_assoc d b c ∙ ap (λ z. d *ℚ z) (den_times c) ∙ *ℚ_comm d (whole c.num))
+      ∙ ap (λ z. coefficient (times z u f) e) (ap (λ z. z *ℚ c) (whole-* (pos m.factor) (pos c.den)) ∙ *ℚ_assoc d b c ∙ ap (λ z. d *ℚ z) (den_times c) ∙
+      *ℚ_comm d (whole c.num))
       ∙ coefficient-times_factor (whole c.num) d u f e
-      ∙ ap (λ z. whole c.num *ℚ z) (ap (λ z. coefficient z e) (ap (λ z. times z u f) (sym (one-*ℚ d)) ∙ ap (λ z. times (one_ℚ *ℚ d) z f) (sym (plus-nil u)) ∙ times-times one_ℚ d u [] f)
+      ∙ ap (λ z. whole c.num *ℚ z) (ap (λ z. coefficient z e) (ap (λ z. times z u f) (sym (one-*ℚ d)) ∙ ap (λ z. times (one_ℚ *ℚ d) z f) (sym (plus-nil u)) ∙
+      times-times one_ℚ d u [] f)
       ∙ SamePolynomial-times one_ℚ u (times d [] f) (combination m.multipliers fs) (λ y. coefficient-times d [] f y ∙ m.equation y) e
       ∙ ap (λ z. coefficient z e) (sym (combination-shifted u m.multipliers fs)))
       ∙ sym (coefficient-all_scaled c.num (all_shifted u m.multipliers) fs e);
@@ -235,7 +254,8 @@ member-difference n fs f g m k = member-++ n fs f (times (neg_ℚ one_ℚ) [] g)
 
 spans-product : (fs : List Terms) (h : IntegerTerms) (f : Terms) → Contains fs f → Spans fs (product h f)
 spans-product fs [] f c = Spans-zero fs
-spans-product fs (t ∷ h) f c = Spans-++ fs (times (whole t.0) t.1 f) (product h f) (Spans-times fs f (whole t.0) t.1 (Spans-generator fs f c)) (spans-product fs h f c)
+spans-product fs (t ∷ h) f c = Spans-++ fs (times (whole t.0) t.1 f) (product h f) (Spans-times fs f (whole t.0) t.1 (Spans-generator fs f c))
+    (spans-product fs h f c)
 
 spans-combination : (fs : List Terms) (hs : List IntegerTerms) (gs : List Terms) → Each (Contains fs) gs →
     Spans fs (combination hs gs)
@@ -275,7 +295,8 @@ outside-combination n (h ∷ hs) (f ∷ fs) x r v o =
 -- a member of an ideal in n variables is a polynomial in n variables
 pub variables_of_member : (n : ℕ) (fs : List Terms) (f : Terms) → AreInVariables n fs → IsMember n fs f →
     IsInVariables n f
-variables_of_member n fs f v m = variables_by n f (λ x o. member-parts n fs f m x ∙ ap (λ z. over (pos 1) (m.factor - 1) *ℚ z) (outside-combination n m.multipliers fs x m.in_ring v o) ∙ *ℚ-zero _)
+variables_of_member n fs f v m = variables_by n f (λ x o. member-parts n fs f m x ∙
+    ap (λ z. over (pos 1) (m.factor - 1) *ℚ z) (outside-combination n m.multipliers fs x m.in_ring v o) ∙ *ℚ-zero _)
 
 -- ---- and back: the terms in the ring, with shifts in the ring
 
@@ -293,13 +314,16 @@ inside_ring n fs f v (Spans.more c u p k g j s q) = at (in_ring n u) (inside_rin
     at (inl i) r = record {
       part = times c u p ++ r.part;
       member = member-++ n fs (times c u p) r.part (member-times n fs p c u i (member-generator n fs p j)) r.member;
-      alike = λ x h. q x ∙ coefficient-++ (times c u p) g x ∙ ap (λ z. coefficient (times c u p) x +ℚ z) (r.alike x h) ∙ sym (coefficient-++ (times c u p) r.part x);
-      nothing = λ x o. coefficient-++ (times c u p) r.part x ∙ ap (λ z. z +ℚ coefficient r.part x) (nothing_outside n (times c u p) x (variables-times n c u p i (v p j)) o) ∙ zero-+ℚ _ ∙ r.nothing x o;
+      alike = λ x h. q x ∙ coefficient-++ (times c u p) g x ∙ ap (λ z. coefficient (times c u p) x +ℚ z) (r.alike x h) ∙
+          sym (coefficient-++ (times c u p) r.part x);
+      nothing = λ x o. coefficient-++ (times c u p) r.part x ∙ ap (λ z. z +ℚ coefficient r.part x)
+          (nothing_outside n (times c u p) x (variables-times n c u p i (v p j)) o) ∙ zero-+ℚ _ ∙ r.nothing x o;
     }
     at (inr o) r = record {
       part = r.part;
       member = r.member;
-      alike = λ x h. q x ∙ coefficient-++ (times c u p) g x ∙ ap (λ z. z +ℚ coefficient g x) (nothing_there c u p x (λ y m w. o (ring-left n u y (ring-along n x (plus u y) w h)))) ∙ zero-+ℚ _ ∙ r.alike x h;
+      alike = λ x h. q x ∙ coefficient-++ (times c u p) g x ∙ ap (λ z. z +ℚ coefficient g x)
+          (nothing_there c u p x (λ y m w. o (ring-left n u y (ring-along n x (plus u y) w h)))) ∙ zero-+ℚ _ ∙ r.alike x h;
       nothing = r.nothing;
     }
 
@@ -320,7 +344,8 @@ member_of_spans n fs f v w s = at (inside_ring n fs f v s)
 -- what members generate is in the ideal
 pub member-trans : (n : ℕ) (fs gs : List Terms) (f : Terms) → AreInVariables n fs →
     ((g : Terms) → Contains gs g → IsMember n fs g) → IsMember n gs f → IsMember n fs f
-member-trans n fs gs f v h m = member_of_spans n fs f v (variables_of_member n gs f (λ g k. variables_of_member n fs g v (h g k)) m) (Spans-trans fs gs f (λ g k. spans_of_member n fs g (h g k)) (spans_of_member n gs f m))
+member-trans n fs gs f v h m = member_of_spans n fs f v (variables_of_member n gs f (λ g k. variables_of_member n fs g v (h g k)) m)
+    (Spans-trans fs gs f (λ g k. spans_of_member n fs g (h g k)) (spans_of_member n gs f m))
 
 -- two lists whose members are members of each other's ideals
 pub same_ideal : (n : ℕ) (fs gs : List Terms) → AreInVariables n fs → AreInVariables n gs →

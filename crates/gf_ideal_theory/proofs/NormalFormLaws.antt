@@ -18,7 +18,15 @@ use Rattle.gf_ideal_theory.proofs.SettledLaws.{times_along, default}
 -- ---- the rule's steps are steps
 
 pub step-of_rule : (bs : List MarkedPolynomial) (f g : Terms) → IsRuleStep bs f g → IsStep (Contains bs) f g
-step-of_rule bs f g s = record { at = s.at; member = s.member; rest = s.rest; contained = (s.place, s.contained.within, s.contained.is); there = s.there; divides = s.divides; equal = s.equal }
+step-of_rule bs f g s = record {
+  at = s.at;
+  member = s.member;
+  rest = s.rest;
+  contained = (s.place, s.contained.within, s.contained.is);
+  there = s.there;
+  divides = s.divides;
+  equal = s.equal;
+}
 
 -- what the rule reaches is reached
 pub normal_form-reached : (bs : List MarkedPolynomial) (f g : Terms) → IsRuleReached bs f g → Reached (Contains bs) f g
@@ -49,13 +57,16 @@ rule-function : (bs : List MarkedPolynomial) (f g h k : Terms) → SamePolynomia
 rule-function bs f g h k e s t = finish place
   where
     at : same s.at t.at ≡ true
-    at = both_greatest s.at t.at (t.greatest s.at (monomial-along f g s.at e s.there) (divisible bs f h s)) (s.greatest t.at (monomial-along g f t.at (λ x. sym (e x)) t.there) (divisible bs g k t))
+    at = both_greatest s.at t.at (t.greatest s.at (monomial-along f g s.at e s.there) (divisible bs f h s))
+        (s.greatest t.at (monomial-along g f t.at (λ x. sym (e x)) t.there) (divisible bs g k t))
 
     place : s.place ≡ t.place
     place = elim (cases_lt s.place t.place) [
-      | inl l ↦ absurd (no_divisor t.at s.member.head s.rest (t.first s.place s.member l s.contained) (same_trans t.at s.at (plus s.rest s.member.head) (same_flip s.at t.at at) s.divides))
+      | inl l ↦ absurd (no_divisor t.at s.member.head s.rest (t.first s.place s.member l s.contained)
+          (same_trans t.at s.at (plus s.rest s.member.head) (same_flip s.at t.at at) s.divides))
       | inr m ↦ elim (cases_lt t.place s.place) [
-        | inl l ↦ absurd (no_divisor s.at t.member.head t.rest (s.first t.place t.member l t.contained) (same_trans s.at t.at (plus t.rest t.member.head) at t.divides))
+        | inl l ↦ absurd (no_divisor s.at t.member.head t.rest (s.first t.place t.member l t.contained)
+            (same_trans s.at t.at (plus t.rest t.member.head) at t.divides))
         | inr q ↦ omega arith
       ]
     ]

@@ -1,7 +1,8 @@
 -- The six orders row by row, traded for a weight.
 -- To cite: multiple-weight (monomials a multiple of a apart weigh alike), order_table, multiples_are_homogeneous.
 use Rattle.std.specs.List.{AllByRecursion}
-use Rattle.std.proofs.Common.{◌≡◌, ℕ, zero, suc, ◌*◌, ◌≤◌, true, List, [], ◌∷◌, get_or, All, ℤ, pos, negsuc, ◌+ℤ◌, ◌*ℤ◌, ◌≤ℤ◌, arith, refl, sym, ap, ◌∙◌, inl, inr}
+use Rattle.std.proofs.Common.{◌≡◌, ℕ, zero, suc, ◌*◌, ◌≤◌, true, List, [], ◌∷◌, get_or, All, ℤ, pos, negsuc, ◌+ℤ◌, ◌*ℤ◌, ◌≤ℤ◌, arith, refl, sym, ap, ◌∙◌, inl}
+use Rattle.std.proofs.Common.{inr}
 use Rattle.std.proofs.lemmas.Int.{ints}
 use Rattle.std.proofs.lemmas.List.Elements.{recursion_from_All}
 use Rattle.gf_int_theory.proofs.RingLaws.{dv, dn, ◌⊕◌, ◌⊗◌, same as same_number}
@@ -86,8 +87,10 @@ order_table = record {
   deglex = λ n. traded MonomialOrder.deglex n [] (AreInRing n) tt (ungraded n);
   weighted = λ n u. traded (MonomialOrder.weighted u) n [] (AreInRing n) tt (ungraded n);
   weighted_revlex = λ n u p. traded (MonomialOrder.weighted_revlex u) n [] (AreInRing n) p (ungraded n);
-  revlex = λ n. traded MonomialOrder.revlex n (ones n) (λ x y. AreInRing n x y × (degree x ≡ degree y)) (λ i l. omega (arith, entry-ones n i l)) (λ x y h. of_degree n x y h.0 h.1);
-  facet = λ n a v p e. traded (MonomialOrder.facet (negated_row_of a)) n v (λ x y. AreInRing n x y × AreMultipleApart a x y) (inl p) (λ x y h. of_multiples n v a x y e h.0 h.1);
+  revlex = λ n. traded MonomialOrder.revlex n (ones n) (λ x y. AreInRing n x y × (degree x ≡ degree y)) (λ i l. omega (arith, entry-ones n i l))
+      (λ x y h. of_degree n x y h.0 h.1);
+  facet = λ n a v p e. traded (MonomialOrder.facet (negated_row_of a)) n v (λ x y. AreInRing n x y × AreMultipleApart a x y) (inl p)
+      (λ x y h. of_multiples n v a x y e h.0 h.1);
   facet_downward = λ n a d. traded (MonomialOrder.facet (negated_row_of a)) n [] (AreInRing n) (inr (nothing_lost a d)) (ungraded n);
 }
 

@@ -94,12 +94,13 @@ lex-weights Alike k = (weights_for k (lex_rows 0 k), λ x y p q a h. lighter-by_
 
 -- where less and alike go by a row of weights inside the box
 by_row : (Alike less alike : Exponents → Exponents → Type 0) →
-    ((k : ℕ) → (u : List ℕ) × ((x y : Exponents) → IsShort k x → IsShort k y → Alike x y → (less x y → weight u x < weight u y) × (alike x y → weight u x ≡ weight u y))) →
-    HasWeightsFor Alike (λ x y. less x y ⊎ (alike x y × IsLexBelow x y))
+    ((k : ℕ) → (u : List ℕ) × ((x y : Exponents) → IsShort k x → IsShort k y → Alike x y → (less x y → weight u x < weight u y) × (alike x y →
+    weight u x ≡ weight u y))) → HasWeightsFor Alike (λ x y. less x y ⊎ (alike x y × IsLexBelow x y))
 by_row Alike less alike r k = at (r k)
   where
-    at : ((u : List ℕ) × ((x y : Exponents) → IsShort k x → IsShort k y → Alike x y → (less x y → weight u x < weight u y) × (alike x y → weight u x ≡ weight u y))) →
-        (w : List ℕ) × ((x y : Exponents) → IsShort k x → IsShort k y → Alike x y → less x y ⊎ (alike x y × IsLexBelow x y) → lighter w x y)
+    at : ((u : List ℕ) × ((x y : Exponents) → IsShort k x → IsShort k y → Alike x y → (less x y → weight u x < weight u y) × (alike x y →
+        weight u x ≡ weight u y))) → (w : List ℕ) × ((x y : Exponents) → IsShort k x → IsShort k y → Alike x y → less x y ⊎ (alike x y × IsLexBelow x y) →
+        lighter w x y)
     at u = (weights_for k (u.0 ∷ lex_rows 0 k), λ x y p q a h. lighter-by_rows k (u.0 ∷ lex_rows 0 k) x y p.small (row x y p q a h))
       where
         row : (x y : Exponents) → IsShort k x → IsShort k y → Alike x y → less x y ⊎ (alike x y × IsLexBelow x y) →
@@ -126,7 +127,13 @@ degree-ones (suc k) (a ∷ x) h = omega (arith, degree-ones k x (λ i l. h (suc 
 -- deglex
 pub deglex-weights : (Alike : Exponents → Exponents → Type 0) → HasWeightsFor Alike IsDeglexBelow
 deglex-weights Alike = by_row Alike (λ x y. degree x < degree y) (λ x y. degree x ≡ degree y)
-    (λ k. (ones k, λ x y p q a. (λ l. omega (arith, degree-ones k x p.short, degree-ones k y q.short), λ e. degree-ones k x p.short ∙ e ∙ sym (degree-ones k y q.short))))
+    (λ k. (
+      ones k,
+      λ x y p q a. (
+        λ l. omega (arith, degree-ones k x p.short, degree-ones k y q.short),
+        λ e. degree-ones k x p.short ∙ e ∙ sym (degree-ones k y q.short),
+      ),
+    ))
 
 -- a weighted order
 pub weighted-weights : (Alike : Exponents → Exponents → Type 0) (u : List ℕ) → HasWeightsFor Alike (IsWeightedBelow u)
@@ -186,14 +193,24 @@ weight-first : (n : ℕ) (w : List ℕ) (x y : Exponents) → ((i : ℕ) → n �
     weight w x + weight (first n w) y ≡ weight w y + weight (first n w) x
 weight-first zero w x y h = omega (arith, weight-same w x y (same_by_entries x y (λ i. h i (omega arith))))
 weight-first (suc n) w x y h =
-    omega (arith, weight-parts w x, weight-parts w y, front_weight (entry w 0) (first n (rest w)) x, front_weight (entry w 0) (first n (rest w)) y, weight-first n (rest w) (rest x) (rest y) (rest_agree n x y h))
+    omega (
+      arith,
+      weight-parts w x,
+      weight-parts w y,
+      front_weight (entry w 0) (first n (rest w)) x,
+      front_weight (entry w 0) (first n (rest w)) y,
+      weight-first n (rest w) (rest x) (rest y) (rest_agree n x y h),
+    )
 
 weight-lifted : (n c : ℕ) (gain v loss : List ℕ) (x : Exponents) → IsPositive n v → ((i : ℕ) → entry loss i ≤ c) →
     weight (lifted n c gain v loss) x + weight (first n loss) x ≡ weight (first n gain) x + c * weight (first n v) x
 weight-lifted zero c gain v loss x p b = omega arith
 weight-lifted (suc n) c gain v loss x p b =
-    joined (entry gain 0) (entry v 0) (entry loss 0) (entry x 0) (weight (lifted n c (rest gain) (rest v) (rest loss)) (rest x)) (weight (first n (rest loss)) (rest x)) (weight (first n (rest gain)) (rest x)) (weight (first n (rest v)) (rest x)) (p 0 (omega arith)) (b 0)
-    (front_weight (entry gain 0 + c * entry v 0 - entry loss 0) (lifted n c (rest gain) (rest v) (rest loss)) x) (front_weight (entry loss 0) (first n (rest loss)) x) (front_weight (entry gain 0) (first n (rest gain)) x) (front_weight (entry v 0) (first n (rest v)) x)
+    joined (entry gain 0) (entry v 0) (entry loss 0) (entry x 0) (weight (lifted n c (rest gain) (rest v) (rest loss)) (rest x))
+    (weight (first n (rest loss)) (rest x)) (weight (first n (rest gain)) (rest x)) (weight (first n (rest v)) (rest x)) (p 0 (omega arith)) (b 0)
+    (front_weight (entry gain 0 + c * entry v 0 - entry loss 0) (lifted n c (rest gain) (rest v) (rest loss)) x)
+    (front_weight (entry loss 0) (first n (rest loss)) x) (front_weight (entry gain 0) (first n (rest gain)) x)
+    (front_weight (entry v 0) (first n (rest v)) x)
     (weight-lifted n c (rest gain) (rest v) (rest loss) (rest x) (λ i l. at i (p (suc i) (omega arith))) (λ i. low i (b (suc i))))
   where
     at : (i : ℕ) → 1 ≤ entry v (suc i) → 1 ≤ entry (rest v) i
@@ -224,8 +241,8 @@ weight-lifted (suc n) c gain v loss x p b =
 pub facet-weights : (n : ℕ) (v : List ℕ) (r : WeightRow) → IsPositive n v → HasWeightsFor (IsOfGrade n v) (IsFacetBelow r)
 facet-weights n v r p = by_row (IsOfGrade n v) (is_less r) (is_alike r) (λ k. at (box_of r.loss))
   where
-    at : {k : ℕ} → ((c : ℕ) × IsShort c r.loss) →
-        (u : List ℕ) × ((x y : Exponents) → IsShort k x → IsShort k y → IsOfGrade n v x y → (is_less r x y → weight u x < weight u y) × (is_alike r x y → weight u x ≡ weight u y))
+    at : {k : ℕ} → ((c : ℕ) × IsShort c r.loss) → (u : List ℕ) × ((x y : Exponents) → IsShort k x → IsShort k y → IsOfGrade n v x y →
+        (is_less r x y → weight u x < weight u y) × (is_alike r x y → weight u x ≡ weight u y))
     at c = (lifted n c.0 r.gain v r.loss, λ x y b d a. (λ l. less x y a l, λ e. equal x y a e))
       where
         u : List ℕ
@@ -236,10 +253,26 @@ facet-weights n v r p = by_row (IsOfGrade n v) (is_less r) (is_alike r) (λ k. a
         even x y a = let e : weight (first n v) x ≡ weight (first n v) y = omega (arith, weight-first n v x y a.1, a.0) in ap (λ (z : ℕ). c.0 * z) e
 
         less : (x y : Exponents) → IsOfGrade n v x y → is_less r x y → weight u x < weight u y
-        less x y a l = omega (arith, l, weight-first n r.gain x y a.1, weight-first n r.loss x y a.1, weight-lifted n c.0 r.gain v r.loss x p c.1.small, weight-lifted n c.0 r.gain v r.loss y p c.1.small, even x y a)
+        less x y a l = omega (
+          arith,
+          l,
+          weight-first n r.gain x y a.1,
+          weight-first n r.loss x y a.1,
+          weight-lifted n c.0 r.gain v r.loss x p c.1.small,
+          weight-lifted n c.0 r.gain v r.loss y p c.1.small,
+          even x y a,
+        )
 
         equal : (x y : Exponents) → IsOfGrade n v x y → is_alike r x y → weight u x ≡ weight u y
-        equal x y a l = omega (arith, l, weight-first n r.gain x y a.1, weight-first n r.loss x y a.1, weight-lifted n c.0 r.gain v r.loss x p c.1.small, weight-lifted n c.0 r.gain v r.loss y p c.1.small, even x y a)
+        equal x y a l = omega (
+          arith,
+          l,
+          weight-first n r.gain x y a.1,
+          weight-first n r.loss x y a.1,
+          weight-lifted n c.0 r.gain v r.loss x p c.1.small,
+          weight-lifted n c.0 r.gain v r.loss y p c.1.small,
+          even x y a,
+        )
 
 weight-zeros : (w : List ℕ) (x : Exponents) → ((i : ℕ) → entry w i ≡ 0) → weight w x ≡ 0
 weight-zeros [] x h = refl
@@ -249,7 +282,14 @@ weight-zeros (a ∷ w) (b ∷ x) h = omega (arith, ap (λ (z : ℕ). z * b) (h 0
 -- a row that takes nothing away is one of weights
 pub facet_gain-weights : (Alike : Exponents → Exponents → Type 0) (r : WeightRow) → HasNoLoss r →
     HasWeightsFor Alike (IsFacetBelow r)
-facet_gain-weights Alike r h = by_row Alike (is_less r) (is_alike r) (λ k. (r.gain, λ x y p q a. (λ l. omega (arith, l, weight-zeros r.loss x h, weight-zeros r.loss y h), λ e. omega (arith, e, weight-zeros r.loss x h, weight-zeros r.loss y h))))
+facet_gain-weights Alike r h = by_row Alike (is_less r) (is_alike r)
+    (λ k. (
+      r.gain,
+      λ x y p q a. (
+        λ l. omega (arith, l, weight-zeros r.loss x h, weight-zeros r.loss y h),
+        λ e. omega (arith, e, weight-zeros r.loss x h, weight-zeros r.loss y h),
+      ),
+    ))
 
 -- ---- the six orders
 
@@ -279,5 +319,13 @@ weights-positive Alike below n h k = at (h k)
       both_of (multiple m r.0) (ones n),
       λ i l. omega (arith, entry-both (multiple m r.0) (ones n) i, entry-ones n i l),
       λ x y p q a l.
-          omega (arith, weight-both (multiple m r.0) (ones n) x, weight-both (multiple m r.0) (ones n) y, weight-multiple m r.0 x, weight-multiple m r.0 y, times_up m (weight r.0 x) (weight r.0 y) (r.1 x y p q a l), weight-boxed k (ones n) x p.small),
+          omega (
+            arith,
+            weight-both (multiple m r.0) (ones n) x,
+            weight-both (multiple m r.0) (ones n) y,
+            weight-multiple m r.0 x,
+            weight-multiple m r.0 y,
+            times_up m (weight r.0 x) (weight r.0 y) (r.1 x y p q a l),
+            weight-boxed k (ones n) x p.small,
+          ),
     )

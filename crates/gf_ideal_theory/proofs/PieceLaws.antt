@@ -1,7 +1,8 @@
 -- Sums of multiples of marked polynomials.
 -- To cite: value-++, coefficient-value-++, value-scale, Each-scale, find (a piece whose mark comes to a monomial),
 -- combined_of_spans and spans_of_combined. The rest are steps.
-use Rattle.std.proofs.Common.{◌≡◌, ◌⊎◌, suc, Bool, true, false, List, [], ◌∷◌, ◌++◌, map, length, Contains, arith, refl, sym, ap, ◌∙◌, inl, inr, subst, append_assoc}
+use Rattle.std.proofs.Common.{◌≡◌, ◌⊎◌, suc, Bool, true, false, List, [], ◌∷◌, ◌++◌, map, length, Contains, arith, refl, sym, ap, ◌∙◌, inl, inr, subst}
+use Rattle.std.proofs.Common.{append_assoc}
 use Rattle.gf_frac.specs.Fraction.{Fraction, ◌+ℚ◌, ◌*ℚ◌, one_ℚ}
 use Rattle.gf_frac.proofs.FractionLaws.{+ℚ-zero}
 use Rattle.gf_exponents_theory.specs.Exponents.{Exponents, plus, same}
@@ -19,7 +20,8 @@ use Rattle.gf_poly.proofs.MergeLaws.{swap_first}
 -- the sum of two lists
 pub value-++ : (ps qs : List Piece) → value (ps ++ qs) ≡ value ps ++ value qs
 value-++ [] qs = refl
-value-++ (p ∷ ps) qs = ap (λ z. times p.factor p.shift p.of.poly ++ z) (value-++ ps qs) ∙ sym (append_assoc (times p.factor p.shift p.of.poly) (value ps) (value qs))
+value-++ (p ∷ ps) qs = ap (λ z. times p.factor p.shift p.of.poly ++ z) (value-++ ps qs) ∙ sym (append_assoc (times p.factor p.shift p.of.poly) (value ps)
+    (value qs))
 
 -- its coefficients
 pub coefficient-value-++ : (ps qs : List Piece) (e : Exponents) →
@@ -73,7 +75,15 @@ find P x [] h = inr tt
 find P x (p ∷ ps) h = at (same x (level p)) refl (find P x ps h.1)
   where
     at : (b : Bool) → same x (level p) ≡ b → Found P x ps ⊎ NoneAt x ps → Found P x (p ∷ ps) ⊎ NoneAt x (p ∷ ps)
-    at true e r = inl (record { piece = p; rest = ps; like = e; holds = h.0; rest_holds = h.1; shorter = refl; equal = λ e. coefficient-++ (times p.factor p.shift p.of.poly) (value ps) e })
+    at true e r = inl (record {
+      piece = p;
+      rest = ps;
+      like = e;
+      holds = h.0;
+      rest_holds = h.1;
+      shorter = refl;
+      equal = λ e. coefficient-++ (times p.factor p.shift p.of.poly) (value ps) e;
+    })
     at false e (inl f) = inl (record {
       piece = f.piece;
       rest = p ∷ f.rest;
@@ -85,7 +95,8 @@ find P x (p ∷ ps) h = at (same x (level p)) refl (find P x ps h.1)
           coefficient-++ (times p.factor p.shift p.of.poly) (value ps) e
           ∙ ap (λ z. coefficient (times p.factor p.shift p.of.poly) e +ℚ z) (f.equal e)
           ∙ swap_first _ _ _
-          ∙ ap (λ z. coefficient (times f.piece.factor f.piece.shift f.piece.of.poly) e +ℚ z) (sym (coefficient-++ (times p.factor p.shift p.of.poly) (value f.rest) e));
+          ∙ ap (λ z. coefficient (times f.piece.factor f.piece.shift f.piece.of.poly) e +ℚ z) (sym (coefficient-++ (times p.factor p.shift p.of.poly)
+          (value f.rest) e));
     })
     at false e (inr n) = inr (e, n)
 
@@ -121,7 +132,8 @@ combined_of_spans by fs f h (Spans.more c u p k g j s q) = at (h p j) (combined_
     at : IsCombined by p → IsCombined by g → IsCombined by f
     at a b = record {
       pieces = scale c u a.pieces ++ b.pieces;
-      members = Each-++ (λ (p : Piece). by p.of) (scale c u a.pieces) b.pieces (Each-scale (λ (p : Piece). by p.of) (λ (p : Piece). by p.of) c u (λ p k. k) a.pieces a.members) b.members;
+      members = Each-++ (λ (p : Piece). by p.of) (scale c u a.pieces) b.pieces (Each-scale (λ (p : Piece). by p.of) (λ (p : Piece). by p.of) c u (λ p k. k)
+          a.pieces a.members) b.members;
       equal = λ e.
           q e ∙ coefficient-++ (times c u p) g e
           ∙ ap (λ z. z +ℚ coefficient g e) (SamePolynomial-times c u p (value a.pieces) a.equal e ∙ ap (λ z. coefficient z e) (sym (value-scale c u a.pieces)))
@@ -131,7 +143,11 @@ combined_of_spans by fs f h (Spans.more c u p k g j s q) = at (h p j) (combined_
 
 -- a member is one piece
 pub combined_member : (by : MarkedPolynomial → Type 0) (b : MarkedPolynomial) → by b → IsCombined by b.poly
-combined_member by b h = record { pieces = record { factor = one_ℚ; shift = []; of = b } ∷ []; members = (h, tt); equal = λ e. sym (coefficient-++ (times one_ℚ [] b.poly) [] e ∙ +ℚ-zero _ ∙ ap (λ z. coefficient z e) (times-plain b.poly)) }
+combined_member by b h = record {
+  pieces = record { factor = one_ℚ; shift = []; of = b } ∷ [];
+  members = (h, tt);
+  equal = λ e. sym (coefficient-++ (times one_ℚ [] b.poly) [] e ∙ +ℚ-zero _ ∙ ap (λ z. coefficient z e) (times-plain b.poly));
+}
 
 -- from spanned to combined
 pub combined_of_polys : (bs : List MarkedPolynomial) (f : Terms) → Spans (polys bs) f → IsCombined (Contains bs) f
@@ -145,4 +161,5 @@ pub spans_value : (fs : List Terms) (by : MarkedPolynomial → Type 0) →
     ((b : MarkedPolynomial) → by b → Spans fs b.poly) → (ps : List Piece) → Each (λ (p : Piece). by p.of) ps →
     Spans fs (value ps)
 spans_value fs by h [] m = Spans-zero fs
-spans_value fs by h (p ∷ ps) m = Spans-++ fs (times p.factor p.shift p.of.poly) (value ps) (Spans-times fs p.of.poly p.factor p.shift (h p.of m.0)) (spans_value fs by h ps m.1)
+spans_value fs by h (p ∷ ps) m = Spans-++ fs (times p.factor p.shift p.of.poly) (value ps) (Spans-times fs p.of.poly p.factor p.shift (h p.of m.0))
+    (spans_value fs by h ps m.1)

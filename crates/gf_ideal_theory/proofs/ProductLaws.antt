@@ -29,7 +29,8 @@ poly_product-none (t ∷ f) = poly_product-none f
 
 one_term : (s t : Term) (e : Exponents) →
     (if same e (plus t.mono s.mono) then t.coef *ℚ s.coef else zero_ℚ) ≡ (if same e (plus s.mono t.mono) then s.coef *ℚ t.coef else zero_ℚ)
-one_term s t e = ap (λ x. if same e x then t.coef *ℚ s.coef else zero_ℚ) (plus_comm t.mono s.mono) ∙ ap (λ c. if same e (plus s.mono t.mono) then c else zero_ℚ) (*ℚ_comm t.coef s.coef)
+one_term s t e = ap (λ x. if same e x then t.coef *ℚ s.coef else zero_ℚ) (plus_comm t.mono s.mono) ∙ ap (λ c. if same e (plus s.mono t.mono) then c else zero_ℚ)
+    (*ℚ_comm t.coef s.coef)
 
 poly_product-more : (f : Terms) (s : Term) (g : Terms) (e : Exponents) →
     coefficient (poly_product f (s ∷ g)) e ≡ coefficient (times s.coef s.mono f) e +ℚ coefficient (poly_product f g) e
@@ -45,7 +46,8 @@ poly_product-more (t ∷ f) s g e =
 pub poly_product-turned : (f g : Terms) (e : Exponents) →
     coefficient (poly_product f g) e ≡ coefficient (poly_product g f) e
 poly_product-turned f [] e = ap (λ z. coefficient z e) (poly_product-none f)
-poly_product-turned f (s ∷ g) e = poly_product-more f s g e ∙ ap (λ z. coefficient (times s.coef s.mono f) e +ℚ z) (poly_product-turned f g e) ∙ sym (coefficient-++ (times s.coef s.mono f) (poly_product g f) e)
+poly_product-turned f (s ∷ g) e = poly_product-more f s g e ∙ ap (λ z. coefficient (times s.coef s.mono f) e +ℚ z) (poly_product-turned f g e) ∙
+    sym (coefficient-++ (times s.coef s.mono f) (poly_product g f) e)
 
 -- equal factors have equal products
 pub poly_product-equal : (f g h : Terms) → SamePolynomial g h → SamePolynomial (poly_product f g) (poly_product f h)
@@ -68,10 +70,12 @@ poly_product-at x (t ∷ f) g e =
     p : Fraction
     p = coefficient (poly_product (without x f) g) e
 
-    at : (b : Bool) → same x t.mono ≡ b →
-        coefficient (times t.coef t.mono g) e +ℚ (coefficient f x *ℚ coefficient (times one_ℚ x g) e +ℚ p) ≡ ((if b then t.coef else zero_ℚ) +ℚ coefficient f x) *ℚ coefficient (times one_ℚ x g) e +ℚ coefficient (poly_product (if b then without x f else (t ∷ without x f)) g) e
+    at : (b : Bool) → same x t.mono ≡ b → coefficient (times t.coef t.mono g) e +ℚ (coefficient f x *ℚ coefficient (times one_ℚ x g) e +ℚ p) ≡
+        ((if b then t.coef else zero_ℚ) +ℚ coefficient f x) *ℚ coefficient (times one_ℚ x g) e +ℚ
+        coefficient (poly_product (if b then without x f else (t ∷ without x f)) g) e
     at true s =
-        ap (λ z. z +ℚ (coefficient f x *ℚ coefficient (times one_ℚ x g) e +ℚ p)) (times_along t.coef t.mono x g e (same_flip x t.mono s) ∙ coefficient-factor t.coef x g e)
+        ap (λ z. z +ℚ (coefficient f x *ℚ coefficient (times one_ℚ x g) e +ℚ p)) (times_along t.coef t.mono x g e (same_flip x t.mono s) ∙
+        coefficient-factor t.coef x g e)
         ∙ joined t.coef (coefficient f x) (coefficient (times one_ℚ x g) e) p
     at false s =
         front _ _ _
@@ -104,7 +108,8 @@ spread-below by below h y (t ∷ f) c o m s k = at (same h t.mono) refl (spread-
       where
         low : (same t.mono h ≡ true) ⊎ below t.mono h → below (plus t.mono c.head) (plus h c.head)
         low (inl z) = let n : same h t.mono ≡ true = same_flip t.mono h z in absurd (cc)
-        low (inr l) = subst (λ a. below a (plus h c.head)) (plus_comm c.head t.mono) (subst (λ a. below (plus c.head t.mono) a) (plus_comm c.head h) (o.invariant c.head t.mono h l))
+        low (inr l) = subst (λ a. below a (plus h c.head)) (plus_comm c.head t.mono) (subst (λ a. below (plus c.head t.mono) a) (plus_comm c.head h)
+            (o.invariant c.head t.mono h l))
 
 -- coprime marks
 pub settled_by_product : (by : MarkedPolynomial → Type 0) (below : Exponents → Exponents → Type 0) (b c : MarkedPolynomial) →
@@ -124,12 +129,15 @@ settled_by_product by below b c o mb mc hb hc q = at (canonical b.poly) (canonic
       of_right = ap (λ z. same z (join b.head c.head)) (plus_comm b.head c.head) ∙ join-coprime b.head c.head q;
       bridge = record {
         pieces = spread (without b.head f.terms) c ++ scale (neg_ℚ one_ℚ) [] (spread (without c.head g.terms) b);
-        lower = Each-++ (IsPieceBelow by below (plus c.head b.head)) (spread (without b.head f.terms) c) (scale (neg_ℚ one_ℚ) [] (spread (without c.head g.terms) b))
+        lower = Each-++ (IsPieceBelow by below (plus c.head b.head)) (spread (without b.head f.terms) c)
+            (scale (neg_ℚ one_ℚ) [] (spread (without c.head g.terms) b))
             (spread-below by below b.head (plus c.head b.head) f.terms c o hc (same_of _ _ (plus_comm b.head c.head)) (low b f mb))
-            (Each-scale (IsPieceBelow by below (plus c.head b.head)) (IsPieceBelow by below (plus c.head b.head)) (neg_ℚ one_ℚ) [] (λ p h. record { member = h.member; lower = h.lower }) (spread (without c.head g.terms) b)
+            (Each-scale (IsPieceBelow by below (plus c.head b.head)) (IsPieceBelow by below (plus c.head b.head)) (neg_ℚ one_ℚ)
+            [] (λ p h. record { member = h.member; lower = h.lower }) (spread (without c.head g.terms) b)
             (spread-below by below c.head (plus c.head b.head) g.terms b o hb (same-refl (plus c.head b.head)) (low c g mc)));
         equation = λ e.
-            crossed_over (coefficient (times one_ℚ c.head b.poly) e) (p e) (coefficient (times one_ℚ b.head c.poly) e) (coefficient (poly_product (without b.head f.terms) c.poly) e)
+            crossed_over (coefficient (times one_ℚ c.head b.poly) e) (p e) (coefficient (times one_ℚ b.head c.poly) e)
+            (coefficient (poly_product (without b.head f.terms) c.poly) e)
             (sym (apart c b g e mc) ∙ turned e ∙ apart b c f e mb)
             ∙ ap (λ z. coefficient (times one_ℚ b.head c.poly) e +ℚ z)
             (ap (λ z. coefficient z e +ℚ neg_ℚ (p e)) (sym (value-spread (without b.head f.terms) c))
@@ -143,13 +151,16 @@ settled_by_product by below b c o mb mc hb hc q = at (canonical b.poly) (canonic
 
         turned : (e : Exponents) →
             coefficient (poly_product g.terms b.poly) e ≡ coefficient (poly_product f.terms c.poly) e
-        turned e = poly_product-equal g.terms b.poly f.terms f.equal e ∙ poly_product-turned g.terms f.terms e ∙ sym (poly_product-equal f.terms c.poly g.terms g.equal e)
+        turned e = poly_product-equal g.terms b.poly f.terms f.equal e ∙ poly_product-turned g.terms f.terms e ∙
+            sym (poly_product-equal f.terms c.poly g.terms g.equal e)
 
         apart : (x y : MarkedPolynomial) (k : Canonical x.poly) (e : Exponents) → IsMarked below x →
-            coefficient (poly_product k.terms y.poly) e ≡ coefficient (times one_ℚ x.head y.poly) e +ℚ coefficient (poly_product (without x.head k.terms) y.poly) e
+            coefficient (poly_product k.terms y.poly) e ≡ coefficient (times one_ℚ x.head y.poly) e +ℚ coefficient (poly_product (without x.head k.terms)
+            y.poly) e
         apart x y k e m =
             poly_product-at x.head k.terms y.poly e
-            ∙ ap (λ z. z *ℚ coefficient (times one_ℚ x.head y.poly) e +ℚ coefficient (poly_product (without x.head k.terms) y.poly) e) (sym (k.equal x.head) ∙ m.monic)
+            ∙ ap (λ z. z *ℚ coefficient (times one_ℚ x.head y.poly) e +ℚ coefficient (poly_product (without x.head k.terms) y.poly) e)
+            (sym (k.equal x.head) ∙ m.monic)
             ∙ ap (λ z. z +ℚ coefficient (poly_product (without x.head k.terms) y.poly) e) (one-*ℚ _)
 
         negated : (e : Exponents) →

@@ -37,7 +37,8 @@ s_polynomial-within below b c s o mb mc q e n = at (same e (plus q.left b.head))
     parts = q.equal e ∙ coefficient-++ (times one_ℚ q.left b.poly) (times (neg_ℚ one_ℚ) q.right c.poly) e
 
     across : same (plus q.left b.head) (plus q.right c.head) ≡ true
-    across = same_trans (plus q.left b.head) (join b.head c.head) (plus q.right c.head) q.of_left (same_flip (plus q.right c.head) (join b.head c.head) q.of_right)
+    across = same_trans (plus q.left b.head) (join b.head c.head) (plus q.right c.head) q.of_left (same_flip (plus q.right c.head) (join b.head c.head)
+        q.of_right)
 
     at : (t : Bool) → same e (plus q.left b.head) ≡ t → below e (join b.head c.head)
     at true y = absurd (n (parts
@@ -56,17 +57,23 @@ pub settled_by_steps : (by kept : MarkedPolynomial → Type 0) (below : Exponent
     IsStrict below → ((d : MarkedPolynomial) → by d → IsMarked below d) → ((d : MarkedPolynomial) → by d → kept d) →
     by b → by c → IsSPolynomial b c s → Reached by s r → IsKept kept r → IsSettledAtJoin kept below b c
 settled_by_steps by kept below b c s r o m more hb hc q steps k =
-    let t = taken by (λ x. below x (join b.head c.head)) s r (closed-below by below (join b.head c.head) o m) (s_polynomial-within below b c s o (m b hb) (m c hc) q) steps in
+    let t = taken by (λ x. below x (join b.head c.head)) s r (closed-below by below (join b.head c.head) o m)
+    (s_polynomial-within below b c s o (m b hb) (m c hc) q) steps in
     record { left = q.left; right = q.right; of_left = q.of_left; of_right = q.of_right; bridge = at t k }
   where
     low : AreTaken by (λ x. below x (join b.head c.head)) s r → (ps : List Piece) →
         Each (IsPieceIn by (λ x. below x (join b.head c.head))) ps →
         Each (IsPieceBelow kept below (plus q.left b.head)) ps
-    low t ps h = Each-weaker (IsPieceIn by (λ x. below x (join b.head c.head))) (IsPieceBelow kept below (plus q.left b.head)) (λ p g. record { member = more p.of g.member; lower = o.along_right (level p) (join b.head c.head) (plus q.left b.head) (same_flip (plus q.left b.head) (join b.head c.head) q.of_left) g.inside }) ps h
+    low t ps h = Each-weaker (IsPieceIn by (λ x. below x (join b.head c.head))) (IsPieceBelow kept below (plus q.left b.head))
+        (λ p g. record {
+          member = more p.of g.member;
+          lower = o.along_right (level p) (join b.head c.head) (plus q.left b.head) (same_flip (plus q.left b.head) (join b.head c.head) q.of_left) g.inside;
+        }) ps h
 
     spoly : (e : Exponents) →
         coefficient s e ≡ coefficient (times one_ℚ q.left b.poly) e +ℚ neg_ℚ (coefficient (times one_ℚ q.right c.poly) e)
-    spoly e = q.equal e ∙ coefficient-++ (times one_ℚ q.left b.poly) (times (neg_ℚ one_ℚ) q.right c.poly) e ∙ ap (λ z. coefficient (times one_ℚ q.left b.poly) e +ℚ z) (coefficient-factor (neg_ℚ one_ℚ) q.right c.poly e ∙ neg_one _)
+    spoly e = q.equal e ∙ coefficient-++ (times one_ℚ q.left b.poly) (times (neg_ℚ one_ℚ) q.right c.poly) e ∙
+        ap (λ z. coefficient (times one_ℚ q.left b.poly) e +ℚ z) (coefficient-factor (neg_ℚ one_ℚ) q.right c.poly e ∙ neg_one _)
 
     at : AreTaken by (λ x. below x (join b.head c.head)) s r → IsKept kept r → IsBridged kept below b c q.left q.right
     at t (inl z) = record {
@@ -76,15 +83,24 @@ settled_by_steps by kept below b c s r o m more hb hc q steps k =
     }
     at t (inr d) = record {
       pieces = record { factor = coefficient r d.0.head; shift = []; of = d.0 } ∷ t.pieces;
-      lower = (record { member = d.1; lower = o.along_right d.0.head (join b.head c.head) (plus q.left b.head) (same_flip (plus q.left b.head) (join b.head c.head) q.of_left) (t.within d.0.head d.2.there) }, low t t.pieces t.inside);
-      equation = λ e. taken_over _ _ _ _ (spoly e) (t.equal e ∙ ap (λ y. y +ℚ coefficient (value t.pieces) e) (times-monic r d.0 d.2 e) ∙ sym (coefficient-++ (times (coefficient r d.0.head) [] d.0.poly) (value t.pieces) e));
+      lower = (
+        record {
+          member = d.1;
+          lower = o.along_right d.0.head (join b.head c.head) (plus q.left b.head) (same_flip (plus q.left b.head) (join b.head c.head) q.of_left)
+              (t.within d.0.head d.2.there);
+        },
+        low t t.pieces t.inside,
+      );
+      equation = λ e. taken_over _ _ _ _ (spoly e) (t.equal e ∙ ap (λ y. y +ℚ coefficient (value t.pieces) e) (times-monic r d.0 d.2 e) ∙
+          sym (coefficient-++ (times (coefficient r d.0.head) [] d.0.poly) (value t.pieces) e));
     }
 
 -- ---- two monomials
 
 single_else : (b : MarkedPolynomial) (u x : Exponents) → HasOneMonomial b → same x (plus u b.head) ≡ false →
     coefficient (times one_ℚ u b.poly) x ≡ zero_ℚ
-single_else b u x h n = nothing_there one_ℚ u b.poly x (λ y m s. let t : same x (plus u b.head) ≡ true = same_trans x (plus u y) (plus u b.head) s (same_shift u y b.head (h y m)) in absurd (cc))
+single_else b u x h n = nothing_there one_ℚ u b.poly x (λ y m s. let t : same x (plus u b.head) ≡ true = same_trans x (plus u y) (plus u b.head) s
+    (same_shift u y b.head (h y m)) in absurd (cc))
 
 -- the S-polynomial of two monomials is zero
 pub settled_monomials : (by : MarkedPolynomial → Type 0) (below : Exponents → Exponents → Type 0) (b c : MarkedPolynomial) →
@@ -107,9 +123,12 @@ settled_monomials by below b c mb mc hb hc = record {
     at : (x : Exponents) (t : Bool) → same x (join b.head c.head) ≡ t →
         coefficient (times one_ℚ u b.poly) x ≡ coefficient (times one_ℚ v c.poly) x
     at x true s =
-        coefficient-mark one_ℚ u x b mb (same_trans x (join b.head c.head) (plus u b.head) s (same_flip (plus u b.head) (join b.head c.head) (minus_left b.head c.head)))
-        ∙ sym (coefficient-mark one_ℚ v x c mc (same_trans x (join b.head c.head) (plus v c.head) s (same_flip (plus v c.head) (join b.head c.head) (minus_right b.head c.head))))
-    at x false s = single_else b u x hb (off (plus u b.head) (minus_left b.head c.head)) ∙ sym (single_else c v x hc (off (plus v c.head) (minus_right b.head c.head)))
+        coefficient-mark one_ℚ u x b mb (same_trans x (join b.head c.head) (plus u b.head) s
+        (same_flip (plus u b.head) (join b.head c.head) (minus_left b.head c.head)))
+        ∙ sym (coefficient-mark one_ℚ v x c mc (same_trans x (join b.head c.head) (plus v c.head) s
+        (same_flip (plus v c.head) (join b.head c.head) (minus_right b.head c.head))))
+    at x false s = single_else b u x hb (off (plus u b.head) (minus_left b.head c.head)) ∙
+        sym (single_else c v x hc (off (plus v c.head) (minus_right b.head c.head)))
       where
         off : (y : Exponents) → same y (join b.head c.head) ≡ true → same x y ≡ false
         off y e = same-sym x y ∙ same_along y (join b.head c.head) x e ∙ same-sym (join b.head c.head) x ∙ s

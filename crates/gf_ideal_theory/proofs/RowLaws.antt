@@ -84,10 +84,26 @@ lighter-by_rows k (u ∷ us) x y p h = at h (lighter-by_rows k us x y p)
     at : below_by (u ∷ us) x y → (below_by us x y → lighter ws x y) → lighter (weights_for k (u ∷ us)) x y
     at (inl l) r =
         let n = suc (total ws * k) in
-        omega (arith, weight-both (multiple n u) ws x, weight-both (multiple n u) ws y, weight-multiple n u x, weight-multiple n u y, times_up n (weight u x) (weight u y) l, weight-boxed k ws x p)
+        omega (
+          arith,
+          weight-both (multiple n u) ws x,
+          weight-both (multiple n u) ws y,
+          weight-multiple n u x,
+          weight-multiple n u y,
+          times_up n (weight u x) (weight u y) l,
+          weight-boxed k ws x p,
+        )
     at (inr e) r =
         let n = suc (total ws * k) in
-        omega (arith, weight-both (multiple n u) ws x, weight-both (multiple n u) ws y, weight-multiple n u x, weight-multiple n u y, ap (λ (z : ℕ). n * z) e.0, r e.1)
+        omega (
+          arith,
+          weight-both (multiple n u) ws x,
+          weight-both (multiple n u) ws y,
+          weight-multiple n u x,
+          weight-multiple n u y,
+          ap (λ (z : ℕ). n * z) e.0,
+          r e.1,
+        )
 
 -- ---- lex: one variable after another
 
@@ -147,6 +163,15 @@ pub revlex-by_rows : (m : ℕ) (u : List ℕ) (x y : Exponents) (at : ℕ) → I
     at < m → ((i : ℕ) → at < i → entry x i ≡ entry y i) → entry y at < entry x at → below_by (revlex_rows m u) x y
 revlex-by_rows zero u x y at p e l b h = absurd (omega arith)
 revlex-by_rows (suc m) u x y at p e l b h = elim (cases_lt at m) [
-  | inl q ↦ inr (omega (arith, weight-lowered m u x (p m (omega arith)), weight-lowered m u y (p m (omega arith)), e, b m q), revlex-by_rows m u x y at (λ i r. p i (omega arith)) e q b h)
-  | inr g ↦ let f : at ≡ m = omega arith in inl (omega (arith, weight-lowered m u x (p m (omega arith)), weight-lowered m u y (p m (omega arith)), e, subst (λ (i : ℕ). entry y i < entry x i) f h))
+  | inl q ↦ inr (
+    omega (arith, weight-lowered m u x (p m (omega arith)), weight-lowered m u y (p m (omega arith)), e, b m q),
+    revlex-by_rows m u x y at (λ i r. p i (omega arith)) e q b h,
+  )
+  | inr g ↦ let f : at ≡ m = omega arith in inl (omega (
+    arith,
+    weight-lowered m u x (p m (omega arith)),
+    weight-lowered m u y (p m (omega arith)),
+    e,
+    subst (λ (i : ℕ). entry y i < entry x i) f h,
+  ))
 ]

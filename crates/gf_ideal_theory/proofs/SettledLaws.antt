@@ -1,6 +1,7 @@
 -- Pairs that are settled: at one common multiple and at each, either way round, in a longer list, by a chain of two.
 -- To cite: settled_everywhere, settled_at_join, settled_turned, settled_itself, settled_by_chain, settled_more, all_pairs.
-use Rattle.std.proofs.Common.{◌≡◌, ℕ, zero, suc, ◌<◌, true, if◌then◌else◌, List, [], ◌∷◌, ◌++◌, length, Contains, slice_index_or, arith, refl, sym, ap, ◌∙◌, subst, inl, inr}
+use Rattle.std.proofs.Common.{◌≡◌, ℕ, zero, suc, ◌<◌, true, if◌then◌else◌, List, [], ◌∷◌, ◌++◌, length, Contains, slice_index_or, arith, refl, sym, ap, ◌∙◌}
+use Rattle.std.proofs.Common.{subst, inl, inr}
 use Rattle.std.proofs.lemmas.Bool.{cases_lt}
 use Rattle.gf_frac.specs.Fraction.{Fraction, ◌+ℚ◌, ◌*ℚ◌, neg_ℚ, zero_ℚ, one_ℚ}
 use Rattle.gf_frac.proofs.FractionLaws.{+ℚ_assoc, +ℚ-zero, one-*ℚ}
@@ -22,7 +23,8 @@ pub times_along : (c : Fraction) (x y : Exponents) (f : Terms) (e : Exponents) �
     coefficient (times c x f) e ≡ coefficient (times c y f) e
 times_along c x y [] e h = refl
 times_along c x y (t ∷ f) e h =
-    ap (λ b. (if b then c *ℚ t.coef else zero_ℚ) +ℚ coefficient (times c x f) e) (same-sym e (plus x t.mono) ∙ same_along (plus x t.mono) (plus y t.mono) e (same_shift_right t.mono x y h) ∙ same-sym (plus y t.mono) e)
+    ap (λ b. (if b then c *ℚ t.coef else zero_ℚ) +ℚ coefficient (times c x f) e) (same-sym e (plus x t.mono) ∙ same_along (plus x t.mono) (plus y t.mono) e
+    (same_shift_right t.mono x y h) ∙ same-sym (plus y t.mono) e)
     ∙ ap (λ z. (if same e (plus y t.mono) then c *ℚ t.coef else zero_ℚ) +ℚ z) (times_along c x y f e h)
 
 pub twice : (x y : Exponents) (f : Terms) → times one_ℚ (plus x y) f ≡ times one_ℚ x (times one_ℚ y f)
@@ -35,19 +37,26 @@ settled_everywhere by below b c o j u v s =
     let x = minus (plus u b.head) (join b.head c.head) in
     let ul = over_join b.head c.head u v j.left s j.of_left in
     let vr = over_join_right b.head c.head u v j.right s j.of_right in
-    let top : same (plus x (plus j.left b.head)) (plus u b.head) ≡ true = same_trans (plus x (plus j.left b.head)) (plus (plus x j.left) b.head) (plus u b.head) (same_of _ _ (sym (plus_assoc x j.left b.head))) (same_shift_right b.head (plus x j.left) u (same_flip u (plus x j.left) ul)) in
+    let top : same (plus x (plus j.left b.head)) (plus u b.head) ≡ true = same_trans (plus x (plus j.left b.head)) (plus (plus x j.left) b.head) (plus u b.head)
+    (same_of _ _ (sym (plus_assoc x j.left b.head))) (same_shift_right b.head (plus x j.left) u (same_flip u (plus x j.left) ul)) in
     record {
       pieces = scale one_ℚ x j.bridge.pieces;
       lower = Each-scale (IsPieceBelow by below (plus j.left b.head)) (IsPieceBelow by below (plus u b.head)) one_ℚ x
-          (λ p h. record { member = h.member; lower = o.along_right (level (scale_piece one_ℚ x p)) (plus x (plus j.left b.head)) (plus u b.head) top (subst (λ l. below l (plus x (plus j.left b.head))) (sym (level-scale one_ℚ x p)) (o.invariant x (level p) (plus j.left b.head) h.lower)) })
+          (λ p h. record {
+            member = h.member;
+            lower = o.along_right (level (scale_piece one_ℚ x p)) (plus x (plus j.left b.head)) (plus u b.head) top
+                (subst (λ l. below l (plus x (plus j.left b.head))) (sym (level-scale one_ℚ x p)) (o.invariant x (level p) (plus j.left b.head) h.lower));
+          })
           j.bridge.pieces j.bridge.lower;
       equation = λ e.
           times_along one_ℚ u (plus x j.left) b.poly e ul
           ∙ ap (λ z. coefficient z e) (twice x j.left b.poly)
-          ∙ SamePolynomial-times one_ℚ x (times one_ℚ j.left b.poly) (times one_ℚ j.right c.poly ++ value j.bridge.pieces) (λ y. j.bridge.equation y ∙ sym (coefficient-++ (times one_ℚ j.right c.poly) (value j.bridge.pieces) y)) e
+          ∙ SamePolynomial-times one_ℚ x (times one_ℚ j.left b.poly) (times one_ℚ j.right c.poly ++ value j.bridge.pieces)
+          (λ y. j.bridge.equation y ∙ sym (coefficient-++ (times one_ℚ j.right c.poly) (value j.bridge.pieces) y)) e
           ∙ ap (λ z. coefficient z e) (times-++ one_ℚ x (times one_ℚ j.right c.poly) (value j.bridge.pieces))
           ∙ coefficient-++ (times one_ℚ x (times one_ℚ j.right c.poly)) (times one_ℚ x (value j.bridge.pieces)) e
-          ∙ ap (λ z. z +ℚ coefficient (times one_ℚ x (value j.bridge.pieces)) e) (ap (λ z. coefficient z e) (sym (twice x j.right c.poly)) ∙ sym (times_along one_ℚ v (plus x j.right) c.poly e vr))
+          ∙ ap (λ z. z +ℚ coefficient (times one_ℚ x (value j.bridge.pieces)) e) (ap (λ z. coefficient z e) (sym (twice x j.right c.poly)) ∙
+          sym (times_along one_ℚ v (plus x j.right) c.poly e vr))
           ∙ ap (λ z. coefficient (times one_ℚ v c.poly) e +ℚ coefficient z e) (sym (value-scale one_ℚ x j.bridge.pieces));
     }
 
@@ -59,9 +68,13 @@ settled_turned by below b c o h u v s =
     record {
       pieces = scale (neg_ℚ one_ℚ) [] r.pieces;
       lower = Each-scale (IsPieceBelow by below (plus v b.head)) (IsPieceBelow by below (plus u c.head)) (neg_ℚ one_ℚ) []
-          (λ p k. record { member = k.member; lower = o.along_right (level p) (plus v b.head) (plus u c.head) (same_flip (plus u c.head) (plus v b.head) s) k.lower }) r.pieces r.lower;
+          (λ p k. record {
+            member = k.member;
+            lower = o.along_right (level p) (plus v b.head) (plus u c.head) (same_flip (plus u c.head) (plus v b.head) s) k.lower;
+          }) r.pieces r.lower;
       equation = λ e. turned _ _ _ (r.equation e)
-          ∙ ap (λ z. coefficient (times one_ℚ v b.poly) e +ℚ z) (sym (ap (λ z. coefficient z e) (value-scale (neg_ℚ one_ℚ) [] r.pieces) ∙ coefficient-factor (neg_ℚ one_ℚ) [] (value r.pieces) e ∙ ap (λ z. neg_ℚ one_ℚ *ℚ coefficient z e) (times-plain (value r.pieces))));
+          ∙ ap (λ z. coefficient (times one_ℚ v b.poly) e +ℚ z) (sym (ap (λ z. coefficient z e) (value-scale (neg_ℚ one_ℚ) [] r.pieces) ∙
+          coefficient-factor (neg_ℚ one_ℚ) [] (value r.pieces) e ∙ ap (λ z. neg_ℚ one_ℚ *ℚ coefficient z e) (times-plain (value r.pieces))));
     }
 
 -- a polynomial with itself
@@ -82,7 +95,8 @@ pub bridge_on : (by : MarkedPolynomial → Type 0) (below : Exponents → Expone
 bridge_on by below b c d u v t o s p q = record {
   pieces = q.pieces ++ p.pieces;
   lower = Each-++ (IsPieceBelow by below (plus u b.head)) q.pieces p.pieces
-      (Each-weaker (IsPieceBelow by below (plus t d.head)) (IsPieceBelow by below (plus u b.head)) (λ z g. record { member = g.member; lower = o.along_right (level z) (plus t d.head) (plus u b.head) s g.lower }) q.pieces q.lower)
+      (Each-weaker (IsPieceBelow by below (plus t d.head)) (IsPieceBelow by below (plus u b.head))
+      (λ z g. record { member = g.member; lower = o.along_right (level z) (plus t d.head) (plus u b.head) s g.lower }) q.pieces q.lower)
       p.lower;
   equation = λ e.
       p.equation e ∙ ap (λ z. z +ℚ coefficient (value p.pieces) e) (q.equation e) ∙ +ℚ_assoc _ _ _
@@ -94,7 +108,8 @@ common_multiple : (h k d u v x : Exponents) → same (join h k) (plus x d) ≡ t
     same (plus u h) (plus (plus (minus (plus u h) (join h k)) x) d) ≡ true
 common_multiple h k d u v x j s =
     same_trans (plus u h) (plus (minus (plus u h) (join h k)) (join h k)) (plus (plus (minus (plus u h) (join h k)) x) d) (join_divides h k u v s)
-    (same_trans (plus (minus (plus u h) (join h k)) (join h k)) (plus (minus (plus u h) (join h k)) (plus x d)) (plus (plus (minus (plus u h) (join h k)) x) d) (same_shift (minus (plus u h) (join h k)) (join h k) (plus x d) j) (same_of _ _ (sym (plus_assoc (minus (plus u h) (join h k)) x d))))
+    (same_trans (plus (minus (plus u h) (join h k)) (join h k)) (plus (minus (plus u h) (join h k)) (plus x d)) (plus (plus (minus (plus u h) (join h k)) x) d)
+    (same_shift (minus (plus u h) (join h k)) (join h k) (plus x d) j) (same_of _ _ (sym (plus_assoc (minus (plus u h) (join h k)) x d))))
 
 -- a third member whose mark divides the least common multiple
 pub settled_by_chain : (by : MarkedPolynomial → Type 0) (below : Exponents → Exponents → Type 0) (b c d : MarkedPolynomial) (x : Exponents) →
@@ -103,7 +118,8 @@ pub settled_by_chain : (by : MarkedPolynomial → Type 0) (below : Exponents →
 settled_by_chain by below b c d x o h k l u v s = at (plus (minus (plus u b.head) (join b.head c.head)) x) (common_multiple b.head c.head d.head u v x h s)
   where
     at : (t : Exponents) → same (plus u b.head) (plus t d.head) ≡ true → IsBridged by below b c u v
-    at t ud = bridge_on by below b c d u v t o (same_flip (plus u b.head) (plus t d.head) ud) (k u t ud) (l t v (same_trans (plus t d.head) (plus u b.head) (plus v c.head) (same_flip (plus u b.head) (plus t d.head) ud) s))
+    at t ud = bridge_on by below b c d u v t o (same_flip (plus u b.head) (plus t d.head) ud) (k u t ud)
+        (l t v (same_trans (plus t d.head) (plus u b.head) (plus v c.head) (same_flip (plus u b.head) (plus t d.head) ud) s))
 
 -- in particular at the least common multiple
 pub settled_at_join : (by : MarkedPolynomial → Type 0) (below : Exponents → Exponents → Type 0) (b c : MarkedPolynomial) →
@@ -116,7 +132,9 @@ settled_at_join by below b c h =
       right = minus (join b.head c.head) c.head;
       of_left = s;
       of_right = t;
-      bridge = h (minus (join b.head c.head) b.head) (minus (join b.head c.head) c.head) (same_trans (plus (minus (join b.head c.head) b.head) b.head) (join b.head c.head) (plus (minus (join b.head c.head) c.head) c.head) s (same_flip (plus (minus (join b.head c.head) c.head) c.head) (join b.head c.head) t));
+      bridge = h (minus (join b.head c.head) b.head) (minus (join b.head c.head) c.head) (same_trans (plus (minus (join b.head c.head) b.head) b.head)
+          (join b.head c.head) (plus (minus (join b.head c.head) c.head) c.head) s (same_flip (plus (minus (join b.head c.head) c.head) c.head)
+          (join b.head c.head) t));
     }
 
 -- ---- a longer list
@@ -139,10 +157,12 @@ pub all_pairs : (below : Exponents → Exponents → Type 0) (bs : List MarkedPo
 all_pairs below bs o h b c hb hc = elim (cases_lt hb.0 hc.0) [
   | inl l ↦ h hb.0 hc.0 b c l (record { within = hb.1; is = hb.2 }) (record { within = hc.1; is = hc.2 })
   | inr g ↦ elim (cases_lt hc.0 hb.0) [
-    | inl l ↦ settled_at_join (Contains bs) below b c (settled_turned (Contains bs) below c b o (settled_everywhere (Contains bs) below c b o (h hc.0 hb.0 c b l (record { within = hc.1; is = hc.2 }) (record { within = hb.1; is = hb.2 }))))
+    | inl l ↦ settled_at_join (Contains bs) below b c (settled_turned (Contains bs) below c b o
+        (settled_everywhere (Contains bs) below c b o (h hc.0 hb.0 c b l (record { within = hc.1; is = hc.2 }) (record { within = hb.1; is = hb.2 }))))
     | inr k ↦
         let i : hb.0 ≡ hc.0 = omega arith in
         let e : b ≡ c = sym hb.2 ∙ ap (λ (n : ℕ). slice_index_or bs n b) i ∙ default bs hc.0 b c hc.1 ∙ hc.2 in
-        subst (λ (x : MarkedPolynomial). IsSettledAtJoin (Contains bs) below b x) e (settled_at_join (Contains bs) below b b (settled_itself (Contains bs) below b))
+        subst (λ (x : MarkedPolynomial). IsSettledAtJoin (Contains bs) below b x) e
+        (settled_at_join (Contains bs) below b b (settled_itself (Contains bs) below b))
   ]
 ]

@@ -43,7 +43,8 @@ zero_ideal n w p = record {
 -- a monic polynomial that a positive weight marks is the reduced basis of the ideal that it generates
 pub principal_ideal : (n : ℕ) (w : List ℕ) (b : MarkedPolynomial) → IsPositive n w → IsInVariables n b.poly →
     IsMarked (lighter w) b → IsReducedBasis n (b.poly ∷ []) w (b ∷ [])
-principal_ideal n w b p v m = reduced_by_weight n (b.poly ∷ []) (b ∷ []) w inside (basis_of_groebner n (b.poly ∷ []) (b ∷ []) w (buchbergers_criterion.for_weight n w (b ∷ []) inside p marked pairs)) p marked tails (tt, tt)
+principal_ideal n w b p v m = reduced_by_weight n (b.poly ∷ []) (b ∷ []) w inside
+    (basis_of_groebner n (b.poly ∷ []) (b ∷ []) w (buchbergers_criterion.for_weight n w (b ∷ []) inside p marked pairs)) p marked tails (tt, tt)
   where
     inside : AreInVariables n (b.poly ∷ [])
     inside f c = subst (λ (g : Terms). IsInVariables n g) (only b.poly f c) v

@@ -19,21 +19,24 @@ Spans-zero fs = Spans.none [] (λ x. refl)
 
 -- a generator
 pub Spans-generator : (fs : List Terms) (f : Terms) → Contains fs f → Spans fs f
-Spans-generator fs f k = Spans.more one_ℚ [] f f [] k (Spans-zero fs) (λ x. sym (coefficient-++ (times one_ℚ [] f) [] x ∙ +ℚ-zero _ ∙ ap (λ z. coefficient z x) (times-plain f)))
+Spans-generator fs f k =
+    Spans.more one_ℚ [] f f [] k (Spans-zero fs) (λ x. sym (coefficient-++ (times one_ℚ [] f) [] x ∙ +ℚ-zero _ ∙ ap (λ z. coefficient z x) (times-plain f)))
 
 -- a sum
 pub Spans-++ : (fs : List Terms) (f g : Terms) → Spans fs f → Spans fs g → Spans fs (f ++ g)
 Spans-++ fs f g (Spans.none k z) s = Spans-equal fs g (f ++ g) (λ x. sym (coefficient-++ f g x ∙ ap (λ c. c +ℚ coefficient g x) (z x) ∙ zero-+ℚ _)) s
 Spans-++ fs f g (Spans.more c u p k h j r q) s =
     Spans.more c u p (f ++ g) (h ++ g) j (Spans-++ fs h g r s)
-    (λ x. coefficient-++ f g x ∙ ap (λ z. z +ℚ coefficient g x) (q x) ∙ sym (coefficient-++ (times c u p ++ h) g x) ∙ ap (λ z. coefficient z x) (append_assoc (times c u p) h g))
+    (λ x. coefficient-++ f g x ∙ ap (λ z. z +ℚ coefficient g x) (q x) ∙ sym (coefficient-++ (times c u p ++ h) g x) ∙ ap (λ z. coefficient z x)
+    (append_assoc (times c u p) h g))
 
 -- a multiple
 pub Spans-times : (fs : List Terms) (f : Terms) (c : Fraction) (u : Exponents) → Spans fs f → Spans fs (times c u f)
 Spans-times fs f c u (Spans.none k z) = Spans.none (times c u f) (SamePolynomial-times c u f [] z)
 Spans-times fs f c u (Spans.more d v p k h j s q) =
     Spans.more (c *ℚ d) (plus u v) p (times c u f) (times c u h) j (Spans-times fs h c u s)
-    (λ x. SamePolynomial-times c u f (times d v p ++ h) q x ∙ ap (λ z. coefficient z x) (times-++ c u (times d v p) h ∙ ap (λ z. z ++ times c u h) (sym (times-times c d u v p))))
+    (λ x. SamePolynomial-times c u f (times d v p ++ h) q x ∙ ap (λ z. coefficient z x) (times-++ c u (times d v p) h ∙ ap (λ z. z ++ times c u h)
+    (sym (times-times c d u v p))))
 
 -- a difference
 pub Spans-difference : (fs : List Terms) (f g : Terms) → Spans fs f → Spans fs g →
@@ -44,4 +47,5 @@ Spans-difference fs f g s t = Spans-++ fs f (times (neg_ℚ one_ℚ) [] g) s (Sp
 pub Spans-trans : (fs gs : List Terms) (f : Terms) → ((g : Terms) → Contains gs g → Spans fs g) → Spans gs f →
     Spans fs f
 Spans-trans fs gs f h (Spans.none k z) = Spans.none f z
-Spans-trans fs gs f h (Spans.more c u p k g j s q) = Spans-equal fs (times c u p ++ g) f (λ x. sym (q x)) (Spans-++ fs (times c u p) g (Spans-times fs p c u (h p j)) (Spans-trans fs gs g h s))
+Spans-trans fs gs f h (Spans.more c u p k g j s q) =
+    Spans-equal fs (times c u p ++ g) f (λ x. sym (q x)) (Spans-++ fs (times c u p) g (Spans-times fs p c u (h p j)) (Spans-trans fs gs g h s))

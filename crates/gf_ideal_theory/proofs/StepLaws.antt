@@ -1,5 +1,6 @@
 -- Steps of reduction: what they take away, and that they stay in the ideal and in the variables.
--- To cite: the ruleset `steps` for loops, reached_trans, operation-reached, step-gone, member-reached, member-reached_back, variables-reached, taken (what steps take
+-- To cite: the ruleset `steps` for loops, reached_trans, operation-reached, step-gone, member-reached, member-reached_back, variables-reached, taken (what
+-- steps take
 -- away is a sum of pieces inside any set of monomials that steps don't leave).
 use Rattle.std.proofs.Common.{◌≡◌, ◌⊎◌, ℕ, true, List, [], ◌∷◌, ◌++◌, arith, refl, sym, ap, ◌∙◌, inl, inr}
 use Rattle.gf_frac.specs.Fraction.{Fraction, reciprocal_ℚ, ◌+ℚ◌, ◌*ℚ◌, neg_ℚ, zero_ℚ, one_ℚ}
@@ -29,7 +30,15 @@ reached_trans by f g h r (Reached.here k e) = onto r
   where
     onto : Reached by f g → Reached by f h
     onto (Reached.here j d) = Reached.here h (λ x. d x ∙ e x)
-    onto (Reached.next j l q s) = Reached.next j h q (record { at = s.at; member = s.member; rest = s.rest; contained = s.contained; there = s.there; divides = s.divides; equal = λ x. sym (e x) ∙ s.equal x })
+    onto (Reached.next j l q s) = Reached.next j h q (record {
+      at = s.at;
+      member = s.member;
+      rest = s.rest;
+      contained = s.contained;
+      there = s.there;
+      divides = s.divides;
+      equal = λ x. sym (e x) ∙ s.equal x;
+    })
 reached_trans by f g h r (Reached.next j l q s) = Reached.next j l (reached_trans by f g j r q) s
 
 -- no step
@@ -48,7 +57,8 @@ reached-one by f g s = Reached.next f g (Reached.here f (λ x. refl)) s
 pub reached-more : (by kept : MarkedPolynomial → Type 0) (f g : Terms) → ((b : MarkedPolynomial) → by b → kept b) →
     Reached by f g → Reached kept f g
 reached-more by kept f g h (Reached.here k e) = Reached.here k e
-reached-more by kept f g h (Reached.next j l q s) = Reached.next j l (reached-more by kept f j h q) (record { at = s.at; member = s.member; rest = s.rest; contained = h s.member s.contained; there = s.there; divides = s.divides; equal = s.equal })
+reached-more by kept f g h (Reached.next j l q s) = Reached.next j l (reached-more by kept f j h q)
+    (record { at = s.at; member = s.member; rest = s.rest; contained = h s.member s.contained; there = s.there; divides = s.divides; equal = s.equal })
 
 -- an operation of the reduction of what f reaches is one of the reduction of f
 pub operation-reached : (by : MarkedPolynomial → Type 0) (f g : Terms) (op : Op) (left right : Fraction) →
@@ -81,7 +91,8 @@ pub step-back : (by : MarkedPolynomial → Type 0) (f g : Terms) (s : IsStep by 
 step-back by f g s x =
     let c = coefficient f s.at in
     back (coefficient g x) (coefficient f x) c (coefficient (times one_ℚ s.rest s.member.poly) x)
-    (s.equal x ∙ coefficient-++ f (times (neg_ℚ c) s.rest s.member.poly) x ∙ ap (λ z. coefficient f x +ℚ z) (coefficient-factor (neg_ℚ c) s.rest s.member.poly x))
+    (s.equal x ∙ coefficient-++ f (times (neg_ℚ c) s.rest s.member.poly) x ∙ ap (λ z. coefficient f x +ℚ z) (coefficient-factor (neg_ℚ c)
+    s.rest s.member.poly x))
     ∙ ap (λ z. coefficient g x +ℚ z) (sym (coefficient-factor c s.rest s.member.poly x))
     ∙ sym (coefficient-++ g (times c s.rest s.member.poly) x)
 
@@ -93,7 +104,8 @@ pub spans-reached : (fs : List Terms) (by : MarkedPolynomial → Type 0) (f g : 
 spans-reached fs by f g h (Reached.here k e) m = Spans-equal fs f g e m
 spans-reached fs by f g h (Reached.next k l r s) m =
     Spans-equal fs (k ++ times (neg_ℚ (coefficient k s.at)) s.rest s.member.poly) g (λ e. sym (s.equal e))
-    (Spans-++ fs k (times (neg_ℚ (coefficient k s.at)) s.rest s.member.poly) (spans-reached fs by f k h r m) (Spans-times fs s.member.poly (neg_ℚ (coefficient k s.at)) s.rest (h s.member s.contained)))
+    (Spans-++ fs k (times (neg_ℚ (coefficient k s.at)) s.rest s.member.poly) (spans-reached fs by f k h r m)
+    (Spans-times fs s.member.poly (neg_ℚ (coefficient k s.at)) s.rest (h s.member s.contained)))
 
 -- and backwards
 pub spans-reached_back : (fs : List Terms) (by : MarkedPolynomial → Type 0) (f g : Terms) →
@@ -115,7 +127,8 @@ variables-reached n by f g h v (Reached.next k l r s) = at (variables-reached n 
     at : IsInVariables n k → IsInVariables n g
     at w = variables-equal n (k ++ times (neg_ℚ (coefficient k s.at)) s.rest s.member.poly) g (λ x. sym (s.equal x))
         (variables-++ n k (times (neg_ℚ (coefficient k s.at)) s.rest s.member.poly) w
-        (variables-times n (neg_ℚ (coefficient k s.at)) s.rest s.member.poly (ring-left n s.rest s.member.head (ring-along n s.at (plus s.rest s.member.head) s.divides (w s.at s.there))) (h s.member s.contained)))
+        (variables-times n (neg_ℚ (coefficient k s.at)) s.rest s.member.poly
+        (ring-left n s.rest s.member.head (ring-along n s.at (plus s.rest s.member.head) s.divides (w s.at s.there))) (h s.member s.contained)))
 
 -- ---- steps and members
 
@@ -130,7 +143,8 @@ member-reached n fs by f g v h r m =
 pub member-reached_back : (n : ℕ) (fs : List Terms) (by : MarkedPolynomial → Type 0) (f g : Terms) →
     AreInVariables n fs → IsInVariables n f → ((b : MarkedPolynomial) → by b → IsMember n fs b.poly) → Reached by f g →
     IsMember n fs g → IsMember n fs f
-member-reached_back n fs by f g v w h r m = member_of_spans n fs f v w (spans-reached_back fs by f g (λ b k. spans_of_member n fs b.poly (h b k)) r (spans_of_member n fs g m))
+member-reached_back n fs by f g v w h r m =
+    member_of_spans n fs f v w (spans-reached_back fs by f g (λ b k. spans_of_member n fs b.poly (h b k)) r (spans_of_member n fs g m))
 
 -- ---- monic forms
 
@@ -156,16 +170,19 @@ times-monic f b q x = sym (q.equation x) ∙ sym (coefficient-times (coefficient
 
 -- spanned with it
 pub spans-monic : (fs : List Terms) (f : Terms) (b : MarkedPolynomial) → IsMonicForm f b → Spans fs f → Spans fs b.poly
-spans-monic fs f b q m = Spans-equal fs (times (reciprocal_ℚ (coefficient f b.head)) [] f) b.poly (λ x. sym (monic-times f b q x)) (Spans-times fs f (reciprocal_ℚ (coefficient f b.head)) [] m)
+spans-monic fs f b q m = Spans-equal fs (times (reciprocal_ℚ (coefficient f b.head)) [] f) b.poly (λ x. sym (monic-times f b q x))
+    (Spans-times fs f (reciprocal_ℚ (coefficient f b.head)) [] m)
 
 -- and back
 pub spans-of_monic : (fs : List Terms) (f : Terms) (b : MarkedPolynomial) → IsMonicForm f b → Spans fs b.poly →
     Spans fs f
-spans-of_monic fs f b q m = Spans-equal fs (times (coefficient f b.head) [] b.poly) f (λ x. sym (times-monic f b q x)) (Spans-times fs b.poly (coefficient f b.head) [] m)
+spans-of_monic fs f b q m = Spans-equal fs (times (coefficient f b.head) [] b.poly) f (λ x. sym (times-monic f b q x))
+    (Spans-times fs b.poly (coefficient f b.head) [] m)
 
 -- its marked coefficient is 1
 pub monic-one : (f : Terms) (b : MarkedPolynomial) → IsMonicForm f b → coefficient b.poly b.head ≡ one_ℚ
-monic-one f b q = sym (monic-back f b q b.head) ∙ *ℚ_comm (reciprocal_ℚ (coefficient f b.head)) (coefficient f b.head) ∙ *ℚ-reciprocal_ℚ (coefficient f b.head) q.there
+monic-one f b q = sym (monic-back f b q b.head) ∙ *ℚ_comm (reciprocal_ℚ (coefficient f b.head)) (coefficient f b.head) ∙ *ℚ-reciprocal_ℚ (coefficient f b.head)
+    q.there
 
 -- a monic form has the same monomials
 pub monic-monomials : (f : Terms) (b : MarkedPolynomial) → IsMonicForm f b → (x : Exponents) → HasMonomial b.poly x →
@@ -178,14 +195,16 @@ monic-monomials f b q x m z = m (sym (monic-back f b q x) ∙ ap (λ c. reciproc
 pub spans-s_polynomial : (fs : List Terms) (b c : MarkedPolynomial) (s : Terms) → Spans fs b.poly → Spans fs c.poly →
     IsSPolynomial b c s → Spans fs s
 spans-s_polynomial fs b c s h k q = Spans-equal fs (times one_ℚ q.left b.poly ++ times (neg_ℚ one_ℚ) q.right c.poly) s (λ e. sym (q.equal e))
-    (Spans-++ fs (times one_ℚ q.left b.poly) (times (neg_ℚ one_ℚ) q.right c.poly) (Spans-times fs b.poly one_ℚ q.left h) (Spans-times fs c.poly (neg_ℚ one_ℚ) q.right k))
+    (Spans-++ fs (times one_ℚ q.left b.poly) (times (neg_ℚ one_ℚ) q.right c.poly) (Spans-times fs b.poly one_ℚ q.left h)
+    (Spans-times fs c.poly (neg_ℚ one_ℚ) q.right k))
 
 -- in the variables of both
 pub variables-s_polynomial : (n : ℕ) (b c : MarkedPolynomial) (s : Terms) → IsInVariables n b.poly →
     IsInVariables n c.poly → HasMonomial b.poly b.head → HasMonomial c.poly c.head → IsSPolynomial b c s →
     IsInVariables n s
 variables-s_polynomial n b c s v w h k q = variables-equal n (times one_ℚ q.left b.poly ++ times (neg_ℚ one_ℚ) q.right c.poly) s (λ x. sym (q.equal x))
-    (variables-++ n (times one_ℚ q.left b.poly) (times (neg_ℚ one_ℚ) q.right c.poly) (variables-times n one_ℚ q.left b.poly (shift q.left b.head q.of_left) v) (variables-times n (neg_ℚ one_ℚ) q.right c.poly (shift q.right c.head q.of_right) w))
+    (variables-++ n (times one_ℚ q.left b.poly) (times (neg_ℚ one_ℚ) q.right c.poly) (variables-times n one_ℚ q.left b.poly (shift q.left b.head q.of_left) v)
+    (variables-times n (neg_ℚ one_ℚ) q.right c.poly (shift q.right c.head q.of_right) w))
   where
     top : IsInRing n (join b.head c.head)
     top i l = omega (arith, entry-join b.head c.head i, v b.head h i l, w c.head k i l)
@@ -197,7 +216,8 @@ variables-s_polynomial n b c s v w h k q = variables-equal n (times one_ℚ q.le
 pub member-s_polynomial : (n : ℕ) (fs : List Terms) (b c : MarkedPolynomial) (s : Terms) → AreInVariables n fs →
     HasMonomial b.poly b.head → HasMonomial c.poly c.head → IsMember n fs b.poly → IsMember n fs c.poly →
     IsSPolynomial b c s → IsMember n fs s
-member-s_polynomial n fs b c s v h k mb mc q = member_of_spans n fs s v (variables-s_polynomial n b c s (variables_of_member n fs b.poly v mb) (variables_of_member n fs c.poly v mc) h k q)
+member-s_polynomial n fs b c s v h k mb mc q =
+    member_of_spans n fs s v (variables-s_polynomial n b c s (variables_of_member n fs b.poly v mb) (variables_of_member n fs c.poly v mc) h k q)
     (spans-s_polynomial fs b c s (spans_of_member n fs b.poly mb) (spans_of_member n fs c.poly mc) q)
 
 -- ---- sets of monomials that steps don't leave
@@ -252,7 +272,10 @@ closed-ring n by v = record { along = ring-along n; lower = λ b k u t m h. ring
 -- nor is what is in two such sets
 pub closed-both : (by : MarkedPolynomial → Type 0) (B C : Exponents → Type 0) → IsClosed by B → IsClosed by C →
     IsClosed by (λ x. B x × C x)
-closed-both by B C h k = record { along = λ x y s p. (h.along x y s p.0, k.along x y s p.1); lower = λ b m u t n p. (h.lower b m u t n p.0, k.lower b m u t n p.1) }
+closed-both by B C h k = record {
+  along = λ x y s p. (h.along x y s p.0, k.along x y s p.1);
+  lower = λ b m u t n p. (h.lower b m u t n p.0, k.lower b m u t n p.1);
+}
 
 -- a multiple is where its mark comes to
 pub multiple_within : (by : MarkedPolynomial → Type 0) (B : Exponents → Type 0) (b : MarkedPolynomial) (c : Fraction) (u : Exponents) →

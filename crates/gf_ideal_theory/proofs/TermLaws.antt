@@ -69,10 +69,12 @@ apart x (t ∷ f) e = ap (λ z. (if same e t.mono then t.coef else zero_ℚ) +�
     joins true c d = sym (+ℚ_assoc c d rest)
     joins false c d = zero-+ℚ _
 
-    at : (b : Bool) → same x t.mono ≡ b →
-        (if same e t.mono then t.coef else zero_ℚ) +ℚ ((if same e x then coefficient f x else zero_ℚ) +ℚ rest) ≡ (if same e x then (if b then t.coef else zero_ℚ) +ℚ coefficient f x else zero_ℚ) +ℚ coefficient (if b then without x f else (t ∷ without x f)) e
-    at true s = ap (λ b. (if b then t.coef else zero_ℚ) +ℚ ((if same e x then coefficient f x else zero_ℚ) +ℚ rest)) (same-sym e t.mono ∙ sym (same_along x t.mono e s) ∙ same-sym x e) ∙ joins (same e x) t.coef (coefficient f x)
-    at false s = front _ _ _ ∙ ap (λ z. (if same e x then z else zero_ℚ) +ℚ ((if same e t.mono then t.coef else zero_ℚ) +ℚ rest)) (sym (zero-+ℚ (coefficient f x)))
+    at : (b : Bool) → same x t.mono ≡ b → (if same e t.mono then t.coef else zero_ℚ) +ℚ ((if same e x then coefficient f x else zero_ℚ) +ℚ rest) ≡
+        (if same e x then (if b then t.coef else zero_ℚ) +ℚ coefficient f x else zero_ℚ) +ℚ coefficient (if b then without x f else (t ∷ without x f)) e
+    at true s = ap (λ b. (if b then t.coef else zero_ℚ) +ℚ ((if same e x then coefficient f x else zero_ℚ) +ℚ rest)) (same-sym e t.mono ∙
+        sym (same_along x t.mono e s) ∙ same-sym x e) ∙ joins (same e x) t.coef (coefficient f x)
+    at false s =
+        front _ _ _ ∙ ap (λ z. (if same e x then z else zero_ℚ) +ℚ ((if same e t.mono then t.coef else zero_ℚ) +ℚ rest)) (sym (zero-+ℚ (coefficient f x)))
       where
         front : (a b c : Fraction) → a +ℚ (b +ℚ c) ≡ b +ℚ (a +ℚ c)
         front a b c = sym (+ℚ_assoc a b c) ∙ ap (λ z. z +ℚ c) (+ℚ_comm a b) ∙ +ℚ_assoc b a c
@@ -137,7 +139,11 @@ canonical_of (suc n) (t ∷ f) h = at (canonical_of n (without t.mono f) (omega 
     at r (inr n) = record {
       terms = record { coef = c; mono = x } ∷ r.terms;
       equal = λ e. parts e ∙ ap (λ y. (if same e x then c else zero_ℚ) +ℚ y) (r.equal e);
-      there = (n, Each-weaker (λ (s : Term). coefficient (without x f) s.mono ≢ zero_ℚ) (λ (s : Term). coefficient (t ∷ f) s.mono ≢ zero_ℚ) stays r.terms r.there);
+      there = (
+        n,
+        Each-weaker (λ (s : Term). coefficient (without x f) s.mono ≢ zero_ℚ) (λ (s : Term). coefficient (t ∷ f) s.mono ≢ zero_ℚ)
+            stays r.terms r.there,
+      );
     }
 
 -- each polynomial is one whose listed terms all count

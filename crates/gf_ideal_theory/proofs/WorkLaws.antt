@@ -51,7 +51,8 @@ work-members n fs below bs v (IsWorkList.more ks f g c w source steps q m d) b h
     at : AreMembers n fs ks → IsMember n fs b.poly
     at r = elim (Contains-last ks c b h) [
       | inl k ↦ r b k
-      | inr e ↦ subst (λ (x : MarkedPolynomial). IsMember n fs x.poly) (sym e) (member-monic n fs g c v q (member-reached n fs (Contains ks) f g v r steps (from r source)))
+      | inr e ↦ subst (λ (x : MarkedPolynomial). IsMember n fs x.poly) (sym e)
+          (member-monic n fs g c v q (member-reached n fs (Contains ks) f g v r steps (from r source)))
     ]
 
 -- ---- grades
@@ -65,7 +66,8 @@ closed-alike Alike x by g h = record {
 
 multiple_alike : (Alike : Exponents → Exponents → Type 0) (x : Exponents) (b : MarkedPolynomial) (c : Fraction) (u : Exponents) →
     IsGrading Alike → IsGradedBy Alike b → Alike (plus u b.head) x → IsWithin (λ y. Alike y x) (times c u b.poly)
-multiple_alike Alike x b c u g h k e n = let r = found c u b.poly e n in g.transitive e (plus u r.0) x (g.along e (plus u r.0) r.2) (g.transitive (plus u r.0) (plus u b.head) x (g.invariant u r.0 b.head (h r.0 r.1)) k)
+multiple_alike Alike x b c u g h k e n = let r = found c u b.poly e n in g.transitive e (plus u r.0) x (g.along e (plus u r.0) r.2)
+    (g.transitive (plus u r.0) (plus u b.head) x (g.invariant u r.0 b.head (h r.0 r.1)) k)
 
 -- a homogeneous polynomial is zero, or alike one of its monomials
 one_grade : (n : ℕ) (grade : List ℕ) (f : Terms) → IsHomogeneous n grade f →
@@ -106,7 +108,8 @@ work-homogeneous n grade fs below bs hom (IsWorkList.more ks f g c w source step
     last : ((e : MarkedPolynomial) → Contains ks e → IsGradedBy (IsOfGrade n grade) e) →
         SamePolynomial f [] ⊎ ((x : Exponents) × IsWithin (λ y. IsOfGrade n grade y x) f) →
         IsGradedBy (IsOfGrade n grade) c
-    last r (inl z) = λ y k. absurd ((taken (Contains ks) (λ x. ⊥) f g (record { along = λ x y s h. h; lower = λ e k u t n h. h }) (λ x n. n (z x)) steps).within c.head q.there)
+    last r (inl z) = λ y k. absurd ((taken (Contains ks) (λ x. ⊥) f g (record { along = λ x y s h. h; lower = λ e k u t n h. h }) (λ x n. n (z x)) steps).within
+        c.head q.there)
     last r (inr x) =
         let t = taken (Contains ks) (λ y. IsOfGrade n grade y x.0) f g (closed-alike (IsOfGrade n grade) x.0 (Contains ks) gr r) x.1 steps in
         λ y k. gr.transitive y x.0 c.head (t.within y (monic-monomials g c q y k)) (gr.symmetric c.head x.0 (t.within c.head q.there))
@@ -134,4 +137,5 @@ pub run_basis : (o : MonomialOrder) (n : ℕ) (grade : List ℕ) (fs : List Term
     IsAdmissible o n grade → AreInVariables n fs → ((f : Terms) → Contains fs f → IsHomogeneous n grade f) →
     IsWorkList fs (below_of o) bs → ((f : Terms) → Contains fs f → IsMember n (polys bs) f) →
     ArePairsSettled n bs (below_of o) → IsBasis n fs bs
-run_basis o n grade fs bs a v hom w back pairs = order_basis o n grade fs bs a (work-marked fs (below_of o) bs w) (work-homogeneous n grade fs (below_of o) bs hom w) (work-members n fs (below_of o) bs v w) back pairs
+run_basis o n grade fs bs a v hom w back pairs = order_basis o n grade fs bs a (work-marked fs (below_of o) bs w)
+    (work-homogeneous n grade fs (below_of o) bs hom w) (work-members n fs (below_of o) bs v w) back pairs

@@ -39,7 +39,8 @@ pub record IsGreatest (below : Exponents → Exponents → Type 0) (f : Terms) (
 -- ---- Gröbner bases, where `IsLeading f x` says that x is a leading monomial of f
 
 -- a Gröbner basis: monic members of the ideal whose marks lead, such that a mark divides each leading monomial of each member of the ideal
-pub record IsGroebnerBasisBy (n : ℕ) (fs : List Terms) (below : Exponents → Exponents → Type 0) (IsLeading : Terms → Exponents → Type 0) (bs : List MarkedPolynomial) : Type 0 where
+pub record IsGroebnerBasisBy (n : ℕ) (fs : List Terms) (below : Exponents → Exponents → Type 0) (IsLeading : Terms → Exponents → Type 0)
+    (bs : List MarkedPolynomial) : Type 0 where
   pub members : AreMembers n fs bs
   pub marked : AreMarked below bs
   pub initial : (f : Terms) → IsMember n fs f → (x : Exponents) → IsLeading f x → IsDivisible (Contains bs) x
@@ -55,7 +56,8 @@ HasReducedTails bs = (b : MarkedPolynomial) → Contains bs b → (x : Exponents
     IsDivisible (Contains bs) x → same x b.head ≡ true
 
 -- the reduced Gröbner basis: no mark divides another mark, nor an unmarked monomial
-pub record IsReducedBy (n : ℕ) (fs : List Terms) (below : Exponents → Exponents → Type 0) (IsLeading : Terms → Exponents → Type 0) (bs : List MarkedPolynomial) : Type 0 where
+pub record IsReducedBy (n : ℕ) (fs : List Terms) (below : Exponents → Exponents → Type 0) (IsLeading : Terms → Exponents → Type 0)
+    (bs : List MarkedPolynomial) : Type 0 where
   pub basis : IsGroebnerBasisBy n fs below IsLeading bs
   pub tails : HasReducedTails bs
   pub heads : AreApart bs

@@ -14,5 +14,6 @@ cut_of c n rows hs es (Ok d) qh qe p k = record {
   ambient = p.0;
   inequalities = p.1 ∙ qh;
   equations = p.2 ∙ qe;
-  are_rays = subst (λ (z : List (List ℤ)). IsRays n z d.equations d.lineality d.rays) (sym p.1) (subst (λ (z : List (List ℤ)). IsRays n hs z d.lineality d.rays) (sym p.2) k);
+  are_rays = subst (λ (z : List (List ℤ)). IsRays n z d.equations d.lineality d.rays) (sym p.1) (subst (λ (z : List (List ℤ)). IsRays n hs z d.lineality d.rays)
+      (sym p.2) k);
 }

@@ -17,11 +17,12 @@ polys_last (q ∷ ps) p = ap (λ (z : List Terms). q.poly ∷ z) (polys_last ps 
 pub forms_none : (v : List ℤ) → AreFormsAt v [] []
 forms_none v = record { parts = []; are_parts = tt; polys_are = refl }
 
-pub forms_more : (v : List ℤ) (bs : List MarkedPolynomial) (i : ℕ) (b : MarkedPolynomial) (f : Terms) (fs next : List Terms) → i < length bs → b ≡ get_or bs i b →
-    IsInitialForm v b.poly f → next ≡ fs ++ f ∷ [] → AreFormsAt v (take i bs) fs → AreFormsAt v (take (i + 1) bs) next
+pub forms_more : (v : List ℤ) (bs : List MarkedPolynomial) (i : ℕ) (b : MarkedPolynomial) (f : Terms) (fs next : List Terms) → i < length bs →
+    b ≡ get_or bs i b → IsInitialForm v b.poly f → next ≡ fs ++ f ∷ [] → AreFormsAt v (take i bs) fs → AreFormsAt v (take (i + 1) bs) next
 forms_more v bs i b f fs next l e h q a = record {
   parts = a.parts ++ p ∷ [];
-  are_parts = subst (λ (z : List MarkedPolynomial). Matching (IsInitialPart v) z (a.parts ++ p ∷ [])) (sym (take_more bs i b l ∙ ap (λ (c : MarkedPolynomial). take i bs ++ c ∷ []) (sym e)))
+  are_parts = subst (λ (z : List MarkedPolynomial). Matching (IsInitialPart v) z (a.parts ++ p ∷ []))
+      (sym (take_more bs i b l ∙ ap (λ (c : MarkedPolynomial). take i bs ++ c ∷ []) (sym e)))
       (matched-push (IsInitialPart v) (take i bs) a.parts b p a.are_parts (record { head = refl; form = h }));
   polys_are = polys_last a.parts p ∙ ap (λ (z : List Terms). z ++ f ∷ []) a.polys_are ∙ sym q;
 }

@@ -28,15 +28,16 @@ none_first e [] n h = h
 none_first e (s ∷ steps) n (inl h) = fits_not_wide s e h.0 n.0 h.1
 none_first e (s ∷ steps) n (inr h) = none_first e steps n.1 h.1
 
-vector_memory : (n : ℕ) (bs : List MarkedPolynomial) (v : List ℤ) (pairs : ℕ) (e : InitialError) → AreBounded v → ((forms : List Terms) → AreFormsAt v bs forms → AreStepsWithinLimits n forms pairs) →
-    IsVectorRefusal n bs v pairs e → IsMemoryWanted e
+vector_memory : (n : ℕ) (bs : List MarkedPolynomial) (v : List ℤ) (pairs : ℕ) (e : InitialError) → AreBounded v →
+    ((forms : List Terms) → AreFormsAt v bs forms → AreStepsWithinLimits n forms pairs) → IsVectorRefusal n bs v pairs e → IsMemoryWanted e
 vector_memory n bs v pairs (Cone s) b w h = absurd h
 vector_memory n bs v pairs (Wide s) b w h = absurd h
 vector_memory n bs v pairs (Entry i x) b w h = let past = h.0.past in let small = b i (pos 0) h.0.inside in absurd (omega (arith, past, small))
 vector_memory n bs v pairs (Saturation r) b w h = if_memory {A = ℕ} n pairs h.0 (Err r) (w h.0 h.1) h.2
 vector_memory n bs v pairs Memory b w h = tt
 
-face_memory : (bs : List MarkedPolynomial) (c : RowsAndRays) (pairs : ℕ) (f : Face) (e : InitialError) → IsFaceWithinLimits bs c pairs f → IsRefusedAtFace bs c pairs e f → IsMemoryWanted e
+face_memory : (bs : List MarkedPolynomial) (c : RowsAndRays) (pairs : ℕ) (f : Face) (e : InitialError) → IsFaceWithinLimits bs c pairs f →
+    IsRefusedAtFace bs c pairs e f → IsMemoryWanted e
 face_memory bs c pairs f (Cone s) l h = absurd h
 face_memory bs c pairs f (Wide w) l h = absurd (none_first w _ l.sums h)
 face_memory bs c pairs f (Entry i x) l h = vector_memory c.ambient bs (vector_of c f) pairs (Entry i x) l.entries l.runs h
@@ -46,7 +47,8 @@ face_memory bs c pairs f Memory l h = tt
 pub wanted : (e : InitialError) → e ≡ Memory → IsMemoryWanted e
 wanted e q = subst IsMemoryWanted (sym q) tt
 
-pub only_memory : (n : ℕ) (bs : List MarkedPolynomial) (rows : List (List ℤ)) (c : Rows) (pairs : ℕ) (e : InitialError) → AreFacesWithinLimits n bs rows c pairs → IsConeRefusal n bs rows c pairs e → IsMemoryWanted e
+pub only_memory : (n : ℕ) (bs : List MarkedPolynomial) (rows : List (List ℤ)) (c : Rows) (pairs : ℕ) (e : InitialError) →
+    AreFacesWithinLimits n bs rows c pairs → IsConeRefusal n bs rows c pairs e → IsMemoryWanted e
 only_memory n bs rows c pairs e w (IsConeRefusal.at_rays s h q) = absurd (w.rays s h)
 only_memory n bs rows c pairs e w (IsConeRefusal.at_faces cut faces k a r) = at r
   where

@@ -13,7 +13,8 @@ pass_none P [] y c = absurd (omega (arith, c.1))
 pass_none P (x ∷ xs) y c = absurd (omega (arith, c.1))
 
 pub pass_more : {A : Type 0} (P : A → Type 0) (xs : List A) (i : ℕ) (x : A) → i < length xs → x ≡ get_or xs i x → P x → AllPass P xs i → AllPass P xs (i + 1)
-pass_more {A} P xs i x l e p h y c = at (Contains-last (take i xs) x y (subst (λ (z : List A). Contains z y) (take_more xs i x l ∙ ap (λ (w : A). take i xs ++ w ∷ []) (sym e)) c))
+pass_more {A} P xs i x l e p h y c =
+    at (Contains-last (take i xs) x y (subst (λ (z : List A). Contains z y) (take_more xs i x l ∙ ap (λ (w : A). take i xs ++ w ∷ []) (sym e)) c))
   where
     at : Contains (take i xs) y ⊎ (y ≡ x) → P y
     at (inl k) = h y k

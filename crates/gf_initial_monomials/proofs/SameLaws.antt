@@ -8,7 +8,8 @@ pub same_terms : (x y : Term) → x.coef ≡ y.coef → x.mono ≡ y.mono → x 
 same_terms x y p q = ap (λ c. record { coef = c; mono = x.mono }) p ∙ ap (λ (m : List ℕ). record { coef = y.coef; mono = m }) q
 
 -- one element further
-pub same_more : {A : Type 0} (xs ys : List A) (i : ℕ) (x y : A) → i < length xs → i < length ys → x ≡ get_or xs i x → y ≡ get_or ys i y → x ≡ y → take i xs ≡ take i ys → take (i + 1) xs ≡ take (i + 1) ys
+pub same_more : {A : Type 0} (xs ys : List A) (i : ℕ) (x y : A) → i < length xs → i < length ys → x ≡ get_or xs i x → y ≡ get_or ys i y → x ≡ y →
+    take i xs ≡ take i ys → take (i + 1) xs ≡ take (i + 1) ys
 same_more {A} xs ys i x y l m e f q h =
     take_more xs i x l ∙ ap (λ (w : A). take i xs ++ w ∷ []) (sym e ∙ q ∙ f) ∙ ap (λ (z : List A). z ++ get_or ys i y ∷ []) h ∙ sym (take_more ys i y m)
 

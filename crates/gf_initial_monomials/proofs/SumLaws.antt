@@ -39,28 +39,36 @@ sum_none n rays numbers s e = record { value = e; long = ap (λ (t : List ℤ). 
 pub ray_long : (n : ℕ) (rays : List (List ℤ)) (i : ℕ) (x : List ℤ) → AreRows n rays → i < length rays → x ≡ get_or rays i x → length x ≡ n
 ray_long n rays i x w l e = All-contains (λ (t : List ℤ). length t ≡ n) rays x w (i, l, sym e)
 
-pub sum_more : (n : ℕ) (rays : List (List ℤ)) (numbers : List ℕ) (k : ℕ) (s x next : List ℤ) → k < length numbers → get_or numbers k 0 < length rays → x ≡ get_or rays (get_or numbers k 0) x → length x ≡ n →
-    next ≡ vector_sum s x → NoneWide (sum_steps s x) → SumSoFar n rays numbers k s → SumSoFar n rays numbers (k + 1) next
+pub sum_more : (n : ℕ) (rays : List (List ℤ)) (numbers : List ℕ) (k : ℕ) (s x next : List ℤ) → k < length numbers → get_or numbers k 0 < length rays →
+    x ≡ get_or rays (get_or numbers k 0) x → length x ≡ n → next ≡ vector_sum s x → NoneWide (sum_steps s x) → SumSoFar n rays numbers k s →
+    SumSoFar n rays numbers (k + 1) next
 sum_more n rays numbers k s x next lk li e lx en f g =
     let here : get_or rays (get_or numbers k 0) [] ≡ x = get_or_default rays (get_or numbers k 0) [] x li ∙ sym e in
     let q : numbered rays (take (k + 1) numbers) ≡ numbered rays (take k numbers) ++ x ∷ [] =
-    ap (numbered rays) (take_more numbers k 0 lk) ∙ numbered_snoc rays (take k numbers) (get_or numbers k 0) ∙ ap (λ (t : List ℤ). numbered rays (take k numbers) ++ t ∷ []) here in
+    ap (numbered rays) (take_more numbers k 0 lk) ∙ numbered_snoc rays (take k numbers) (get_or numbers k 0) ∙
+    ap (λ (t : List ℤ). numbered rays (take k numbers) ++ t ∷ []) here in
     record {
       value = en ∙ ap (λ (t : List ℤ). vector_sum t x) g.value ∙ sym (added_push (zeros n) (numbered rays (take k numbers)) x) ∙ ap (added (zeros n)) (sym q);
       long = ap (λ (t : List ℤ). length t) en ∙ length-plus s x (g.long ∙ sym lx) ∙ g.long;
-      none = subst (λ (l : List (List ℤ)). NoneWide (adding_steps (zeros n) l)) (sym q) (none_push (zeros n) (numbered rays (take k numbers)) x g.none (subst (λ (t : List ℤ). NoneWide (sum_steps t x)) g.value f));
+      none = subst (λ (l : List (List ℤ)). NoneWide (adding_steps (zeros n) l)) (sym q) (none_push (zeros n) (numbered rays (take k numbers)) x g.none
+          (subst (λ (t : List ℤ). NoneWide (sum_steps t x)) g.value f));
     }
 
-pub sum_all : (n : ℕ) (rays : List (List ℤ)) (numbers : List ℕ) (k : ℕ) (s : List ℤ) → AreRows n rays → ((i : ℕ) → Contains numbers i → i < length rays) → length numbers ≤ k → SumSoFar n rays numbers k s → s ≡ sum_of n (numbered rays numbers)
-sum_all n rays numbers k s w inside l g = g.value ∙ ap (λ (z : List ℕ). added (zeros n) (numbered rays z)) (take_all k numbers l) ∙ sum_added n (numbered rays numbers) (all_by (λ (t : List ℤ). length t ≡ n) (numbered rays numbers) long)
+pub sum_all : (n : ℕ) (rays : List (List ℤ)) (numbers : List ℕ) (k : ℕ) (s : List ℤ) → AreRows n rays → ((i : ℕ) → Contains numbers i → i < length rays) →
+    length numbers ≤ k → SumSoFar n rays numbers k s → s ≡ sum_of n (numbered rays numbers)
+sum_all n rays numbers k s w inside l g = g.value ∙ ap (λ (z : List ℕ). added (zeros n) (numbered rays z)) (take_all k numbers l) ∙ sum_added n
+    (numbered rays numbers) (all_by (λ (t : List ℤ). length t ≡ n) (numbered rays numbers) long)
   where
     long : (x : List ℤ) → Contains (numbered rays numbers) x → length x ≡ n
     long x c = let p = of_number rays numbers x c in ray_long n rays p.0 x w (inside p.0 p.1.0) (sym p.1.1 ∙ get_or_default rays p.0 [] x (inside p.0 p.1.0))
 
-pub sum_wide : (n : ℕ) (rays : List (List ℤ)) (numbers : List ℕ) (k : ℕ) (s x : List ℤ) (e : WideVector) → k < length numbers → get_or numbers k 0 < length rays → x ≡ get_or rays (get_or numbers k 0) x →
-    IsFirstWide e (sum_steps s x) → SumSoFar n rays numbers k s → IsFirstWide e (adding_steps (zeros n) (numbered rays numbers))
+pub sum_wide : (n : ℕ) (rays : List (List ℤ)) (numbers : List ℕ) (k : ℕ) (s x : List ℤ) (e : WideVector) → k < length numbers →
+    get_or numbers k 0 < length rays → x ≡ get_or rays (get_or numbers k 0) x → IsFirstWide e (sum_steps s x) → SumSoFar n rays numbers k s →
+    IsFirstWide e (adding_steps (zeros n) (numbered rays numbers))
 sum_wide n rays numbers k s x e lk li q f g =
     let here : get_or rays (get_or numbers k 0) [] ≡ x = get_or_default rays (get_or numbers k 0) [] x li ∙ sym q in
     let all : numbered rays numbers ≡ numbered rays (take k numbers) ++ x ∷ numbered rays (drop (suc k) numbers) =
-    ap (numbered rays) (parted numbers k lk) ∙ numbered_append rays (take k numbers) (get_or numbers k 0 ∷ drop (suc k) numbers) ∙ ap (λ (t : List ℤ). numbered rays (take k numbers) ++ t ∷ numbered rays (drop (suc k) numbers)) here in
-    subst (λ (l : List (List ℤ)). IsFirstWide e (adding_steps (zeros n) l)) (sym all) (first_at (zeros n) (numbered rays (take k numbers)) x (numbered rays (drop (suc k) numbers)) e g.none (subst (λ (t : List ℤ). IsFirstWide e (sum_steps t x)) g.value f))
+    ap (numbered rays) (parted numbers k lk) ∙ numbered_append rays (take k numbers) (get_or numbers k 0 ∷ drop (suc k) numbers) ∙
+    ap (λ (t : List ℤ). numbered rays (take k numbers) ++ t ∷ numbered rays (drop (suc k) numbers)) here in
+    subst (λ (l : List (List ℤ)). IsFirstWide e (adding_steps (zeros n) l)) (sym all) (first_at (zeros n) (numbered rays (take k numbers)) x
+    (numbered rays (drop (suc k) numbers)) e g.none (subst (λ (t : List ℤ). IsFirstWide e (sum_steps t x)) g.value f))

@@ -36,4 +36,5 @@ pub record IsFaceWithinLimits (bs : List MarkedPolynomial) (c : RowsAndRays) (pa
 -- intersection is within its limits
 pub record AreFacesWithinLimits (n : ℕ) (bs : List MarkedPolynomial) (rows : List (List ℤ)) (c : Rows) (pairs : ℕ) : Type 0 where
   pub rays : AreRaysWithinLimits n (c.inequalities ++ rows) c.equations
-  pub faces : (cut : RowsAndRays) (faces : List Face) (f : Face) → IsCutBy c n rows cut → AreFaces cut faces → Contains faces f → IsFaceWithinLimits bs cut pairs f
+  pub faces : (cut : RowsAndRays) (faces : List Face) (f : Face) → IsCutBy c n rows cut → AreFaces cut faces → Contains faces f →
+      IsFaceWithinLimits bs cut pairs f

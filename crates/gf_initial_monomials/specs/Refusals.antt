@@ -67,5 +67,6 @@ pub data IsFaceRefusal (bs : List MarkedPolynomial) (c : RowsAndRays) (faces : L
 -- or memory runs out
 pub data IsConeRefusal (n : ℕ) (bs : List MarkedPolynomial) (rows : List (List ℤ)) (c : Rows) (pairs : ℕ) (e : InitialError) : Type 0 where
   at_rays : (s : ConeOverflow) → IsRaysStep n (c.inequalities ++ rows) c.equations s → e ≡ Cone s → IsConeRefusal n bs rows c pairs e
-  at_faces : (cut : RowsAndRays) (faces : List Face) → IsCutBy c n rows cut → AreFaces cut faces → IsFaceRefusal bs cut faces pairs e → IsConeRefusal n bs rows c pairs e
+  at_faces : (cut : RowsAndRays) (faces : List Face) → IsCutBy c n rows cut → AreFaces cut faces → IsFaceRefusal bs cut faces pairs e →
+      IsConeRefusal n bs rows c pairs e
   no_memory : e ≡ Memory → IsConeRefusal n bs rows c pairs e

@@ -1,7 +1,8 @@
 -- Monomials whole multiples of a vector apart are classes. So where each generator lies in one class, the reduced basis for
 -- the order along a facet is marked by what is further along.
 -- To cite: apart_or_not, multiple-grading, further-below, further_marks, below-further, facet_marks.
-use Rattle.std.proofs.Common.{◌≡◌, ◌⊎◌, ℕ, zero, suc, ◌+◌, ◌*◌, ◌<◌, ◌≤◌, Bool, true, false, List, [], ◌∷◌, get_or, Contains, ℤ, pos, negsuc, neg_ℤ, ◌+ℤ◌, ◌*ℤ◌, ◌<ℤ◌, unsigned_abs, arith, refl, sym, ap, ◌∙◌, inl, inr}
+use Rattle.std.proofs.Common.{◌≡◌, ◌⊎◌, ℕ, zero, suc, ◌+◌, ◌*◌, ◌<◌, ◌≤◌, Bool, true, false, List, [], ◌∷◌, get_or, Contains, ℤ, pos, negsuc, neg_ℤ, ◌+ℤ◌, ◌*ℤ◌}
+use Rattle.std.proofs.Common.{◌<ℤ◌, unsigned_abs, arith, refl, sym, ap, ◌∙◌, inl, inr}
 use Rattle.std.proofs.lemmas.Bool.{cases_lt}
 use Rattle.std.proofs.Math.IntN.{*ℤ-zero}
 use Rattle.std.proofs.lemmas.Int.{ints}
@@ -147,7 +148,10 @@ further-below a x y n f =
 -- so are marks by it
 pub further_marks : (a : List ℤ) (bs : List MarkedPolynomial) → IsNonzero a → AreMarked (IsFurther a) bs →
     AreMarked (IsFacetBelow (negated_row_of a)) bs
-further_marks a bs n m b c = record { monic = (m b c).monic; tail = λ x k. elim ((m b c).tail x k) [ inl s ↦ inl s | inr f ↦ inr (further-below a x b.head n f) ] }
+further_marks a bs n m b c = record {
+  monic = (m b c).monic;
+  tail = λ x k. elim ((m b c).tail x k) [ inl s ↦ inl s | inr f ↦ inr (further-below a x b.head n f) ];
+}
 
 -- below by the order, and a multiple apart: further along
 below-further : (a : List ℤ) (x y : Exponents) → IsNonzero a → AreMultipleApart a x y →
@@ -183,6 +187,7 @@ facet_marks n fs a hs nz v one r h c = record {
   monic = (r.basis.marked h c).monic;
   tail = λ x k. elim ((r.basis.marked h c).tail x k) [
     | inl s ↦ inl s
-    | inr l ↦ below-further a x h.head nz (basis-graded n fs (AreMultipleApart a) hs h (multiple-grading a nz) v one r.basis.members (λ f m i. order-decides n fs (IsFacetBelow (negated_row_of a)) hs f (row-order (negated_row_of a)) r.basis m i) r.tails c x k) l
+    | inr l ↦ below-further a x h.head nz (basis-graded n fs (AreMultipleApart a) hs h (multiple-grading a nz) v one r.basis.members
+        (λ f m i. order-decides n fs (IsFacetBelow (negated_row_of a)) hs f (row-order (negated_row_of a)) r.basis m i) r.tails c x k) l
   ];
 }

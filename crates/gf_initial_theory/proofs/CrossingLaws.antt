@@ -28,7 +28,12 @@ use Rattle.gf_initial_theory.specs.Crossings.{HaveParts}
 
 -- further along the negatives is steps back
 steps_back : (a : List ℤ) (x y : Exponents) → (f : IsFurther (negated a) x y) → IsStepsFrom f.0 a x y
-steps_back a x y f i = let e = get-negated a i in omega (arith, ints, f.2 i ∙ ap (λ z. pos (entry y i) +ℤ pos f.0 *ℤ z) e, *ℤ-neg (pos f.0) (get_or a i (pos 0)))
+steps_back a x y f i = let e = get-negated a i in omega (
+  arith,
+  ints,
+  f.2 i ∙ ap (λ z. pos (entry y i) +ℤ pos f.0 *ℤ z) e,
+  *ℤ-neg (pos f.0) (get_or a i (pos 0)),
+)
 
 -- no steps, where monomials are the same
 no_steps : (a : List ℤ) (x y : Exponents) → same x y ≡ true → IsStepsFrom 0 a x y
@@ -73,12 +78,24 @@ parts_of_neighbours n fs k bs cs a vars d = at (level_parts d.point bs) (level_p
           here = p.0;
           there = q.0;
           basis_here = left.basis;
-          basis_there = basis_along n (polys q.0) (polys p.0) q.0 (same_ideals n fs d.point bs p.0 cs q.0 vars s.reduced.basis (side-weak n fs d.point (negated a) bs s) p.1 t.reduced.basis (side-weak n fs d.point a cs t) q.1) right.basis;
+          basis_there = basis_along n (polys q.0) (polys p.0) q.0 (same_ideals n fs d.point bs p.0 cs q.0 vars s.reduced.basis
+              (side-weak n fs d.point (negated a) bs s) p.1 t.reduced.basis (side-weak n fs d.point a cs t) q.1) right.basis;
           reduced = left.tails;
           below = λ m c x h. elim ((marks_left m c).tail x h) [ inl e ↦ (0, no_steps a x m.head e) | inr f ↦ (f.0, steps_back a x m.head f) ];
-          above = λ m c x h. elim ((marks_right m c).tail x h) [ inl e ↦ (0, λ i. (let g = entries_same x m.head e i in omega (arith, ints, g))) | inr f ↦ (f.0, f.2) ];
-          lead_here = λ x. (divisible_whole (IsLevelPart d.point) bs p.0 x (λ b m i. i.head) p.1, divisible_part (IsLevelPart d.point) bs p.0 x (λ b m i. i.head) p.1);
-          lead_there = λ x. (divisible_whole (IsLevelPart d.point) cs q.0 x (λ b m i. i.head) q.1, divisible_part (IsLevelPart d.point) cs q.0 x (λ b m i. i.head) q.1);
+          above = λ m c x h. elim ((marks_right m c).tail x h) [
+            | inl e ↦ (0, λ i. (let g = entries_same x m.head e i in omega (arith, ints, g)))
+            | inr f ↦ (f.0, f.2)
+          ];
+          lead_here = λ x. (
+            divisible_whole (IsLevelPart d.point) bs p.0 x (λ b m i. i.head) p.1,
+            divisible_part (IsLevelPart d.point) bs p.0 x
+                (λ b m i. i.head) p.1,
+          );
+          lead_there = λ x. (
+            divisible_whole (IsLevelPart d.point) cs q.0 x (λ b m i. i.head) q.1,
+            divisible_part (IsLevelPart d.point) cs q.0 x
+                (λ b m i. i.head) q.1,
+          );
           within = λ m c x h. (let b = matched-from (IsLevelPart d.point) bs p.0 p.1 m c in (b.0, b.1, (part-there d.point b.0 m x b.2 h).1));
           member = r.0;
           contained = r.1;

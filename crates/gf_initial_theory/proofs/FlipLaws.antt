@@ -97,14 +97,18 @@ adjacent_unique n fs j k bs a cs ds vars p q = at (level_parts v bs) (level_part
         ((qs : List MarkedPolynomial) × Matching (IsLevelPart p.point) cs qs) →
         ((rs : List MarkedPolynomial) × Matching (IsLevelPart q.point) ds rs) → cs ≡ ds
     at x y z = arranged_equal n cs ds p.there.arranged q.there.arranged
-        (sides_same n fs (polys x.0) p.point q.point a cs y.0 ds z.0 vars (parts-variables n bs x.0 p.point (λ b c. variables_of_member n fs b.poly vars (here.reduced.basis.members b c)) x.1)
-        there y.1 (same_ideals n fs p.point bs x.0 cs y.0 vars here.reduced.basis (side-weak n fs p.point (negated a) bs here) x.1 there.reduced.basis (side-weak n fs p.point a cs there) y.1)
-        there_too z.1 (same_ideals n fs q.point bs x.0 ds z.0 vars here_too.reduced.basis (side-weak n fs q.point (negated a) bs here_too) too there_too.reduced.basis (side-weak n fs q.point a ds there_too) z.1))
+        (sides_same n fs (polys x.0) p.point q.point a cs y.0 ds z.0 vars
+        (parts-variables n bs x.0 p.point (λ b c. variables_of_member n fs b.poly vars (here.reduced.basis.members b c)) x.1)
+        there y.1 (same_ideals n fs p.point bs x.0 cs y.0 vars here.reduced.basis (side-weak n fs p.point (negated a) bs here) x.1 there.reduced.basis
+        (side-weak n fs p.point a cs there) y.1)
+        there_too z.1 (same_ideals n fs q.point bs x.0 ds z.0 vars here_too.reduced.basis (side-weak n fs q.point (negated a) bs here_too)
+        too there_too.reduced.basis (side-weak n fs q.point a ds there_too) z.1))
       where
         -- the parts along the normal are the same for both vectors
         too : Matching (IsLevelPart q.point) bs x.0
         too = matched-map (IsLevelPart p.point) (IsLevelPart q.point) bs x.0
-            (λ b r c i. level_of_along q.point (negated a) b r here_too.nonzero here_too.zero (here_too.marked b c) (along_of_level p.point (negated a) b r here.nonzero here.zero (here.marked b c) i)) x.1
+            (λ b r c i. level_of_along q.point (negated a) b r here_too.nonzero here_too.zero (here_too.marked b c)
+            (along_of_level p.point (negated a) b r here.nonzero here.zero (here.marked b c) i)) x.1
 
 -- neighbours are neighbours the other way round
 pub adjacent_turned : (n : ℕ) (fs : List Terms) (k : Region) (bs : List MarkedPolynomial) (a : List ℤ) (cs : List MarkedPolynomial) →
@@ -140,12 +144,18 @@ twins_basis n fs bs cs s b = record {
     over : (x : Exponents) → IsDivisible (Contains bs) x → IsDivisible (Contains cs) x
     over x d =
         let c = s.there d.member d.contained in
-        record { member = c.0; contained = c.1; rest = d.rest; divides = same_trans x (plus d.rest d.member.head) (plus d.rest c.0.head) d.divides (same_shift d.rest d.member.head c.0.head c.2.head) }
+        record {
+          member = c.0;
+          contained = c.1;
+          rest = d.rest;
+          divides = same_trans x (plus d.rest d.member.head) (plus d.rest c.0.head) d.divides (same_shift d.rest d.member.head c.0.head c.2.head);
+        }
 
 -- ---- in any order
 
 permuted-tails : (bs cs : List MarkedPolynomial) → IsPermutation bs cs → HasReducedTails bs → HasReducedTails cs
-permuted-tails bs cs p t c k x m d = t c (Contains-permutation cs bs c (IsPermutation-sym bs cs p) k) x m (record { member = d.member; contained = Contains-permutation cs bs d.member (IsPermutation-sym bs cs p) d.contained; rest = d.rest; divides = d.divides })
+permuted-tails bs cs p t c k x m d = t c (Contains-permutation cs bs c (IsPermutation-sym bs cs p) k) x m
+    (record { member = d.member; contained = Contains-permutation cs bs d.member (IsPermutation-sym bs cs p) d.contained; rest = d.rest; divides = d.divides })
 
 -- ---- across the facet
 
@@ -155,11 +165,22 @@ pub normal-further : (n : ℕ) (fs : List Terms) (k : Region) (bs : List MarkedP
 normal-further n fs k bs a b p =
     let q = normal_of n bs a b.arranged.canonical p in
     let d = divided-entry q.is_row a q.part in
-    record { member = q.member; contained = q.contained; at = q.at; there = q.there; further = row-further q.member.head q.at a d.0 d.1 ((b.arranged.canonical q.member q.contained).head ∙ sym q.width) (λ i. ap (λ (z : List ℤ). get_or z i (pos 0)) (sym q.row) ∙ d.3 i) }
+    record {
+      member = q.member;
+      contained = q.contained;
+      at = q.at;
+      there = q.there;
+      further = row-further q.member.head q.at a d.0 d.1 ((b.arranged.canonical q.member q.contained).head ∙ sym q.width)
+          (λ i. ap (λ (z : List ℤ). get_or z i (pos 0)) (sym q.row) ∙ d.3 i);
+    }
 
 -- a part along a is one along the negatives
 pub along_negated : (a : List ℤ) (b p : MarkedPolynomial) → IsPartAlong a b p → IsPartAlong (negated a) b p
-along_negated a b p i = record { head = i.head; along = λ x h. i.along x (apart-negated a x b.head h); off = λ x n. i.off x (λ h. n (negated-apart a x b.head h)) }
+along_negated a b p i = record {
+  head = i.head;
+  along = λ x h. i.along x (apart-negated a x b.head h);
+  off = λ x n. i.off x (λ h. n (negated-apart a x b.head h));
+}
 
 -- what is further along is beyond
 pub further_beyond : (v a : List ℤ) (bs : List MarkedPolynomial) → AreMarked (IsFurther a) bs → AreMarked (IsBeyond v a) bs
@@ -189,25 +210,32 @@ part_facts n fs k bs ps hs a v vars b r f parts reduced = record { side = side; 
     side = side_of_inside n fs k bs a v b f
 
     levels : Matching (IsLevelPart v) bs ps
-    levels = matched-map (IsPartAlong a) (IsLevelPart v) bs ps (λ d p c i. level_of_along v (negated a) d p side.nonzero side.zero (side.marked d c) (along_negated a d p i)) parts
+    levels = matched-map (IsPartAlong a) (IsLevelPart v) bs ps (λ d p c i. level_of_along v (negated a) d p side.nonzero side.zero (side.marked d c)
+        (along_negated a d p i)) parts
 
     part_vars : AreInVariables n (polys ps)
     part_vars = parts-variables n bs ps v (λ d c. variables_of_member n fs d.poly vars (b.reduced.basis.members d c)) levels
 
     further : AreMarked (IsFurther a) hs
-    further = facet_marks n (polys ps) a hs nz part_vars (λ g c x y p q. apart-negated a x y (parts_of_one_class n fs v (negated a) bs ps side levels g c x y p q)) reduced
+    further = facet_marks n (polys ps) a hs nz part_vars (λ g c x y p q. apart-negated a x y
+        (parts_of_one_class n fs v (negated a) bs ps side levels g c x y p q)) reduced
 
     basis : IsBasis n (polys ps) hs
-    basis = basis_of_groebner_for n (polys ps) hs (IsFacetBelow (negated_row_of a)) (row-order (negated_row_of a)) (beyond-positive n k v a hs r wide nz f.zero (further_beyond v a hs further)) reduced.basis
+    basis = basis_of_groebner_for n (polys ps) hs (IsFacetBelow (negated_row_of a)) (row-order (negated_row_of a))
+        (beyond-positive n k v a hs r wide nz f.zero (further_beyond v a hs further)) reduced.basis
 
 -- lifts are lifts in the wide sense, whether they are members less their remainders or end early
 pub lifted_all : (n : ℕ) (fs : List Terms) (bs ps hs ls : List MarkedPolynomial) (a v : List ℤ) → AreInVariables n fs → dot a v ≡ pos 0 →
     ArePartFacts n fs bs ps hs a v → AreLifts bs hs ls → AreLifted n fs v hs ls
-lifted_all n fs bs ps hs ls a v vars o q lifts = matched-map (IsLift bs) (IsLifted n fs v) hs ls (λ h l c t. lifted_of_lift n fs bs ps v a h l vars q.side.reduced.basis (side-weak n fs v (negated a) bs q.side) q.levels o (q.basis.members h c) (q.further h c) t) lifts
+lifted_all n fs bs ps hs ls a v vars o q lifts = matched-map (IsLift bs) (IsLifted n fs v) hs ls
+    (λ h l c t. lifted_of_lift n fs bs ps v a h l vars q.side.reduced.basis (side-weak n fs v (negated a) bs q.side) q.levels o (q.basis.members h c)
+    (q.further h c) t) lifts
 
 pub lifted_tops : (n : ℕ) (fs : List Terms) (bs ps hs ls : List MarkedPolynomial) (a v : List ℤ) → AreInVariables n fs → dot a v ≡ pos 0 →
     ArePartFacts n fs bs ps hs a v → AreTopLifts bs a hs ls → AreLifted n fs v hs ls
-lifted_tops n fs bs ps hs ls a v vars o q lifts = matched-map (IsTopLift bs a) (IsLifted n fs v) hs ls (λ h l c t. lifted_of_top n fs bs v a h l vars q.side q.nonzero o (part_ring n fs bs ps v h.poly vars q.side.reduced.basis q.levels (q.basis.members h c)) (q.further h c) t) lifts
+lifted_tops n fs bs ps hs ls a v vars o q lifts = matched-map (IsTopLift bs a) (IsLifted n fs v) hs ls
+    (λ h l c t. lifted_of_top n fs bs v a h l vars q.side q.nonzero o (part_ring n fs bs ps v h.poly vars q.side.reduced.basis q.levels (q.basis.members h c))
+    (q.further h c) t) lifts
 
 -- the lifts of the reduced basis of the parts for the order along the facet, with their tails reduced, are on the other side
 pub other_side : (n : ℕ) (fs : List Terms) (k : Region) (bs ps hs ls ks ts cs : List MarkedPolynomial) (a v : List ℤ) →
@@ -221,11 +249,13 @@ other_side n fs k bs ps hs ls ks ts cs a v vars r o q lifts twins heads tails mo
   };
   zero = o;
   nonzero = q.nonzero;
-  marked = λ d c. let t = tails-of_place ks ks ts tails d (Contains-permutation cs ts d (IsPermutation-sym ts cs moved) c) in tail-marked (IsBeyond v a) ks d (beyond-strict v a o q.nonzero) (twins_marked (IsBeyond v a) ls ks (beyond-strict v a o q.nonzero) twins marks) t.2.tail;
+  marked = λ d c. let t = tails-of_place ks ks ts tails d (Contains-permutation cs ts d (IsPermutation-sym ts cs moved) c) in
+      tail-marked (IsBeyond v a) ks d (beyond-strict v a o q.nonzero) (twins_marked (IsBeyond v a) ls ks (beyond-strict v a o q.nonzero) twins marks) t.2.tail;
 }
   where
     lifted : IsBasis n fs ls
-    lifted = lifted_basis n fs k bs ps hs ls v a vars q.side.reduced.basis (side-weak n fs v (negated a) bs q.side) q.levels r q.width q.nonzero o q.basis q.further lifts
+    lifted = lifted_basis n fs k bs ps hs ls v a vars q.side.reduced.basis (side-weak n fs v (negated a) bs q.side) q.levels r q.width q.nonzero o q.basis
+        q.further lifts
 
     marks : AreMarked (IsBeyond v a) ls
     marks = lifted_marks n fs v a hs ls q.further lifts
@@ -257,7 +287,8 @@ pub crossed : (n : ℕ) (fs : List Terms) (k : Region) (bs ps hs ls ks ts cs : L
     AreSameBasis ls ks → AreApart ks → AreReducedTails ks ks ts → IsPermutation ts cs → AreArranged n cs →
     AreAdjacent n fs k bs a cs
 crossed n fs k bs ps hs ls ks ts cs a v vars b r f parts reduced lifts twins heads tails moved arranged =
-    adjacent_of_side n fs k bs cs a v vars b r f (other_side n fs k bs ps hs ls ks ts cs a v vars r f.zero (part_facts n fs k bs ps hs a v vars b r f parts reduced) lifts twins heads tails moved) arranged
+    adjacent_of_side n fs k bs cs a v vars b r f (other_side n fs k bs ps hs ls ks ts cs a v vars r f.zero
+    (part_facts n fs k bs ps hs a v vars b r f parts reduced) lifts twins heads tails moved) arranged
 
 -- ---- the ideal of the parts, seen from both sides
 
@@ -267,7 +298,12 @@ pub both_sides : (n : ℕ) (fs : List Terms) (k : Region) (bs ps : List MarkedPo
     IsMarkedReduced n (polys ps) ps × IsMarkedReduced n (polys ps) qs × AreMarked (IsFurther (negated a)) ps × AreMarked (IsFurther a) qs
 both_sides n fs k bs ps a cs qs vars d h i = (
   parts_reduced n fs bs ps v vars s.reduced (side-weak n fs v (negated a) bs s) left,
-  record { basis = basis_along n (polys qs) (polys ps) qs (same_ideals n fs v bs ps cs qs vars s.reduced.basis (side-weak n fs v (negated a) bs s) left t.reduced.basis (side-weak n fs v a cs t) right) r.basis; tails = r.tails; heads = r.heads },
+  record {
+    basis = basis_along n (polys qs) (polys ps) qs (same_ideals n fs v bs ps cs qs vars s.reduced.basis (side-weak n fs v (negated a) bs s) left t.reduced.basis
+        (side-weak n fs v a cs t) right) r.basis;
+    tails = r.tails;
+    heads = r.heads;
+  },
   parts_marked n fs v (negated a) bs ps s left,
   parts_marked n fs v a cs qs t right,
 )
@@ -282,7 +318,8 @@ both_sides n fs k bs ps a cs qs vars d h i = (
     t = side_there n fs k bs a cs d
 
     left : Matching (IsLevelPart d.point) bs ps
-    left = matched-map (IsPartAlong a) (IsLevelPart d.point) bs ps (λ b p c q. level_of_along d.point (negated a) b p s.nonzero s.zero (s.marked b c) (along_negated a b p q)) h
+    left = matched-map (IsPartAlong a) (IsLevelPart d.point) bs ps (λ b p c q. level_of_along d.point (negated a) b p s.nonzero s.zero (s.marked b c)
+        (along_negated a b p q)) h
 
     right : Matching (IsLevelPart d.point) cs qs
     right = matched-map (IsPartAlong a) (IsLevelPart d.point) cs qs (λ b p c q. level_of_along d.point a b p t.nonzero t.zero (t.marked b c) q) i

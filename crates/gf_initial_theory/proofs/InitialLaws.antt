@@ -65,7 +65,8 @@ initial_member n fs bs ps w f g v basis k h m i = at ((top_greatest (IsTilted w 
             coefficient r.poly y ≡ coefficient g y
         same_at y (inl l) = r.off y (λ e. absurd (omega (arith, ints, l, e))) ∙ sym (i.lighter y t.0 t.1.there l)
         same_at y (inr (inl e)) = r.level y e ∙ sym (i.heaviest y (λ z n'. omega (arith, ints, under z n', e)))
-        same_at y (inr (inr l)) = r.off y (λ e. absurd (omega (arith, ints, l, e))) ∙ sym (i.heaviest y (λ z n'. omega (arith, ints, under z n', l)) ∙ none (zero_or_not (coefficient f y)))
+        same_at y (inr (inr l)) = r.off y (λ e. absurd (omega (arith, ints, l, e))) ∙ sym (i.heaviest y (λ z n'. omega (arith, ints, under z n', l)) ∙
+            none (zero_or_not (coefficient f y)))
           where
             none : (coefficient f y ≡ zero_ℚ) ⊎ (coefficient f y ≢ zero_ℚ) → coefficient f y ≡ zero_ℚ
             none (inl z) = z
@@ -74,7 +75,8 @@ initial_member n fs bs ps w f g v basis k h m i = at ((top_greatest (IsTilted w 
 -- the initial forms of a marked list, as parts of one weight
 pub levels : (n : ℕ) (fs : List Terms) (bs ps : List MarkedPolynomial) (w : List ℤ) → IsBasis n fs bs →
     IsInClosedCone w bs → AreInitialParts w bs ps → Matching (IsLevelPart w) bs ps
-levels n fs bs ps w basis k h = matched-map (IsInitialPart w) (IsLevelPart w) bs ps (λ b p c i. level_of_initial w b p (k b c) (mark-there (lighter basis.marked.0) b (basis.marked.2 b c)) i) h
+levels n fs bs ps w basis k h = matched-map (IsInitialPart w) (IsLevelPart w) bs ps
+    (λ b p c i. level_of_initial w b p (k b c) (mark-there (lighter basis.marked.0) b (basis.marked.2 b c)) i) h
 
 -- what initial forms generate is in the ideal of the parts
 pub from_initial : (n : ℕ) (fs : List Terms) (bs ps : List MarkedPolynomial) (w : List ℤ) (q : Terms) →
@@ -87,7 +89,11 @@ from_initial n fs bs ps w q v basis k h i =
 -- and back
 pub into_initial : (n : ℕ) (fs : List Terms) (bs ps : List MarkedPolynomial) (w : List ℤ) (q : Terms) → IsBasis n fs bs →
     AreInitialParts w bs ps → IsMember n (polys ps) q → IsInInitialIdeal n fs w q
-into_initial n fs bs ps w q basis h m = record { forms = polys ps; initial = each_contained (IsFormOfMember n fs w) (polys ps) (λ g c. at g (Contains-marked ps g c)); member = m }
+into_initial n fs bs ps w q basis h m = record {
+  forms = polys ps;
+  initial = each_contained (IsFormOfMember n fs w) (polys ps) (λ g c. at g (Contains-marked ps g c));
+  member = m;
+}
   where
     at : (g : Terms) → ((p : MarkedPolynomial) × Contains ps p × (p.poly ≡ g)) →
         (f : Terms) × IsMember n fs f × IsInitialForm w f g
@@ -98,10 +104,9 @@ into_initial n fs bs ps w q basis h m = record { forms = polys ps; initial = eac
 -- ---- remainders
 
 -- where h, in the ideal of the parts, has one weight d, the monomials of its remainder by the basis weigh less
-pub remainder_below : (n : ℕ) (fs : List Terms) (bs ps : List MarkedPolynomial) (w : List ℤ) (d : ℤ) (h r : Terms) (t : AreTaken (Contains bs) (IsUnder n w d) h r) →
-    AreInVariables n fs → IsBasis n fs bs → IsInClosedCone w bs → Matching (IsLevelPart w) bs ps →
-    IsMember n (polys ps) h → ((x : Exponents) → HasMonomial h x → whole_weight w x ≡ d) →
-    IsIrreducible (Contains bs) r → (x : Exponents) → HasMonomial r x → whole_weight w x <ℤ d
+pub remainder_below : (n : ℕ) (fs : List Terms) (bs ps : List MarkedPolynomial) (w : List ℤ) (d : ℤ) (h r : Terms) (t : AreTaken (Contains bs) (IsUnder n w d)
+    h r) → AreInVariables n fs → IsBasis n fs bs → IsInClosedCone w bs → Matching (IsLevelPart w) bs ps → IsMember n (polys ps) h →
+    ((x : Exponents) → HasMonomial h x → whole_weight w x ≡ d) → IsIrreducible (Contains bs) r → (x : Exponents) → HasMonomial r x → whole_weight w x <ℤ d
 remainder_below n fs bs ps w d h r t v basis k match m flat irr x n' = at (three (whole_weight w x) d)
   where
     s : IsTopPart n (polys ps) w d (value t.pieces)
@@ -111,7 +116,8 @@ remainder_below n fs bs ps w d h r t v basis k match m flat irr x n' = at (three
     q = h ++ times (neg_ℚ one_ℚ) [] s.poly
 
     on : (y : Exponents) → whole_weight w y ≡ d → coefficient q y ≡ coefficient r y
-    on y e = difference h s.poly y ∙ ap (λ z. coefficient h y +ℚ neg_ℚ z) (s.level y e) ∙ less_summand (coefficient r y) (coefficient (value t.pieces) y) (coefficient h y) (t.equal y)
+    on y e = difference h s.poly y ∙ ap (λ z. coefficient h y +ℚ neg_ℚ z) (s.level y e) ∙ less_summand (coefficient r y) (coefficient (value t.pieces) y)
+        (coefficient h y) (t.equal y)
 
     off : (y : Exponents) → (whole_weight w y ≡ d → ⊥) → coefficient q y ≡ zero_ℚ
     off y o = difference h s.poly y ∙ ap (λ z. coefficient h y +ℚ neg_ℚ z) (s.off y o) ∙ less_zero (coefficient h y)

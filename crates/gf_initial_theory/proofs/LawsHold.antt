@@ -30,13 +30,17 @@ pub initial_forms_of_bases : InitialFormsOfBases
 initial_forms_of_bases = record {
   reduced = λ n fs w bs ps v r k h. parts_reduced n fs bs ps w v r k (levels n fs bs ps w r.basis k h);
   member = λ n fs w bs ps f g v r k h m i. initial_member n fs bs ps w f g v r.basis k (levels n fs bs ps w r.basis k h) m i;
-  generate = λ n fs w bs ps q v r k h. (λ i. from_initial n fs bs ps w q v r.basis k (levels n fs bs ps w r.basis k h) i, λ m. into_initial n fs bs ps w q r.basis h m);
+  generate = λ n fs w bs ps q v r k h. (
+    λ i. from_initial n fs bs ps w q v r.basis k (levels n fs bs ps w r.basis k h) i,
+    λ m. into_initial n fs bs ps w q r.basis h m,
+  );
 }
 
 pub parts_are_initial_forms : PartsAreInitialForms
 parts_are_initial_forms n fs k bs ps a v b f h = (
   weak,
-  matched-map (IsPartAlong a) (IsInitialPart v) bs ps (λ d p c i. initial_of_level v d p (weak d c) (mark-there (lighter basis.marked.0) d (basis.marked.2 d c)) (level_of_along v (negated a) d p side.nonzero side.zero (side.marked d c) (along_negated a d p i))) h,
+  matched-map (IsPartAlong a) (IsInitialPart v) bs ps (λ d p c i. initial_of_level v d p (weak d c) (mark-there (lighter basis.marked.0) d (basis.marked.2 d c))
+      (level_of_along v (negated a) d p side.nonzero side.zero (side.marked d c) (along_negated a d p i))) h,
 )
   where
     basis : IsBasis n fs bs
@@ -78,6 +82,8 @@ neighbours_have_parts = record { both_sides = both_sides; leading = parts_of_nei
 pub flips_give_neighbours : FlipsGiveNeighbours
 flips_give_neighbours = record {
   neighbour = crossed;
-  remainders = λ n fs k bs ps hs ls a v vars b r f parts reduced lifts. lifted_all n fs bs ps hs ls a v vars f.zero (part_facts n fs k bs ps hs a v vars b r f parts reduced) lifts;
-  tops = λ n fs k bs ps hs ls a v vars b r f parts reduced lifts. lifted_tops n fs bs ps hs ls a v vars f.zero (part_facts n fs k bs ps hs a v vars b r f parts reduced) lifts;
+  remainders = λ n fs k bs ps hs ls a v vars b r f parts reduced lifts. lifted_all n fs bs ps hs ls a v vars f.zero
+      (part_facts n fs k bs ps hs a v vars b r f parts reduced) lifts;
+  tops = λ n fs k bs ps hs ls a v vars b r f parts reduced lifts. lifted_tops n fs bs ps hs ls a v vars f.zero
+      (part_facts n fs k bs ps hs a v vars b r f parts reduced) lifts;
 }

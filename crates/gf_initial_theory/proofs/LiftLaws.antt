@@ -61,7 +61,8 @@ lift-taken n fs bs v a h r vars basis k o ring mark reached =
 pub taken_exists : (n : ℕ) (fs : List Terms) (bs : List MarkedPolynomial) (v a : List ℤ) (h : MarkedPolynomial) → AreInVariables n fs →
     IsBasis n fs bs → IsInClosedCone v bs → dot a v ≡ pos 0 → IsInVariables n h.poly → IsMarked (IsFurther a) h →
     (r : Terms) × AreTakenUnder n v bs h r × IsIrreducible (Contains bs) r
-taken_exists n fs bs v a h vars basis k o ring mark = at (divided bs basis.marked.0 (IsUnder n v (whole_weight v h.head)) h.poly basis.marked.2 closed (within-mark n v a h o ring mark))
+taken_exists n fs bs v a h vars basis k o ring mark =
+    at (divided bs basis.marked.0 (IsUnder n v (whole_weight v h.head)) h.poly basis.marked.2 closed (within-mark n v a h o ring mark))
   where
     closed : IsClosed (Contains bs) (IsUnder n v (whole_weight v h.head))
     closed = closed-mark n fs bs v h vars basis k
@@ -79,8 +80,10 @@ pub taken_member : (n : ℕ) (fs : List Terms) (bs : List MarkedPolynomial) (v :
     SamePolynomial l.poly (h.poly ++ times (neg_ℚ one_ℚ) [] r) → IsMember n fs l.poly
 taken_member n fs bs v h l r vars basis ring w poly =
     member_of_spans n fs l.poly vars in_variables
-    (Spans-equal fs (value w.pieces) l.poly (λ x. sym (poly x ∙ difference h.poly r x ∙ other_summand (coefficient r x) (coefficient (value w.pieces) x) (coefficient h.poly x) (w.equal x)))
-    (spans_value fs (Contains bs) (λ b c. spans_of_member n fs b.poly (basis.members b c)) w.pieces (Each-weaker (IsPieceIn (Contains bs) (IsUnder n v (whole_weight v h.head))) (λ (p : Piece). Contains bs p.of) (λ p q. q.member) w.pieces w.inside)))
+    (Spans-equal fs (value w.pieces) l.poly (λ x. sym (poly x ∙ difference h.poly r x ∙ other_summand (coefficient r x) (coefficient (value w.pieces) x)
+    (coefficient h.poly x) (w.equal x)))
+    (spans_value fs (Contains bs) (λ b c. spans_of_member n fs b.poly (basis.members b c)) w.pieces
+    (Each-weaker (IsPieceIn (Contains bs) (IsUnder n v (whole_weight v h.head))) (λ (p : Piece). Contains bs p.of) (λ p q. q.member) w.pieces w.inside)))
   where
     in_variables : IsInVariables n l.poly
     in_variables = variables-equal n (h.poly ++ times (neg_ℚ one_ℚ) [] r) l.poly (λ x. sym (poly x))
@@ -90,7 +93,8 @@ taken_member n fs bs v h l r vars basis ring w poly =
 -- the members of the ideal of the parts are in the ring
 pub part_ring : (n : ℕ) (fs : List Terms) (bs ps : List MarkedPolynomial) (v : List ℤ) (f : Terms) → AreInVariables n fs →
     IsBasis n fs bs → Matching (IsLevelPart v) bs ps → IsMember n (polys ps) f → IsInVariables n f
-part_ring n fs bs ps v f vars basis match mem = variables_of_member n (polys ps) f (parts-variables n bs ps v (λ b c. variables_of_member n fs b.poly vars (basis.members b c)) match) mem
+part_ring n fs bs ps v f vars basis match mem =
+    variables_of_member n (polys ps) f (parts-variables n bs ps v (λ b c. variables_of_member n fs b.poly vars (basis.members b c)) match) mem
 
 -- ---- the marks decide
 

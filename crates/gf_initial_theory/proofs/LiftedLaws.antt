@@ -67,7 +67,11 @@ lifted_marked n fs v a h l mark t = record {
         (whole_weight v x <ℤ whole_weight v h.head) ⊎ ((whole_weight v x ≡ whole_weight v h.head) ⊎ (whole_weight v h.head <ℤ whole_weight v x)) →
         (same x h.head ≡ true) ⊎ IsBeyond v a x h.head
     place x m (inl d) = inr (inl d)
-    place x m (inr (inl e)) = elim (mark.tail x (λ z. m (sym (t.form.heaviest x (λ y k. omega (arith, ints, top y k, e))) ∙ z))) [ inl s ↦ inl s | inr f ↦ inr (inr f) ]
+    place x m (inr (inl e)) = elim (mark.tail x (λ z. m (sym (t.form.heaviest x (λ y k. omega (arith, ints, top y k, e))) ∙ z))) [
+      | inl s ↦ inl s
+      | inr f ↦
+          inr (inr f)
+    ]
     place x m (inr (inr d)) = absurd (omega (arith, ints, d, top x m))
 
 -- what lighter terms are taken from is the initial form
@@ -76,7 +80,10 @@ lower-form : (v a : List ℤ) (h l : MarkedPolynomial) (r : Terms) → dot a v �
     SamePolynomial l.poly (h.poly ++ times (neg_ℚ one_ℚ) [] r) → IsInitialForm v l.poly h.poly
 lower-form v a h l r o mark lower poly = record {
   heaviest = λ x k. at x k (zero_or_not (coefficient r x));
-  lighter = λ x y m d. elim (zero_or_not (coefficient h.poly x)) [ inl z ↦ z | inr c ↦ absurd (omega (arith, ints, d, under y m, further-flat v a h o mark x c)) ];
+  lighter = λ x y m d. elim (zero_or_not (coefficient h.poly x)) [
+    | inl z ↦ z
+    | inr c ↦ absurd (omega (arith, ints, d, under y m, further-flat v a h o mark x c))
+  ];
 }
   where
     parts : (x : Exponents) → coefficient l.poly x ≡ coefficient h.poly x +ℚ neg_ℚ (coefficient r x)
@@ -139,7 +146,11 @@ IsOnLine v a x y = (whole_weight v y ≤ℤ whole_weight v x) × (whole_weight v
 closed-line : (n : ℕ) (fs : List Terms) (v a : List ℤ) (bs : List MarkedPolynomial) (h : Exponents) → IsNonzero a →
     IsSide n fs v (negated a) bs → IsClosed (Contains bs) (IsOnLine v a h)
 closed-line n fs v a bs h nz s = closed_downward (Contains bs) (IsBeyond v (negated a)) (IsOnLine v a h) (beyond-strict v (negated a) s.zero s.nonzero) s.marked
-    (λ x y e q. (omega (arith, ints, whole_weight-same v x y e, q.0), λ k. g.transitive y x h (g.along y x (same_flip x y e)) (q.1 (omega (arith, ints, whole_weight-same v x y e, k)))))
+    (λ x y e q. (
+      omega (arith, ints, whole_weight-same v x y e, q.0),
+      λ k. g.transitive y x h (g.along y x (same_flip x y e))
+          (q.1 (omega (arith, ints, whole_weight-same v x y e, k))),
+    ))
     lower
   where
     g : IsGrading (AreMultipleApart a)
@@ -156,13 +167,20 @@ pub lifted_of_top : (n : ℕ) (fs : List Terms) (bs : List MarkedPolynomial) (v 
     AreInVariables n fs → IsSide n fs v (negated a) bs → IsNonzero a → dot a v ≡ pos 0 → IsInVariables n h.poly →
     IsMarked (IsFurther a) h → IsTopLift bs a h l → IsLifted n fs v h l
 lifted_of_top n fs bs v a h l vars s nz o ring mark t =
-    lifted_of_lower n fs bs v a h l t.remainder vars s.reduced.basis o ring mark (lift-taken n fs bs v a h t.remainder vars s.reduced.basis (side-weak n fs v (negated a) bs s) o ring mark t.reached) lower t.head t.poly
+    lifted_of_lower n fs bs v a h l t.remainder vars s.reduced.basis o ring mark (lift-taken n fs bs v a h t.remainder vars s.reduced.basis
+    (side-weak n fs v (negated a) bs s) o ring mark t.reached) lower t.head t.poly
   where
     g : IsGrading (AreMultipleApart a)
     g = multiple-grading a nz
 
     start : (x : Exponents) → HasMonomial h.poly x → IsOnLine v a h.head x
-    start x m = (omega (arith, ints, further-flat v a h o mark x m), λ e. elim (mark.tail x m) [ inl q ↦ g.along x h.head q | inr f ↦ further-apart a x h.head f ])
+    start x m = (
+      omega (arith, ints, further-flat v a h o mark x m),
+      λ e. elim (mark.tail x m) [
+        | inl q ↦ g.along x h.head q
+        | inr f ↦ further-apart a x h.head f
+      ],
+    )
 
     w : AreTaken (Contains bs) (IsOnLine v a h.head) h.poly t.remainder
     w = taken (Contains bs) (IsOnLine v a h.head) h.poly t.remainder (closed-line n fs v a bs h.head nz s) start t.reached
@@ -200,12 +218,20 @@ pub lifts_exist : (n : ℕ) (fs : List Terms) (bs ps hs : List MarkedPolynomial)
     AreMembers n (polys ps) hs → AreMarked (IsFurther a) hs → (ls : List MarkedPolynomial) × AreLifted n fs v hs ls
 lifts_exist n fs bs ps [] v a vars basis k match o inside marks = ([], tt)
 lifts_exist n fs bs ps (h ∷ hs) v a vars basis k match o inside marks =
-    at (taken_exists n fs bs v a h vars basis k o (part_ring n fs bs ps v h.poly vars basis match (inside h (Contains-here h hs))) (marks h (Contains-here h hs)))
+    at (taken_exists n fs bs v a h vars basis k o (part_ring n fs bs ps v h.poly vars basis match (inside h (Contains-here h hs)))
+    (marks h (Contains-here h hs)))
     (lifts_exist n fs bs ps hs v a vars basis k match o (λ g c. inside g (Contains-there h g hs c)) (λ g c. marks g (Contains-there h g hs c)))
   where
     at : ((r : Terms) × AreTakenUnder n v bs h r × IsIrreducible (Contains bs) r) → ((ls : List MarkedPolynomial) × AreLifted n fs v hs ls) →
         (ls : List MarkedPolynomial) × AreLifted n fs v (h ∷ hs) ls
-    at q rest = (l ∷ rest.0, (lifted_of_taken n fs bs ps v a h l q.0 vars basis k match o (inside h (Contains-here h hs)) (marks h (Contains-here h hs)) q.1 q.2 refl (λ x. refl), rest.1))
+    at q rest = (
+      l ∷ rest.0,
+      (
+        lifted_of_taken n fs bs ps v a h l q.0 vars basis k match o (inside h (Contains-here h hs)) (marks h (Contains-here h hs))
+            q.1 q.2 refl (λ x. refl),
+        rest.1,
+      ),
+    )
       where
         l : MarkedPolynomial
         l = record { poly = h.poly ++ times (neg_ℚ one_ℚ) [] q.0; head = h.head }

@@ -50,7 +50,8 @@ monomial-off x y e = ap (λ b. (if b then one_ℚ else zero_ℚ) +ℚ zero_ℚ) 
 
 -- x = u m
 monomial-multiple : (x u m : Exponents) → same x (plus u m) ≡ true → SamePolynomial (times one_ℚ u (monomial m)) (monomial x)
-monomial-multiple x u m s e = ap (λ b. (if b then one_ℚ *ℚ one_ℚ else zero_ℚ) +ℚ zero_ℚ) alike ∙ ap (λ c. (if same e x then c else zero_ℚ) +ℚ zero_ℚ) (one-*ℚ one_ℚ)
+monomial-multiple x u m s e = ap (λ b. (if b then one_ℚ *ℚ one_ℚ else zero_ℚ) +ℚ zero_ℚ) alike ∙
+    ap (λ c. (if same e x then c else zero_ℚ) +ℚ zero_ℚ) (one-*ℚ one_ℚ)
   where
     alike : same e (plus u m) ≡ same e x
     alike = same-sym e (plus u m) ∙ sym (same_along x (plus u m) e s) ∙ same-sym x e
@@ -85,7 +86,8 @@ parts_of n fs v bs basis k = at (level_parts v bs)
     at p = record {
       parts = p.0;
       levels = p.1;
-      initial = matched-map (IsLevelPart v) (IsInitialPart v) bs p.0 (λ b q c i. initial_of_level v b q (k b c) (mark-there (lighter basis.marked.0) b (basis.marked.2 b c)) i) p.1;
+      initial = matched-map (IsLevelPart v) (IsInitialPart v) bs p.0
+          (λ b q c i. initial_of_level v b q (k b c) (mark-there (lighter basis.marked.0) b (basis.marked.2 b c)) i) p.1;
     }
 
 -- ---- where monomials generate the initial ideal, the vector gives the marks
@@ -101,16 +103,26 @@ open_where_monomial n fs v bs vars mono r k b c x m = at (three (whole_weight v 
         with_parts h = with_part (matched-to (IsLevelPart v) bs h.parts h.levels b c)
           where
             with_part : ((p : MarkedPolynomial) × Contains h.parts p × IsLevelPart v b p) → (same x b.head ≡ true) ⊎ (whole_weight v x <ℤ whole_weight v b.head)
-            with_part p = elim (divisible_or_not bs x) [ inl d ↦ inl (r.tails b c x m d) | inr none ↦ absurd (one_not_zero (sym (monomial-there x) ∙ zero none x)) ]
+            with_part p = elim (divisible_or_not bs x) [
+              | inl d ↦ inl (r.tails b c x m d)
+              | inr none ↦ absurd (one_not_zero (sym (monomial-there x) ∙ zero none x))
+            ]
               where
                 inside : IsInInitialIdeal n fs v (monomial x)
-                inside = mono p.0.poly (into_initial n fs bs h.parts v p.0.poly r.basis h.initial (member-generator n (polys h.parts) p.0.poly (Contains-polys h.parts p.0 p.1))) x (λ z. m (sym (p.2.level x e) ∙ z))
+                inside = mono p.0.poly (into_initial n fs bs h.parts v p.0.poly r.basis h.initial
+                    (member-generator n (polys h.parts) p.0.poly (Contains-polys h.parts p.0 p.1))) x (λ z. m (sym (p.2.level x e) ∙ z))
 
                 irreducible : NoMark bs x → IsIrreducible (Contains bs) (monomial x)
-                irreducible none y i d = undivided bs x none (record { member = d.member; contained = d.contained; rest = d.rest; divides = same_trans x y (plus d.rest d.member.head) (same_flip y x (monomial-at x y i)) d.divides })
+                irreducible none y i d = undivided bs x none (record {
+                  member = d.member;
+                  contained = d.contained;
+                  rest = d.rest;
+                  divides = same_trans x y (plus d.rest d.member.head) (same_flip y x (monomial-at x y i)) d.divides;
+                })
 
                 zero : NoMark bs x → SamePolynomial (monomial x) []
-                zero none = parts_decide n fs bs h.parts v (monomial x) vars r.basis k h.levels (from_initial n fs bs h.parts v (monomial x) vars r.basis k h.levels inside) (irreducible none)
+                zero none = parts_decide n fs bs h.parts v (monomial x) vars r.basis k h.levels
+                    (from_initial n fs bs h.parts v (monomial x) vars r.basis k h.levels inside) (irreducible none)
 
     at : (whole_weight v x <ℤ whole_weight v b.head) ⊎ ((whole_weight v x ≡ whole_weight v b.head) ⊎ (whole_weight v b.head <ℤ whole_weight v x)) →
         (same x b.head ≡ true) ⊎ (whole_weight v x <ℤ whole_weight v b.head)
@@ -130,8 +142,12 @@ part_monomial v b p one o i y = at (same y b.head) refl
     only m = let t = part-there v b p y i m in elim (o y t.1) [ inl s ↦ s | inr l ↦ absurd (omega (arith, ints, l, t.0)) ]
 
     at : (s : Bool) → same y b.head ≡ s → coefficient p.poly y ≡ coefficient (monomial b.head) y
-    at true e = coefficient-same p.poly y b.head e ∙ i.level b.head refl ∙ one ∙ sym (monomial-there b.head) ∙ sym (coefficient-same (monomial b.head) y b.head e)
-    at false e = elim (zero_or_not (coefficient p.poly y)) [ inl z ↦ z ∙ sym (monomial-off b.head y e) | inr m ↦ absurd (let s : same y b.head ≡ true = only m in cc) ]
+    at true e = coefficient-same p.poly y b.head e ∙ i.level b.head refl ∙ one ∙ sym (monomial-there b.head) ∙
+        sym (coefficient-same (monomial b.head) y b.head e)
+    at false e = elim (zero_or_not (coefficient p.poly y)) [
+      | inl z ↦ z ∙ sym (monomial-off b.head y e)
+      | inr m ↦ absurd (let s : same y b.head ≡ true = only m in cc)
+    ]
 
 -- the open cone is part of the closed one
 closed_of_open : (v : List ℤ) (bs : List MarkedPolynomial) → IsInOpenCone v bs → IsInClosedCone v bs
@@ -153,7 +169,13 @@ monomial_where_open n fs v bs vars r o q i x m = with_parts (parts_of n fs v bs 
             by : ((p : MarkedPolynomial) × Contains h.parts p × (p.poly ≡ f)) → IsDivisible (Contains bs) y
             by p =
                 let b = matched-from (IsLevelPart v) bs h.parts h.levels p.0 p.1 in
-                record { member = b.0; contained = b.1; rest = []; divides = monomial-at b.0.head y (λ z. j (sym (ap (λ (g : Terms). coefficient g y) p.2) ∙ part_monomial v b.0 p.0 (r.basis.marked.2 b.0 b.1).monic (o b.0 b.1) b.2 y ∙ z)) }
+                record {
+                  member = b.0;
+                  contained = b.1;
+                  rest = [];
+                  divides = monomial-at b.0.head y (λ z. j (sym (ap (λ (g : Terms). coefficient g y) p.2) ∙ part_monomial v b.0 p.0
+                      (r.basis.marked.2 b.0 b.1).monic (o b.0 b.1) b.2 y ∙ z));
+                }
 
         at : IsDivisible (Contains bs) x → IsInInitialIdeal n fs v (monomial x)
         at d = with_part (matched-to (IsLevelPart v) bs h.parts h.levels d.member d.contained)
@@ -161,11 +183,14 @@ monomial_where_open n fs v bs vars r o q i x m = with_parts (parts_of n fs v bs 
             with_part : ((p : MarkedPolynomial) × Contains h.parts p × IsLevelPart v d.member p) → IsInInitialIdeal n fs v (monomial x)
             with_part p = into_initial n fs bs h.parts v (monomial x) r.basis h.initial
                 (member-equal n (polys h.parts) (times one_ℚ d.rest (monomial d.member.head)) (monomial x) (monomial-multiple x d.rest d.member.head d.divides)
-                (member-times n (polys h.parts) (monomial d.member.head) one_ℚ d.rest (ring-left n d.rest d.member.head (ring-along n x (plus d.rest d.member.head) d.divides ring)) mark))
+                (member-times n (polys h.parts) (monomial d.member.head) one_ℚ d.rest
+                (ring-left n d.rest d.member.head (ring-along n x (plus d.rest d.member.head) d.divides ring)) mark))
               where
                 ring : IsInRing n x
-                ring = variables_of_member n (polys h.parts) q (parts-variables n bs h.parts v (λ b c. variables_of_member n fs b.poly vars (r.basis.members b c)) h.levels) member x m
+                ring = variables_of_member n (polys h.parts) q
+                    (parts-variables n bs h.parts v (λ b c. variables_of_member n fs b.poly vars (r.basis.members b c)) h.levels) member x m
 
                 mark : IsMember n (polys h.parts) (monomial d.member.head)
-                mark = member-equal n (polys h.parts) p.0.poly (monomial d.member.head) (part_monomial v d.member p.0 (r.basis.marked.2 d.member d.contained).monic (o d.member d.contained) p.2)
+                mark = member-equal n (polys h.parts) p.0.poly (monomial d.member.head)
+                    (part_monomial v d.member p.0 (r.basis.marked.2 d.member d.contained).monic (o d.member d.contained) p.2)
                     (member-generator n (polys h.parts) p.0.poly (Contains-polys h.parts p.0 p.1))

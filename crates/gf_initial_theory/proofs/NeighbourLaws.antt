@@ -59,7 +59,8 @@ facet_basis n gs grade a vars p h = at (reduced_exists (MonomialOrder.facet (neg
     at : ((hs : List MarkedPolynomial) × IsMarkedReducedBasis n gs hs × AreMarked (below_of (MonomialOrder.facet (negated_row_of a))) hs) → HasFacetBasis n gs a
     at r = record {
       basis = r.0;
-      reduced = reduced_by_order n gs r.0 (IsFacetBelow (negated_row_of a)) vars r.1.reduced.basis (row-order (negated_row_of a)).strict r.2 r.1.reduced.tails r.1.reduced.heads;
+      reduced = reduced_by_order n gs r.0 (IsFacetBelow (negated_row_of a)) vars r.1.reduced.basis (row-order (negated_row_of a)).strict r.2 r.1.reduced.tails
+          r.1.reduced.heads;
       is_basis = r.1.reduced.basis;
     }
 
@@ -87,11 +88,16 @@ neighbour_inside n fs k bs a v vars b r f = at (level_parts v bs)
       where
         finish : ((cs : List MarkedPolynomial) × IsMarkedReducedBasis n fs cs × AreMarked (IsBeyond v a) cs) →
             (cs : List MarkedPolynomial) × AreAdjacent n fs k bs a cs
-        finish c = (c.0, adjacent_of_side n fs k bs c.0 a v vars b r f (record { reduced = c.1.reduced; zero = f.zero; nonzero = nz; marked = c.2 }) c.1.arranged)
+        finish c = (
+          c.0,
+          adjacent_of_side n fs k bs c.0 a v vars b r f (record { reduced = c.1.reduced; zero = f.zero; nonzero = nz; marked = c.2 })
+              c.1.arranged,
+        )
 
     at : ((ps : List MarkedPolynomial) × Matching (IsLevelPart v) bs ps) →
         (cs : List MarkedPolynomial) × AreAdjacent n fs k bs a cs
-    at p = with_basis (facet_basis n (polys p.0) (gains v) a part_vars (region-positive n k v r) (parts-homogeneous n fs k v (negated a) bs p.0 part_vars r side p.1))
+    at p = with_basis (facet_basis n (polys p.0) (gains v) a part_vars (region-positive n k v r)
+        (parts-homogeneous n fs k v (negated a) bs p.0 part_vars r side p.1))
       where
         part_vars : AreInVariables n (polys p.0)
         part_vars = parts-variables n bs p.0 v (λ d c. variables_of_member n fs d.poly vars (b.reduced.basis.members d c)) p.1
@@ -100,7 +106,8 @@ neighbour_inside n fs k bs a v vars b r f = at (level_parts v bs)
         with_basis h = with_lifts (lifts_exist n fs bs p.0 h.basis v a vars b.reduced.basis weak p.1 f.zero h.is_basis.members further)
           where
             further : AreMarked (IsFurther a) h.basis
-            further = facet_marks n (polys p.0) a h.basis nz part_vars (λ g c x y i j. apart-negated a x y (parts_of_one_class n fs v (negated a) bs p.0 side p.1 g c x y i j)) h.reduced
+            further = facet_marks n (polys p.0) a h.basis nz part_vars
+                (λ g c x y i j. apart-negated a x y (parts_of_one_class n fs v (negated a) bs p.0 side p.1 g c x y i j)) h.reduced
 
             with_lifts : ((ls : List MarkedPolynomial) × AreLifted n fs v h.basis ls) →
                 (cs : List MarkedPolynomial) × AreAdjacent n fs k bs a cs

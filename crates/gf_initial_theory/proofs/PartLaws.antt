@@ -46,7 +46,11 @@ too_heavy w b x k l = elim (zero_or_not (coefficient b.poly x)) [ inl z ↦ z | 
 -- the initial form has these terms
 pub level_of_initial : (w : List ℤ) (b p : MarkedPolynomial) → IsWeaklyMarked w b → HasMonomial b.poly b.head →
     IsInitialPart w b p → IsLevelPart w b p
-level_of_initial w b p k m i = record { head = i.head; level = λ x e. i.form.heaviest x (λ y n. omega (arith, ints, k y n, e)); off = λ x n. at x n (three (whole_weight w x) (whole_weight w b.head)) }
+level_of_initial w b p k m i = record {
+  head = i.head;
+  level = λ x e. i.form.heaviest x (λ y n. omega (arith, ints, k y n, e));
+  off = λ x n. at x n (three (whole_weight w x) (whole_weight w b.head));
+}
   where
     at : (x : Exponents) → (whole_weight w x ≡ whole_weight w b.head → ⊥) →
         (whole_weight w x <ℤ whole_weight w b.head) ⊎ ((whole_weight w x ≡ whole_weight w b.head) ⊎ (whole_weight w b.head <ℤ whole_weight w x)) →
@@ -58,7 +62,13 @@ level_of_initial w b p k m i = record { head = i.head; level = λ x e. i.form.he
 -- and back
 pub initial_of_level : (w : List ℤ) (b p : MarkedPolynomial) → IsWeaklyMarked w b → HasMonomial b.poly b.head →
     IsLevelPart w b p → IsInitialPart w b p
-initial_of_level w b p k m i = record { head = i.head; form = record { heaviest = λ x h. at x h (three (whole_weight w x) (whole_weight w b.head)); lighter = λ x y n l. i.off x (λ e. absurd (omega (arith, ints, k y n, l, e))) } }
+initial_of_level w b p k m i = record {
+  head = i.head;
+  form = record {
+    heaviest = λ x h. at x h (three (whole_weight w x) (whole_weight w b.head));
+    lighter = λ x y n l. i.off x (λ e. absurd (omega (arith, ints, k y n, l, e)));
+  };
+}
   where
     at : (x : Exponents) → ((y : Exponents) → coefficient b.poly y ≢ zero_ℚ → whole_weight w y ≤ℤ whole_weight w x) →
         (whole_weight w x <ℤ whole_weight w b.head) ⊎ ((whole_weight w x ≡ whole_weight w b.head) ⊎ (whole_weight w b.head <ℤ whole_weight w x)) →
@@ -106,7 +116,15 @@ times-off w b p c u x i n = nothing_there c u p.poly x (λ y k s. k (i.off y (λ
 -- a multiple of the whole has nothing above its mark
 times-over : (w : List ℤ) (b : MarkedPolynomial) (c : Fraction) (u x : Exponents) → IsWeaklyMarked w b →
     whole_weight w (plus u b.head) <ℤ whole_weight w x → coefficient (times c u b.poly) x ≡ zero_ℚ
-times-over w b c u x k l = nothing_there c u b.poly x (λ y n s. absurd (omega (arith, ints, k y n, l, whole_weight-same w x (plus u y) s, weight-product w u y, weight-product w u b.head)))
+times-over w b c u x k l = nothing_there c u b.poly x (λ y n s. absurd (omega (
+  arith,
+  ints,
+  k y n,
+  l,
+  whole_weight-same w x (plus u y) s,
+  weight-product w u y,
+  weight-product w u b.head,
+)))
 
 -- ---- a member of the ideal of the parts is what weighs d of a member of the ideal
 
@@ -201,7 +219,12 @@ pub divisible_part : (R : MarkedPolynomial → MarkedPolynomial → Type 0) (bs 
     IsDivisible (Contains ps) x
 divisible_part R bs ps x e h d =
     let p = matched-to R bs ps h d.member d.contained in
-    record { member = p.0; contained = p.1; rest = d.rest; divides = subst (λ (z : Exponents). same x (plus d.rest z) ≡ true) (sym (e d.member p.0 p.2)) d.divides }
+    record {
+      member = p.0;
+      contained = p.1;
+      rest = d.rest;
+      divides = subst (λ (z : Exponents). same x (plus d.rest z) ≡ true) (sym (e d.member p.0 p.2)) d.divides;
+    }
 
 -- and back
 pub divisible_whole : (R : MarkedPolynomial → MarkedPolynomial → Type 0) (bs ps : List MarkedPolynomial) (x : Exponents) →
@@ -230,7 +253,8 @@ parts_decide n fs bs ps w q v basis k h m i = at ((top_greatest (IsTilted w u) (
 
     at : SamePolynomial q [] ⊎ ((x : Exponents) × IsGreatest (IsTilted w u) q x) → SamePolynomial q []
     at (inl z) = z
-    at (inr t) = absurd (i x t.1.there (basis_greatest n fs bs (IsTilted w u) r.poly x v basis (tilted-strict w u) (λ b c. tilted-marked w u b (k b c) (basis.marked.2 b c)) r.member top))
+    at (inr t) = absurd (i x t.1.there (basis_greatest n fs bs (IsTilted w u) r.poly x v basis (tilted-strict w u)
+        (λ b c. tilted-marked w u b (k b c) (basis.marked.2 b c)) r.member top))
       where
         x : Exponents
         x = t.0
@@ -246,14 +270,22 @@ parts_decide n fs bs ps w q v basis k h m i = at ((top_greatest (IsTilted w u) (
         below y n' (inr (inr l)) = absurd (n' (r.over y l))
 
         top : IsGreatest (IsTilted w u) r.poly x
-        top = record { there = λ z. t.1.there (sym (r.level x (in_variables x t.1.there) refl) ∙ z); greatest = λ y n'. below y n' (three (whole_weight w y) (whole_weight w x)) }
+        top = record {
+          there = λ z. t.1.there (sym (r.level x (in_variables x t.1.there) refl) ∙ z);
+          greatest = λ y n'. below y n' (three (whole_weight w y) (whole_weight w x));
+        }
 
 -- the parts are a basis
 pub parts_basis : (n : ℕ) (fs : List Terms) (bs ps : List MarkedPolynomial) (w : List ℤ) → AreInVariables n fs →
     IsBasis n fs bs → IsInClosedCone w bs → Matching (IsLevelPart w) bs ps → IsBasis n (polys ps) ps
 parts_basis n fs bs ps w v basis k h = record {
   members = λ p c. member-generator n (polys ps) p.poly (Contains-polys ps p c);
-  marked = (basis.marked.0, basis.marked.1, λ p c. let b = matched-from (IsLevelPart w) bs ps h p c in part-marked w basis.marked.0 b.0 p b.2 (basis.marked.2 b.0 b.1));
+  marked = (
+    basis.marked.0,
+    basis.marked.1,
+    λ p c. let b = matched-from (IsLevelPart w) bs ps h p c in
+        part-marked w basis.marked.0 b.0 p b.2 (basis.marked.2 b.0 b.1),
+  );
   decides = λ q m i. parts_decide n fs bs ps w q v basis k h m (λ x n' d. i x n' (divisible_part (IsLevelPart w) bs ps x (level-head w) h d));
 }
 
@@ -268,7 +300,8 @@ parts_reduced n fs bs ps w v r k h = record {
   where
     tail : (p : MarkedPolynomial) (x : Exponents) → ((b : MarkedPolynomial) × Contains bs b × IsLevelPart w b p) →
         HasMonomial p.poly x → IsDivisible (Contains ps) x → same x p.head ≡ true
-    tail p x b m d = subst (λ (z : Exponents). same x z ≡ true) (sym b.2.head) (r.tails b.0 b.1 x (part-there w b.0 p x b.2 m).1 (divisible_whole (IsLevelPart w) bs ps x (level-head w) h d))
+    tail p x b m d = subst (λ (z : Exponents). same x z ≡ true) (sym b.2.head)
+        (r.tails b.0 b.1 x (part-there w b.0 p x b.2 m).1 (divisible_whole (IsLevelPart w) bs ps x (level-head w) h d))
 
 -- ---- what weighs most of a member is in the ideal of the parts
 
@@ -288,7 +321,8 @@ pub top_of_pieces : (n : ℕ) (bs ps : List MarkedPolynomial) (w : List ℤ) (d 
     Matching (IsLevelPart w) bs ps → (qs : List Piece) → Each (IsPieceIn (Contains bs) (IsUnder n w d)) qs →
     IsTopPart n (polys ps) w d (value qs)
 top_of_pieces n bs ps w d k h [] e = record { poly = []; member = member-zero n (polys ps); level = λ x l. refl; off = λ x l. refl }
-top_of_pieces n bs ps w d k h (q ∷ qs) e = at (matched-to (IsLevelPart w) bs ps h q.of e.0.member) (three (whole_weight w (level q)) d) (top_of_pieces n bs ps w d k h qs e.1)
+top_of_pieces n bs ps w d k h (q ∷ qs) e = at (matched-to (IsLevelPart w) bs ps h q.of e.0.member) (three (whole_weight w (level q)) d)
+    (top_of_pieces n bs ps w d k h qs e.1)
   where
     at : ((p : MarkedPolynomial) × Contains ps p × IsLevelPart w q.of p) →
         (whole_weight w (level q) <ℤ d) ⊎ ((whole_weight w (level q) ≡ d) ⊎ (d <ℤ whole_weight w (level q))) →
@@ -304,7 +338,8 @@ top_of_pieces n bs ps w d k h (q ∷ qs) e = at (matched-to (IsLevelPart w) bs p
     at p (inr (inl t)) r = record {
       poly = times q.factor q.shift p.0.poly ++ r.poly;
       member = member-++ n (polys ps) (times q.factor q.shift p.0.poly) r.poly
-          (member-times n (polys ps) p.0.poly q.factor q.shift (ring-left n q.shift q.of.head e.0.inside.1) (member-generator n (polys ps) p.0.poly (Contains-polys ps p.0 p.1))) r.member;
+          (member-times n (polys ps) p.0.poly q.factor q.shift (ring-left n q.shift q.of.head e.0.inside.1)
+          (member-generator n (polys ps) p.0.poly (Contains-polys ps p.0 p.1))) r.member;
       level = λ x y. coefficient-++ (times q.factor q.shift p.0.poly) r.poly x
           ∙ ap (λ z. z +ℚ coefficient r.poly x) (times-level w q.of p.0 q.factor q.shift x p.2 (y ∙ sym t))
           ∙ ap (λ z. coefficient (times q.factor q.shift q.of.poly) x +ℚ z) (r.level x y)
@@ -328,7 +363,8 @@ closed-under n bs w d k v = closed-both (Contains bs) (λ y. whole_weight w y �
 pub top_part : (n : ℕ) (fs : List Terms) (bs ps : List MarkedPolynomial) (w : List ℤ) (d : ℤ) (f : Terms) →
     AreInVariables n fs → IsBasis n fs bs → IsInClosedCone w bs → Matching (IsLevelPart w) bs ps → IsMember n fs f →
     ((x : Exponents) → HasMonomial f x → whole_weight w x ≤ℤ d) → IsTopPart n (polys ps) w d f
-top_part n fs bs ps w d f v basis k h m l = at (member_pieces n fs bs (IsUnder n w d) f v basis (closed-under n bs w d k (λ b c. variables_of_member n fs b.poly v (basis.members b c))) m (λ x n'. (l x n', variables_of_member n fs f v m x n')))
+top_part n fs bs ps w d f v basis k h m l = at (member_pieces n fs bs (IsUnder n w d) f v basis
+    (closed-under n bs w d k (λ b c. variables_of_member n fs b.poly v (basis.members b c))) m (λ x n'. (l x n', variables_of_member n fs f v m x n')))
   where
     at : ((qs : List Piece) × Each (IsPieceIn (Contains bs) (IsUnder n w d)) qs × SamePolynomial f (value qs)) →
         IsTopPart n (polys ps) w d f

@@ -3,7 +3,8 @@
 -- has.
 -- To cite: IsSide, side-weak, level_of_along, along_of_level, side_parts, parts_of_one_class, same_ideals, same_by_marks,
 -- sides_same, side_further.
-use Rattle.std.proofs.Common.{◌≡◌, ◌⊎◌, ℕ, true, false, if◌then◌else◌, List, [], ◌∷◌, Contains, get_or, ℤ, pos, neg_ℤ, ◌+ℤ◌, ◌*ℤ◌, ◌≤ℤ◌, arith, refl, sym, ap, ◌∙◌, subst, inl, inr}
+use Rattle.std.proofs.Common.{◌≡◌, ◌⊎◌, ℕ, true, false, if◌then◌else◌, List, [], ◌∷◌, Contains, get_or, ℤ, pos, neg_ℤ, ◌+ℤ◌, ◌*ℤ◌, ◌≤ℤ◌, arith, refl, sym, ap}
+use Rattle.std.proofs.Common.{◌∙◌, subst, inl, inr}
 use Rattle.std.proofs.lemmas.Int.{ints}
 use Rattle.gf_int_theory.proofs.RingLaws.{dv, dn, dneg, ◌⊕◌, ◌⊗◌, same as same_number}
 use Rattle.gf_int_theory.proofs.ListLaws.{Contains-here}
@@ -77,14 +78,16 @@ apart-negated a x y h = (neg_ℤ h.0, λ i. h.1 i ∙ ap (λ z. pos (entry y i) 
 
 -- and back
 pub negated-apart : (a : List ℤ) (x y : Exponents) → AreMultipleApart a x y → AreMultipleApart (negated a) x y
-negated-apart a x y h = (neg_ℤ h.0, λ i. h.1 i ∙ turned (pos (entry y i)) h.0 (get_or a i (pos 0)) ∙ ap (λ z. pos (entry y i) +ℤ neg_ℤ h.0 *ℤ z) (sym (get-negated a i)))
+negated-apart a x y h =
+    (neg_ℤ h.0, λ i. h.1 i ∙ turned (pos (entry y i)) h.0 (get_or a i (pos 0)) ∙ ap (λ z. pos (entry y i) +ℤ neg_ℤ h.0 *ℤ z) (sym (get-negated a i)))
   where
     turned : (y k z : ℤ) → y +ℤ k *ℤ z ≡ y +ℤ neg_ℤ k *ℤ neg_ℤ z
     turned y k z = same_number (dv y ⊕ dv k ⊗ dv z) (dv y ⊕ dneg (dv k) ⊗ dneg (dv z)) (omega arith)
 
 pub apart-weight : (v a : List ℤ) (x y : Exponents) → dot a v ≡ pos 0 → AreMultipleApart a x y →
     whole_weight v x ≡ whole_weight v y
-apart-weight v a x y o h = weight-apart v a x y h.0 h.1 ∙ ap (λ z. whole_weight v y +ℤ h.0 *ℤ z) o ∙ same_number (dv (whole_weight v y) ⊕ dv h.0 ⊗ dn 0) (dv (whole_weight v y)) (omega arith)
+apart-weight v a x y o h = weight-apart v a x y h.0 h.1 ∙ ap (λ z. whole_weight v y +ℤ h.0 *ℤ z) o ∙ same_number (dv (whole_weight v y) ⊕ dv h.0 ⊗ dn 0)
+    (dv (whole_weight v y)) (omega arith)
 
 -- a monomial that weighs as the mark is a multiple apart from it
 along-mark : (v a : List ℤ) (b : MarkedPolynomial) (x : Exponents) → IsNonzero a → IsMarked (IsBeyond v a) b →
@@ -124,8 +127,17 @@ pub level_parts : (w : List ℤ) (bs : List MarkedPolynomial) → (ps : List Mar
 level_parts w [] = ([], tt)
 level_parts w (b ∷ bs) =
     let r = level_parts w bs in
-    let m = whole_weight w b.head in
-    (record { poly = of_weight w m b.poly; head = b.head } ∷ r.0, (record { head = refl; level = coefficient-on w m b.poly; off = coefficient-off w m b.poly }, r.1))
+    let m = whole_weight w b.head in (
+      record { poly = of_weight w m b.poly; head = b.head } ∷ r.0,
+      (
+        record {
+          head = refl;
+          level = coefficient-on w m b.poly;
+          off = coefficient-off w m b.poly;
+        },
+        r.1,
+      ),
+    )
 
 -- ---- the parts of one side
 
@@ -137,7 +149,8 @@ parts_marked n fs v a bs ps s h p c = at (matched-from (IsLevelPart v) bs ps h p
     at : ((b : MarkedPolynomial) × Contains bs b × IsLevelPart v b p) → IsMarked (IsFurther a) p
     at b = record {
       monic = ap (coefficient p.poly) b.2.head ∙ b.2.level b.0.head refl ∙ (s.marked b.0 b.1).monic;
-      tail = λ x m. subst (λ (z : Exponents). (same x z ≡ true) ⊎ IsFurther a x z) (sym b.2.head) (let q = part-there v b.0 p x b.2 m in place x q.0 ((s.marked b.0 b.1).tail x q.1));
+      tail = λ x m. subst (λ (z : Exponents). (same x z ≡ true) ⊎ IsFurther a x z) (sym b.2.head) (let q = part-there v b.0 p x b.2 m in
+          place x q.0 ((s.marked b.0 b.1).tail x q.1));
     }
       where
         place : (x : Exponents) → whole_weight v x ≡ whole_weight v b.0.head →
@@ -152,7 +165,10 @@ pub parts_of_one_class : (n : ℕ) (fs : List Terms) (v a : List ℤ) (bs ps : L
 parts_of_one_class n fs v a bs ps s h f c x y m k = at (Contains-marked ps f c)
   where
     apart_from : (p : MarkedPolynomial) → Contains ps p → (x : Exponents) → HasMonomial p.poly x → AreMultipleApart a x p.head
-    apart_from p d x m = elim ((parts_marked n fs v a bs ps s h p d).tail x m) [ inl e ↦ (multiple-grading a s.nonzero).along x p.head e | inr g ↦ further-apart a x p.head g ]
+    apart_from p d x m = elim ((parts_marked n fs v a bs ps s h p d).tail x m) [
+      | inl e ↦ (multiple-grading a s.nonzero).along x p.head e
+      | inr g ↦ further-apart a x p.head g
+    ]
 
     at : ((p : MarkedPolynomial) × Contains ps p × (p.poly ≡ f)) → AreMultipleApart a x y
     at p =
@@ -172,7 +188,8 @@ same_ideals n fs v bs ps cs qs vars b k h c l i = record {
   where
     forms : (cs qs : List MarkedPolynomial) → IsBasis n fs cs → IsInClosedCone v cs → Matching (IsLevelPart v) cs qs →
         AreInitialParts v cs qs
-    forms cs qs c l i = matched-map (IsLevelPart v) (IsInitialPart v) cs qs (λ b p d q. initial_of_level v b p (l b d) (mark-there (lighter c.marked.0) b (c.marked.2 b d)) q) i
+    forms cs qs c l i =
+        matched-map (IsLevelPart v) (IsInitialPart v) cs qs (λ b p d q. initial_of_level v b p (l b d) (mark-there (lighter c.marked.0) b (c.marked.2 b d)) q) i
 
 -- the parts are the reduced basis of an ideal, for the order along the facet
 pub side_reduced : (n : ℕ) (fs gs : List Terms) (v a : List ℤ) (bs ps : List MarkedPolynomial) → AreInVariables n fs →
@@ -180,7 +197,8 @@ pub side_reduced : (n : ℕ) (fs gs : List Terms) (v a : List ℤ) (bs ps : List
     IsReducedBasisFor n gs (IsFacetBelow (negated_row_of a)) ps
 side_reduced n fs gs v a bs ps vars wars s h i =
     let r = parts_reduced n fs bs ps v vars s.reduced (side-weak n fs v a bs s) h in
-    reduced_by_order n gs ps (IsFacetBelow (negated_row_of a)) wars (basis_along n (polys ps) gs ps i r.basis) (row-order (negated_row_of a)).strict (further_marks a ps s.nonzero (parts_marked n fs v a bs ps s h)) r.tails r.heads
+    reduced_by_order n gs ps (IsFacetBelow (negated_row_of a)) wars (basis_along n (polys ps) gs ps i r.basis) (row-order (negated_row_of a)).strict
+    (further_marks a ps s.nonzero (parts_marked n fs v a bs ps s h)) r.tails r.heads
 
 -- ---- two on the same side
 
@@ -195,7 +213,8 @@ marks_by_parts v u bs ps cs qs h i t b c =
       member = d.0;
       contained = d.1;
       rest = [];
-      divides = same_trans b.head p.0.head d.0.head (same_flip p.0.head b.head (same_of p.0.head b.head p.2.head)) (same_trans p.0.head q.0.head d.0.head q.2.head (same_of q.0.head d.0.head d.2.head));
+      divides = same_trans b.head p.0.head d.0.head (same_flip p.0.head b.head (same_of p.0.head b.head p.2.head))
+          (same_trans p.0.head q.0.head d.0.head q.2.head (same_of q.0.head d.0.head d.2.head));
     }
 
 -- where the ideals of their parts are one, two on the same side are the same, whatever the vectors inside the facet are
@@ -205,7 +224,8 @@ pub sides_same : (n : ℕ) (fs gs : List Terms) (v u a : List ℤ) (bs ps cs qs 
 sides_same n fs gs v u a bs ps cs qs vars wars s h i t k j = contained_same n fs bs cs s.reduced t.reduced (marks_by_parts v u bs ps cs qs h k twins)
   where
     twins : AreSameBasis ps qs
-    twins = unique_by_order n gs (IsFacetBelow (negated_row_of a)) ps qs (row-order (negated_row_of a)) (side_reduced n fs gs v a bs ps vars wars s h i) (side_reduced n fs gs u a cs qs vars wars t k j)
+    twins = unique_by_order n gs (IsFacetBelow (negated_row_of a)) ps qs (row-order (negated_row_of a)) (side_reduced n fs gs v a bs ps vars wars s h i)
+        (side_reduced n fs gs u a cs qs vars wars t k j)
 
 -- ---- an unmarked monomial along the normal
 
@@ -255,7 +275,13 @@ side_further n fs v a b bs cs vars s t h = at (level_parts v bs) (level_parts v 
         found : (r : MarkedPolynomial) → Contains q.0 r → (x : Exponents) → HasMonomial r.poly x → same x r.head ≡ false → HasFurther cs a
         found r c x m e =
             let d = matched-from (IsLevelPart v) cs q.0 q.1 r c in
-            record { member = d.0; contained = d.1; at = x; there = (part-there v d.0 r x d.2 m).1; further = subst (λ (z : Exponents). IsFurther a x z) d.2.head (place ((parts_marked n fs v a cs q.0 t q.1 r c).tail x m)) }
+            record {
+              member = d.0;
+              contained = d.1;
+              at = x;
+              there = (part-there v d.0 r x d.2 m).1;
+              further = subst (λ (z : Exponents). IsFurther a x z) d.2.head (place ((parts_marked n fs v a cs q.0 t q.1 r c).tail x m));
+            }
           where
             place : (same x r.head ≡ true) ⊎ IsFurther a x r.head → IsFurther a x r.head
             place (inl y) = absurd (cc)
@@ -275,11 +301,13 @@ side_further n fs v a b bs cs vars s t h = at (level_parts v bs) (level_parts v 
             others : IsReducedBasisFor n (polys p.0) (IsFacetBelow (negated_row_of b)) q.0
             others =
                 let r = parts_reduced n fs cs q.0 v vars t.reduced (side-weak n fs v a cs t) q.1 in
-                reduced_by_order n (polys p.0) q.0 (IsFacetBelow (negated_row_of b)) vars_ps (basis_along n (polys q.0) (polys p.0) q.0 ideals r.basis) (row-order (negated_row_of b)).strict
+                reduced_by_order n (polys p.0) q.0 (IsFacetBelow (negated_row_of b)) vars_ps (basis_along n (polys q.0) (polys p.0) q.0 ideals r.basis)
+                (row-order (negated_row_of b)).strict
                 (λ d c. record { monic = (parts_marked n fs v a cs q.0 t q.1 d c).monic; tail = λ x m. inl (all d c x m) }) r.tails r.heads
 
             twins : AreSameBasis p.0 q.0
-            twins = unique_by_order n (polys p.0) (IsFacetBelow (negated_row_of b)) p.0 q.0 (row-order (negated_row_of b)) (side_reduced n fs (polys p.0) v b bs p.0 vars vars_ps s p.1 (record { inside = λ f m. m; back = λ f m. m })) others
+            twins = unique_by_order n (polys p.0) (IsFacetBelow (negated_row_of b)) p.0 q.0 (row-order (negated_row_of b))
+                (side_reduced n fs (polys p.0) v b bs p.0 vars vars_ps s p.1 (record { inside = λ f m. m; back = λ f m. m })) others
 
             clash : ((d : MarkedPolynomial) × Contains p.0 d × IsLevelPart v h.member d) → HasFurther cs a
             clash d = unmarked (twins.there d.0 d.1)

@@ -1,13 +1,15 @@
 -- The content of a list, one entry further, and division by it.
 -- To cite: IsGcdOfAll-none and IsGcdOfAll_more for a loop over the entries, IsContent-zero and IsContent-positive
 -- at its end, IsContent-same, times-quotients, IsPrimitive-quotients, quotients-InRange. The rest are steps.
-use Rattle.std.proofs.Common.{◌≡◌, ℕ, zero, suc, ◌+◌, ◌*◌, ◌<◌, ◌≤◌, List, [], ◌∷◌, ◌++◌, length, ℤ, pos, negsuc, ◌*ℤ◌, neg_ℤ, arith, sym, refl, ap, subst, take, get_or, unsigned_abs, int_div, ◌⊎◌, inl, inr, ap₂, ◌/◌}
+use Rattle.std.proofs.Common.{◌≡◌, ℕ, zero, suc, ◌+◌, ◌*◌, ◌<◌, ◌≤◌, List, [], ◌∷◌, ◌++◌, length, ℤ, pos, negsuc, ◌*ℤ◌, neg_ℤ, arith, sym, refl, ap, subst}
+use Rattle.std.proofs.Common.{take, get_or, unsigned_abs, int_div, ◌⊎◌, inl, inr, ap₂, ◌/◌}
 use Rattle.std.specs.Int.{◌∣◌, IsGcd}
 use Rattle.std.specs.List.{AllByRecursion}
 use Rattle.std.proofs.lemmas.Int.{ints, unsigned_abs-mul}
 use Rattle.std.proofs.lemmas.List.{take_more}
 use Rattle.std.proofs.lemmas.Nat.Gcd.{dvd_trans, dvd-zero}
-use Rattle.std.proofs.Math.Nat.{mul-dvd-mul_left, eq-one_of_dvd-one, dvd_of_mul-dvd-mul_left, mul-div_cancel', div-le_self, eq-zero_of_zero-dvd, dvd_antisymm, one-dvd, zero-div}
+use Rattle.std.proofs.Math.Nat.{mul-dvd-mul_left, eq-one_of_dvd-one, dvd_of_mul-dvd-mul_left, mul-div_cancel', div-le_self, eq-zero_of_zero-dvd, dvd_antisymm}
+use Rattle.std.proofs.Math.Nat.{one-dvd, zero-div}
 use Rattle.gf_int_theory.proofs.RingLaws.{same, dn, dv, dneg, ◌⊗◌}
 use Rattle.gf_int_theory.specs.Range.{InRange}
 use Rattle.gf_int_theory.specs.Gcd.{gcd, gcd-is, gcd-same}
@@ -51,7 +53,8 @@ IsGcdOfAll-cons x xs c g h k = record {
 }
 
 -- one entry further into a list
-pub IsGcdOfAll_more : (xs : List ℤ) (i c g : ℕ) → i < length xs → IsGcdOfAll (take i xs) c → IsGcd c (unsigned_abs (get_or xs i (pos 0))) g → IsGcdOfAll (take (i + 1) xs) g
+pub IsGcdOfAll_more : (xs : List ℤ) (i c g : ℕ) → i < length xs → IsGcdOfAll (take i xs) c → IsGcd c (unsigned_abs (get_or xs i (pos 0))) g →
+    IsGcdOfAll (take (i + 1) xs) g
 IsGcdOfAll_more xs i c g h k e = rw (take_more xs i (pos 0) h) (IsGcdOfAll-push (take i xs) _ c g k e)
 
 -- each list has one

@@ -42,7 +42,11 @@ mul_core u d p q v e r s h k = omega (arith, ap (λ n. n * v) h, ap (λ n. n * e
 
 -- the product of two differences
 abbrev pub ◌⊗◌ : {a b : ℤ} → Diff a → Diff b → Diff (a *ℤ b)
-◌⊗◌ {a} {b} x y = record { more = x.more * y.more + x.less * y.less; less = x.more * y.less + x.less * y.more; is = omega (arith, product_is a b, mul_core (up a) (down a) x.more x.less (up b) (down b) y.more y.less x.is y.is) }
+◌⊗◌ {a} {b} x y = record {
+  more = x.more * y.more + x.less * y.less;
+  less = x.more * y.less + x.less * y.more;
+  is = omega (arith, product_is a b, mul_core (up a) (down a) x.more x.less (up b) (down b) y.more y.less x.is y.is);
+}
 
 -- two numbers are one where their differences are
 pub same : {a b : ℤ} (x : Diff a) (y : Diff b) → x.more + y.less ≡ y.more + x.less → a ≡ b

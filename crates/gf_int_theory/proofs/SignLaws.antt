@@ -20,7 +20,11 @@ sign_of (negsuc n) = negative (omega (arith, ints))
 
 -- two numbers are equal, or they aren't
 pub equal_or_not : (x y : ℤ) → (x ≡ y) ⊎ (x ≡ y → ⊥)
-equal_or_not x y = elim (sign_of (x -ℤ y)) [ none g ↦ inl (omega (arith, ints, g)) | positive g ↦ inr (λ e. omega (arith, ints, g, e)) | negative g ↦ inr (λ e. omega (arith, ints, g, e)) ]
+equal_or_not x y = elim (sign_of (x -ℤ y)) [
+  | none g ↦ inl (omega (arith, ints, g))
+  | positive g ↦ inr (λ e. omega (arith, ints, g, e))
+  | negative g ↦ inr (λ e. omega (arith, ints, g, e))
+]
 
 -- ---- zero and signs
 
@@ -68,7 +72,8 @@ mul_positive a b h k = grind arith
 
 -- a product of positive numbers is positive
 pub 0<-*ℤ : (a b : ℤ) → pos 0 <ℤ a → pos 0 <ℤ b → pos 0 <ℤ (a *ℤ b)
-0<-*ℤ (pos a) (pos b) h k = let p : 0 < a = omega (arith, ints) in let q : 0 < b = omega (arith, ints) in let r : 0 < a * b = mul_positive a b p q in omega (arith, ints)
+0<-*ℤ (pos a) (pos b) h k = let p : 0 < a = omega (arith, ints) in let q : 0 < b = omega (arith, ints) in let r : 0 < a * b =
+    mul_positive a b p q in omega (arith, ints)
 0<-*ℤ (pos a) (negsuc b) h k = absurd (omega (arith, ints))
 0<-*ℤ (negsuc a) b h k = absurd (omega (arith, ints))
 

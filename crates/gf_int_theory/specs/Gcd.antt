@@ -89,7 +89,8 @@ lowest-numerator p q r s one two e =
 pub lowest-quotients : (a b g x y : ℕ) → IsGcd a b g → 0 < g → a ≡ g * x → b ≡ g * y → IsGcd x y 1
 lowest-quotients a b g x y h p ex ey =
     let k : IsGcd (g * x) (g * y) (g * gcd_within y x y) = gcd_within-scaled g y x y p (omega arith) in
-    let k' : IsGcd a b (g * gcd_within y x y) = subst (λ z. IsGcd z b (g * gcd_within y x y)) (sym ex) (subst (λ z. IsGcd (g * x) z (g * gcd_within y x y)) (sym ey) k) in
+    let k' : IsGcd a b (g * gcd_within y x y) =
+    subst (λ z. IsGcd z b (g * gcd_within y x y)) (sym ex) (subst (λ z. IsGcd (g * x) z (g * gcd_within y x y)) (sym ey) k) in
     let e : g * gcd_within y x y ≡ g = same_from_IsGcd a b _ _ k' h in
     let one : gcd_within y x y ≡ 1 = eq_of_mul-eq-mul_left g p _ _ (e ∙ sym (mul-one g)) in
     subst (λ z. IsGcd x y z) one (gcd_within-is y x y (omega arith))

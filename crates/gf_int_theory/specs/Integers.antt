@@ -34,7 +34,8 @@ pub diff-eq : (m n p q : ℕ) → m + q ≡ p + n → diff m n ≡ diff p q
 unfolding diff
 diff-eq m n p q h = omega (arith, ints)
 
-mul_of : (a b : ℤ) (m n p q : ℕ) → up a + n ≡ m + down a → up b + q ≡ p + down b → up a * up b + down a * down b + (m * q + n * p) ≡ (m * p + n * q) + (up a * down b + down a * up b)
+mul_of : (a b : ℤ) (m n p q : ℕ) → up a + n ≡ m + down a → up b + q ≡ p + down b →
+    up a * up b + down a * down b + (m * q + n * p) ≡ (m * p + n * q) + (up a * down b + down a * up b)
 mul_of a b m n p q h k = omega (arith, h, k, ap (λ x. up b * x) h, ap (λ x. down b * x) h, ap (λ x. m * x) k, ap (λ x. n * x) k)
 
 -- the product of two differences

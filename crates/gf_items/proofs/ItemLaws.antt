@@ -84,7 +84,8 @@ ring_once = record { once = rings_once; apart = λ p end a e. ring_apart p end a
 
 -- ---- sets
 
-set_apart : (names : List (List ℕ)) (p : Position) (end : ℕ) (ws : List Written) (e : TextError) → IsSetRead names p end ws → IsSetCause names p e → IsSaid e → ⊥
+set_apart : (names : List (List ℕ)) (p : Position) (end : ℕ) (ws : List Written) (e : TextError) → IsSetRead names p end ws → IsSetCause names p e → IsSaid e →
+    ⊥
 set_apart names p end ws e a h n = n (not_refused names a.names p end ws a e h)
 
 no_set : (names : List (List ℕ)) (p : Position) (e : TextError) → IsSetCause names p e → IsExact e → HasNoSet names p e
@@ -138,7 +139,8 @@ no_zero (m ∷ ms) [] back e = cc
 no_zero (m ∷ ms) (k ∷ front) back e = let tails : nonzero ms ≡ nonzero front ++ written.Zero ∷ back = cc in no_zero ms front back tails
 
 -- the first zero stands at one place
-pub first_zero : (front other : List MarkedPolynomial) (back rest : List Written) → nonzero front ++ written.Zero ∷ back ≡ nonzero other ++ written.Zero ∷ rest → length front ≡ length other
+pub first_zero : (front other : List MarkedPolynomial) (back rest : List Written) →
+    nonzero front ++ written.Zero ∷ back ≡ nonzero other ++ written.Zero ∷ rest → length front ≡ length other
 first_zero [] [] back rest e = refl
 first_zero [] (k ∷ other) back rest e = cc
 first_zero (m ∷ front) [] back rest e = cc
@@ -146,19 +148,22 @@ first_zero (m ∷ front) (k ∷ other) back rest e =
     let tails : nonzero front ++ written.Zero ∷ back ≡ nonzero other ++ written.Zero ∷ rest = cc in
     ap (λ (n : ℕ). suc n) (first_zero front other back rest tails)
 
-marked_read_once : (names : List (List ℕ)) (p : Position) (end other : ℕ) (s t : MarkedPolynomials) → IsMarkedRead names p end s → IsMarkedRead names p other t → (other ≡ end) × (t ≡ s)
+marked_read_once : (names : List (List ℕ)) (p : Position) (end other : ℕ) (s t : MarkedPolynomials) → IsMarkedRead names p end s →
+    IsMarkedRead names p other t → (other ≡ end) × (t ≡ s)
 marked_read_once names p end other s t a b =
     let same = read_once names p end other a.written b.written a.read b.read in
     let items : t.items ≡ s.items = nonzero_once t.items s.items (sym b.items ∙ same.1 ∙ a.items) in
     let variables : t.variables ≡ s.variables = b.variables ∙ sym a.variables in
     (same.0, λ i. record { variables = variables i; items = items i })
 
-zero_apart : (names : List (List ℕ)) (p : Position) (end set index : ℕ) (s : MarkedPolynomials) → IsMarkedRead names p end s → HasZeroPolynomial names p set index → ⊥
+zero_apart : (names : List (List ℕ)) (p : Position) (end set index : ℕ) (s : MarkedPolynomials) → IsMarkedRead names p end s →
+    HasZeroPolynomial names p set index → ⊥
 zero_apart names p end set index s a h =
     let same = read_once names p end h.place a.written h.written a.read h.read in
     no_zero s.items h.first.front h.first.back (sym a.items ∙ sym same.1 ∙ h.first.whole)
 
-marked_apart : (names : List (List ℕ)) (p : Position) (end : ℕ) (s : MarkedPolynomials) (e : TextError) → IsMarkedRead names p end s → IsMarkedCause names p e → IsSaid e → ⊥
+marked_apart : (names : List (List ℕ)) (p : Position) (end : ℕ) (s : MarkedPolynomials) (e : TextError) → IsMarkedRead names p end s → IsMarkedCause names p e →
+    IsSaid e → ⊥
 marked_apart names p end s (errors.Overflow o) a h n = set_apart names p end a.written (errors.Overflow o) a.read h n
 marked_apart names p end s (errors.Exponent o) a h n = set_apart names p end a.written (errors.Exponent o) a.read h n
 marked_apart names p end s (errors.Syntax t) a h n = set_apart names p end a.written (errors.Syntax t) a.read h n
@@ -169,7 +174,8 @@ marked_apart names p end s (errors.ZeroPolynomial set index) a h n = zero_apart 
 marked_apart names p end s errors.Memory a h n = n refl
 
 -- where a set is read with a zero polynomial, its marked set is refused by that alone
-zero_once : (names : List (List ℕ)) (p : Position) (set index : ℕ) (d : TextError) → HasZeroPolynomial names p set index → IsMarkedCause names p d → IsSaid d → d ≡ errors.ZeroPolynomial set index
+zero_once : (names : List (List ℕ)) (p : Position) (set index : ℕ) (d : TextError) → HasZeroPolynomial names p set index → IsMarkedCause names p d → IsSaid d →
+    d ≡ errors.ZeroPolynomial set index
 zero_once names p set index (errors.Overflow o) h k m = absurd (set_apart names p h.place h.written (errors.Overflow o) h.read k m)
 zero_once names p set index (errors.Exponent o) h k m = absurd (set_apart names p h.place h.written (errors.Exponent o) h.read k m)
 zero_once names p set index (errors.Syntax s) h k m = absurd (set_apart names p h.place h.written (errors.Syntax s) h.read k m)
@@ -179,7 +185,8 @@ zero_once names p set index (errors.TooManyVariables count) h k m = absurd k
 zero_once names p set index (errors.ZeroPolynomial other place) h k m =
     let same = read_once names p h.place k.place h.written k.written h.read k.read in
     let numbers : other ≡ set = k.number ∙ sym h.number in
-    let fronts : length k.first.front ≡ length h.first.front = first_zero k.first.front h.first.front k.first.back h.first.back (sym k.first.whole ∙ same.1 ∙ h.first.whole) in
+    let fronts : length k.first.front ≡ length h.first.front =
+    first_zero k.first.front h.first.front k.first.back h.first.back (sym k.first.whole ∙ same.1 ∙ h.first.whole) in
     let places : place ≡ index = k.first.place ∙ ap (λ n. min n (2 ^ 32 - 1)) fronts ∙ sym h.first.place in
     ap (λ n. errors.ZeroPolynomial n place) numbers ∙ ap (λ n. errors.ZeroPolynomial set n) places
 zero_once names p set index errors.Memory h k m = absurd (m refl)

@@ -2,7 +2,8 @@
 -- To cite: items_once, ring_and_once. The rest are steps.
 use Rattle.std.specs.Prelude.{ℕ, List, [], ◌∷◌}
 use Rattle.gf_items.specs.Items.{a_vector}
-use Rattle.gf_items.specs.Kinds.{ItemKind, the_ring, a_set, a_marked_set, set_list, marked_set_list, vector, vector_where, vector_list, dimension, new_name, item_of, names_behind, items_of, ring_and}
+use Rattle.gf_items.specs.Kinds.{ItemKind, the_ring, a_set, a_marked_set, set_list, marked_set_list, vector, vector_where, vector_list, dimension, new_name}
+use Rattle.gf_items.specs.Kinds.{item_of, names_behind, items_of, ring_and}
 use Rattle.gf_items.specs.ReadOnce.{IsReadOnce}
 use Rattle.gf_items.proofs.ReadingLaws.{both_once, asked_once}
 use Rattle.gf_items.proofs.ItemLaws.{ring_once, set_once, marked_set_once, vector_once}

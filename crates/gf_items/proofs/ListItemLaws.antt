@@ -16,7 +16,8 @@ use Rattle.gf_text.specs.declared.written.Written.TheVariants as written
 use Rattle.gf_text.specs.Tokens.{Position, lexemes, ring_more, word_more}
 use Rattle.gf_text.specs.Combining.{sums_of}
 use Rattle.gf_text.specs.Sets.{AreWritten, IsFirstSumOverflow, IsWhatRemains, AreNonzero}
-use Rattle.gf_text.specs.SetLists.{polynomials_of, AreWhatRemain, AreSetsRead, HaveSumOverflow, HaveExponentOverflow, HasNoSets, IsSetsCause, AreMarkedSets, IsFirstZeroOf, AreMarkedSetsRead, HaveZeroPolynomial, IsMarkedSetsCause}
+use Rattle.gf_text.specs.SetLists.{polynomials_of, AreWhatRemain, AreSetsRead, HaveSumOverflow, HaveExponentOverflow, HasNoSets, IsSetsCause, AreMarkedSets}
+use Rattle.gf_text.specs.SetLists.{IsFirstZeroOf, AreMarkedSetsRead, HaveZeroPolynomial, IsMarkedSetsCause}
 use Rattle.gf_text.specs.VectorLists.{AreVectorsRead, HasNoVectors, IsVectorsCause}
 use Rattle.gf_text.specs.Singles.{IsDimensionRead, HasNoDimension, HasGreatDimension, IsDimensionCause, IsNameRead, HasNoName, IsNameCause}
 use Rattle.gf_text.proofs.CombiningLaws.{sums_variables}
@@ -38,7 +39,8 @@ remains_once n q ws vs a b =
     let sums : b.sums ≡ a.sums = cc in
     all_written n a.sums vs ws (sums_variables n q a.sums a.exponents) (subst (λ fs. AreWritten fs vs) sums b.written) a.written
 
-remain_once : (n : ℕ) (qs : List (List (List WrittenTerm))) (sets other : List (List Written)) → AreWhatRemain n qs sets → AreWhatRemain n qs other → other ≡ sets
+remain_once : (n : ℕ) (qs : List (List (List WrittenTerm))) (sets other : List (List Written)) → AreWhatRemain n qs sets → AreWhatRemain n qs other →
+    other ≡ sets
 remain_once n [] [] [] a b = refl
 remain_once n [] [] (v ∷ other) a b = absurd b
 remain_once n [] (w ∷ sets) other a b = absurd a
@@ -59,7 +61,8 @@ module _ (names : List (List ℕ)) (p : Position) where
         let said = (one_list_of_sets names a.names (lexemes (ring_more names) p.source p.at) h.said a.said h.place end h.text a.text).0 in
         let fit = all_fit (length names) a.said sets a.remain in
         let here : sums_of (length names) (polynomials_of a.said) ≡ Ok fit.sums = fit.exponents in
-        let there : sums_of (length names) (polynomials_of a.said) ≡ Ok h.sums = ap (λ qs. sums_of (length names) (polynomials_of qs)) (sym said) ∙ h.exponents in
+        let there : sums_of (length names) (polynomials_of a.said) ≡ Ok h.sums =
+        ap (λ qs. sums_of (length names) (polynomials_of qs)) (sym said) ∙ h.exponents in
         let sums : h.sums ≡ fit.sums = cc in
         none_overflows fit.sums o fit.fits (subst (λ fs. IsFirstSumOverflow fs o) sums h.overflow)
 
@@ -123,20 +126,25 @@ marked_sets_same n (w ∷ ws) (s ∷ ss) (t ∷ ts) a b =
     ap (λ x. x ∷ ts) one ∙ ap (λ l. s ∷ l) (marked_sets_same n ws ss ts a.2 b.2)
 
 -- a set in the middle is a marked one
-marked_middle : (n : ℕ) (front : List (List Written)) (w : List Written) (back : List (List Written)) (ss : List MarkedPolynomials) → AreMarkedSets n (front ++ w ∷ back) ss → (s : MarkedPolynomials) × AreNonzero w s.items
+marked_middle : (n : ℕ) (front : List (List Written)) (w : List Written) (back : List (List Written)) (ss : List MarkedPolynomials) →
+    AreMarkedSets n (front ++ w ∷ back) ss → (s : MarkedPolynomials) × AreNonzero w s.items
 marked_middle n [] w back [] a = absurd a
 marked_middle n [] w back (s ∷ ss) a = (s, a.0)
 marked_middle n (v ∷ front) w back [] a = absurd a
 marked_middle n (v ∷ front) w back (s ∷ ss) a = marked_middle n front w back ss a.2
 
 -- the first set with a zero polynomial stands at one place
-first_unmarked : (n : ℕ) (front other : List (List Written)) (ss ts : List MarkedPolynomials) (w v : List Written) (back rest : List (List Written)) → AreMarkedSets n front ss → AreMarkedSets n other ts
-    → ((s : MarkedPolynomials) → AreNonzero w s.items → ⊥) → ((s : MarkedPolynomials) → AreNonzero v s.items → ⊥) → front ++ w ∷ back ≡ other ++ v ∷ rest → (length front ≡ length other) × (w ≡ v)
+first_unmarked : (n : ℕ) (front other : List (List Written)) (ss ts : List MarkedPolynomials) (w v : List Written) (back rest : List (List Written)) →
+    AreMarkedSets n front ss → AreMarkedSets n other ts
+    → ((s : MarkedPolynomials) → AreNonzero w s.items → ⊥) → ((s : MarkedPolynomials) → AreNonzero v s.items → ⊥) → front ++ w ∷ back ≡ other ++ v ∷ rest →
+    (length front ≡ length other) × (w ≡ v)
 first_unmarked n [] [] ss ts w v back rest a b x y e = let same : w ≡ v = cc in (refl, same)
 first_unmarked n [] (u ∷ other) ss [] w v back rest a b x y e = absurd b
-first_unmarked n [] (u ∷ other) ss (t ∷ ts) w v back rest a b x y e = let same : u ≡ w = cc in absurd (x t (subst (λ (z : List Written). AreNonzero z t.items) same b.0))
+first_unmarked n [] (u ∷ other) ss (t ∷ ts) w v back rest a b x y e = let same : u ≡ w =
+    cc in absurd (x t (subst (λ (z : List Written). AreNonzero z t.items) same b.0))
 first_unmarked n (u ∷ front) [] [] ts w v back rest a b x y e = absurd a
-first_unmarked n (u ∷ front) [] (s ∷ ss) ts w v back rest a b x y e = let same : u ≡ v = cc in absurd (y s (subst (λ (z : List Written). AreNonzero z s.items) same a.0))
+first_unmarked n (u ∷ front) [] (s ∷ ss) ts w v back rest a b x y e = let same : u ≡ v =
+    cc in absurd (y s (subst (λ (z : List Written). AreNonzero z s.items) same a.0))
 first_unmarked n (u ∷ front) (z ∷ other) [] ts w v back rest a b x y e = absurd a
 first_unmarked n (u ∷ front) (z ∷ other) (s ∷ ss) [] w v back rest a b x y e = absurd b
 first_unmarked n (u ∷ front) (z ∷ other) (s ∷ ss) (t ∷ ts) w v back rest a b x y e =
@@ -148,14 +156,18 @@ first_unmarked n (u ∷ front) (z ∷ other) (s ∷ ss) (t ∷ ts) w v back rest
 unmarked : (n : ℕ) (sets : List (List Written)) (set index : ℕ) (h : IsFirstZeroOf n sets set index) (s : MarkedPolynomials) → AreNonzero h.written s.items → ⊥
 unmarked n sets set index h s a = no_zero s.items h.first.front h.first.back (sym a ∙ h.first.whole)
 
-zero_of_once : (n : ℕ) (sets : List (List Written)) (set index other place : ℕ) → IsFirstZeroOf n sets set index → IsFirstZeroOf n sets other place → (other ≡ set) × (place ≡ index)
+zero_of_once : (n : ℕ) (sets : List (List Written)) (set index other place : ℕ) → IsFirstZeroOf n sets set index → IsFirstZeroOf n sets other place →
+    (other ≡ set) × (place ≡ index)
 zero_of_once n sets set index other place h k =
-    let same = first_unmarked n k.front h.front k.marked h.marked k.written h.written k.back h.back k.before h.before (unmarked n sets other place k) (unmarked n sets set index h) (sym k.whole ∙ h.whole) in
-    let fronts : length k.first.front ≡ length h.first.front = first_zero k.first.front h.first.front k.first.back h.first.back (sym k.first.whole ∙ same.1 ∙ h.first.whole) in
+    let same = first_unmarked n k.front h.front k.marked h.marked k.written h.written k.back h.back k.before h.before (unmarked n sets other place k)
+    (unmarked n sets set index h) (sym k.whole ∙ h.whole) in
+    let fronts : length k.first.front ≡ length h.first.front =
+    first_zero k.first.front h.first.front k.first.back h.first.back (sym k.first.whole ∙ same.1 ∙ h.first.whole) in
     (k.number ∙ ap (λ m. min m (2 ^ 32 - 1)) same.0 ∙ sym h.number, k.first.place ∙ ap (λ m. min m (2 ^ 32 - 1)) fronts ∙ sym h.first.place)
 
 module _ (names : List (List ℕ)) (p : Position) where
-  marked_read_once : (end other : ℕ) (a b : List MarkedPolynomials) → AreMarkedSetsRead names p end a → AreMarkedSetsRead names p other b → (other ≡ end) × (b ≡ a)
+  marked_read_once : (end other : ℕ) (a b : List MarkedPolynomials) → AreMarkedSetsRead names p end a → AreMarkedSetsRead names p other b →
+      (other ≡ end) × (b ≡ a)
   marked_read_once end other a b h k =
       let same = sets_read_once names p end other h.written k.written h.read k.read in
       (same.0, marked_sets_same (length names) h.written a b h.marked (subst (λ ws. AreMarkedSets (length names) ws b) same.1 k.marked))
@@ -178,7 +190,8 @@ module _ (names : List (List ℕ)) (p : Position) where
   marked_apart end ss errors.Memory a h n = n refl
 
   -- where sets are read with a zero polynomial, the list of marked sets is refused by that alone
-  zeros_once : (set index : ℕ) (d : TextError) → HaveZeroPolynomial names p set index → IsMarkedSetsCause names p d → IsSaid d → d ≡ errors.ZeroPolynomial set index
+  zeros_once : (set index : ℕ) (d : TextError) → HaveZeroPolynomial names p set index → IsMarkedSetsCause names p d → IsSaid d →
+      d ≡ errors.ZeroPolynomial set index
   zeros_once set index (errors.Overflow o) h k m = absurd (sets_apart names p h.place h.written h.read (errors.Overflow o) k m)
   zeros_once set index (errors.Exponent o) h k m = absurd (sets_apart names p h.place h.written h.read (errors.Exponent o) k m)
   zeros_once set index (errors.Syntax s) h k m = absurd (sets_apart names p h.place h.written h.read (errors.Syntax s) k m)
@@ -187,7 +200,8 @@ module _ (names : List (List ℕ)) (p : Position) where
   zeros_once set index (errors.TooManyVariables count) h k m = absurd k
   zeros_once set index (errors.ZeroPolynomial other place) h k m =
       let same = sets_read_once names p h.place k.place h.written k.written h.read k.read in
-      let both = zero_of_once (length names) h.written set index other place h.first (subst (λ ws. IsFirstZeroOf (length names) ws other place) same.1 k.first) in
+      let both = zero_of_once (length names) h.written set index other place h.first (subst (λ ws. IsFirstZeroOf (length names) ws other place)
+      same.1 k.first) in
       ap (λ n. errors.ZeroPolynomial n place) both.0 ∙ ap (λ n. errors.ZeroPolynomial set n) both.1
   zeros_once set index errors.Memory h k m = absurd (m refl)
 
@@ -219,15 +233,18 @@ marked_sets_once names = record {
   same = λ p e d h x k m. marked_same names p e d h x k m;
 }
 
-have_variables : (n : ℕ) (ws : List (List Written)) (ss : List MarkedPolynomials) → AreMarkedSets n ws ss → AllByRecursion (λ (s : MarkedPolynomials). s.variables ≡ n) ss
+have_variables : (n : ℕ) (ws : List (List Written)) (ss : List MarkedPolynomials) → AreMarkedSets n ws ss →
+    AllByRecursion (λ (s : MarkedPolynomials). s.variables ≡ n) ss
 have_variables n [] [] a = tt
 have_variables n [] (s ∷ ss) a = absurd a
 have_variables n (w ∷ ws) [] a = absurd a
 have_variables n (w ∷ ws) (s ∷ ss) a = (a.1, have_variables n ws ss a.2)
 
 -- each of the sets that are read has the variables of the ring
-pub marked_sets_variables : (names : List (List ℕ)) (p : Position) (end : ℕ) (ss : List MarkedPolynomials) → AreMarkedSetsRead names p end ss → All (λ (s : MarkedPolynomials). s.variables ≡ length names) ss
-marked_sets_variables names p end ss a = All-from_recursion (λ (s : MarkedPolynomials). s.variables ≡ length names) ss (have_variables (length names) a.written ss a.marked)
+pub marked_sets_variables : (names : List (List ℕ)) (p : Position) (end : ℕ) (ss : List MarkedPolynomials) → AreMarkedSetsRead names p end ss →
+    All (λ (s : MarkedPolynomials). s.variables ≡ length names) ss
+marked_sets_variables names p end ss a = All-from_recursion (λ (s : MarkedPolynomials). s.variables ≡ length names) ss
+    (have_variables (length names) a.written ss a.marked)
 
 -- ---- lists of vectors
 
@@ -325,7 +342,8 @@ no_name names p (errors.TooManyVariables count) h = absurd h
 no_name names p (errors.ZeroPolynomial set index) h = absurd h
 no_name names p errors.Memory h = absurd h
 
-names_once : (names : List (List ℕ)) (p : Position) (end other : ℕ) (n m : List ℕ) → IsNameRead names p end n → IsNameRead names p other m → (other ≡ end) × (m ≡ n)
+names_once : (names : List (List ℕ)) (p : Position) (end other : ℕ) (n m : List ℕ) → IsNameRead names p end n → IsNameRead names p other m →
+    (other ≡ end) × (m ≡ n)
 names_once names p end other n m a b =
     let same = new_name_once names (lexemes word_more p.source p.at) m n other end b a in
     (same.1, same.0)

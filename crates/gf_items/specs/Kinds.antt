@@ -2,7 +2,8 @@
 use Rattle.std.specs.Prelude.{ℕ, List, [], ◌∷◌, Option, ℤ, Bool}
 use Rattle.gf_poly.specs.Marking.{MarkedPolynomials}
 use Rattle.gf_text.specs.declared.written.Written.{Written}
-use Rattle.gf_items.specs.Items.{Item, both, where_asked, a_ring, a_set_in, a_marked_set_in, a_list_of_sets_in, a_list_of_marked_sets_in, a_vector, a_list_of_vectors, a_dimension, a_new_name}
+use Rattle.gf_items.specs.Items.{Item, both, where_asked, a_ring, a_set_in, a_marked_set_in, a_list_of_sets_in, a_list_of_marked_sets_in, a_vector}
+use Rattle.gf_items.specs.Items.{a_list_of_vectors, a_dimension, a_new_name}
 
 -- what may stand in a text
 pub data ItemKind : Type 0 where

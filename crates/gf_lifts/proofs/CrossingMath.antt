@@ -52,16 +52,18 @@ crossing_weight n bs a c = c.basis.reduced.basis.marked
 
 -- ---- the reduced basis of the parts
 
-reduced_parts : (n : ℕ) (bs : List MarkedPolynomial) (a : List ℤ) (hs : List MarkedPolynomial) (p : IsBasisOfParts n bs a hs) → IsReducedBasisFor n (polys p.along.parts) (IsFacetBelow (negated_row_of a)) hs
+reduced_parts : (n : ℕ) (bs : List MarkedPolynomial) (a : List ℤ) (hs : List MarkedPolynomial) (p : IsBasisOfParts n bs a hs) →
+    IsReducedBasisFor n (polys p.along.parts) (IsFacetBelow (negated_row_of a)) hs
 reduced_parts n bs a hs p = subst (λ (z : List Terms). IsReducedBasisFor n z (IsFacetBelow (negated_row_of a)) hs) p.along.polynomials p.reduced
 
 -- of an ideal and in a region in which bs is a basis and a flippable
-pub parts_of : (n : ℕ) (bs : List MarkedPolynomial) (a : List ℤ) (hs : List MarkedPolynomial) (p : IsBasisOfParts n bs a hs) (gs : List Terms) (k : Region) → AreInVariables n gs →
-    IsBasisInRegion n gs k bs → (f : IsFlippable n k bs a) → ArePartFacts n gs bs p.along.parts hs a f.point
+pub parts_of : (n : ℕ) (bs : List MarkedPolynomial) (a : List ℤ) (hs : List MarkedPolynomial) (p : IsBasisOfParts n bs a hs) (gs : List Terms) (k : Region) →
+    AreInVariables n gs → IsBasisInRegion n gs k bs → (f : IsFlippable n k bs a) → ArePartFacts n gs bs p.along.parts hs a f.point
 parts_of n bs a hs p gs k vars b f = part_facts n gs k bs p.along.parts hs a f.point vars b f.region f.inside p.along.each (reduced_parts n bs a hs p)
 
 -- of the crossing's own
-own_parts : (n : ℕ) (bs : List MarkedPolynomial) (a : List ℤ) (hs : List MarkedPolynomial) (c : IsCrossing n bs a) (p : IsBasisOfParts n bs a hs) → ArePartFacts n c.generators bs p.along.parts hs a c.flippable.point
+own_parts : (n : ℕ) (bs : List MarkedPolynomial) (a : List ℤ) (hs : List MarkedPolynomial) (c : IsCrossing n bs a) (p : IsBasisOfParts n bs a hs) →
+    ArePartFacts n c.generators bs p.along.parts hs a c.flippable.point
 own_parts n bs a hs c p = parts_of n bs a hs p c.generators c.region c.variables c.basis c.flippable
 
 pub monic_parts : (n : ℕ) (bs : List MarkedPolynomial) (a : List ℤ) (hs : List MarkedPolynomial) → IsCrossing n bs a → IsBasisOfParts n bs a hs → AreMonic hs
@@ -69,14 +71,18 @@ monic_parts n bs a hs c p h k = ((own_parts n bs a hs c p).further h k).monic
 
 -- from one plus what is taken away
 only_one : (c r : Fraction) → c ≡ one_ℚ → c +ℚ neg_ℚ r ≡ one_ℚ → r ≡ zero_ℚ
-only_one c r e h = sym (less_summand r (neg_ℚ r +ℚ c) c (sym (sum r c))) ∙ ap (λ z. c +ℚ neg_ℚ z) (+ℚ_comm (neg_ℚ r) c ∙ h) ∙ ap (λ z. z +ℚ neg_ℚ one_ℚ) e ∙ +ℚ-neg_ℚ one_ℚ
+only_one c r e h = sym (less_summand r (neg_ℚ r +ℚ c) c (sym (sum r c))) ∙ ap (λ z. c +ℚ neg_ℚ z) (+ℚ_comm (neg_ℚ r) c ∙ h) ∙ ap (λ z. z +ℚ neg_ℚ one_ℚ) e ∙
+    +ℚ-neg_ℚ one_ℚ
   where
     sum : (r c : Fraction) → r +ℚ (neg_ℚ r +ℚ c) ≡ c
     sum r c = sym (+ℚ_assoc r (neg_ℚ r) c) ∙ ap (λ z. z +ℚ c) (+ℚ-neg_ℚ r) ∙ zero-+ℚ c
 
 -- its members may be lifted: the mark stays, since the lift is marked too
 pub liftable : (n : ℕ) (bs : List MarkedPolynomial) (a : List ℤ) (hs : List MarkedPolynomial) → IsCrossing n bs a → IsBasisOfParts n bs a hs → AreLiftable bs hs
-liftable n bs a hs c p d k = record { monic = (q.further d k).monic; none = λ t s i. only_one (coefficient d.poly d.head) (coefficient t d.head) (q.further d k).monic (sym (difference d.poly t d.head) ∙ (marked t s i).monic) }
+liftable n bs a hs c p d k = record {
+  monic = (q.further d k).monic;
+  none = λ t s i. only_one (coefficient d.poly d.head) (coefficient t d.head) (q.further d k).monic (sym (difference d.poly t d.head) ∙ (marked t s i).monic);
+}
   where
     v : List ℤ
     v = c.flippable.point
@@ -84,9 +90,12 @@ liftable n bs a hs c p d k = record { monic = (q.further d k).monic; none = λ t
     q : ArePartFacts n c.generators bs p.along.parts hs a v
     q = own_parts n bs a hs c p
 
-    marked : (t : Terms) → Reached (Contains bs) d.poly t → IsIrreducible (Contains bs) t → IsMarked (IsBeyond v a) (record { poly = d.poly ++ times (neg_ℚ one_ℚ) [] t; head = d.head })
+    marked : (t : Terms) → Reached (Contains bs) d.poly t → IsIrreducible (Contains bs) t →
+        IsMarked (IsBeyond v a) (record { poly = d.poly ++ times (neg_ℚ one_ℚ) [] t; head = d.head })
     marked t s i = lifted_marked n c.generators v a d (record { poly = d.poly ++ times (neg_ℚ one_ℚ) [] t; head = d.head }) (q.further d k)
-        (lifted_of_lift n c.generators bs p.along.parts v a d (record { poly = d.poly ++ times (neg_ℚ one_ℚ) [] t; head = d.head }) c.variables q.side.reduced.basis (side-weak n c.generators v (negated a) bs q.side) q.levels c.flippable.inside.zero (q.basis.members d k) (q.further d k)
+        (lifted_of_lift n c.generators bs p.along.parts v a d (record { poly = d.poly ++ times (neg_ℚ one_ℚ) [] t; head = d.head })
+        c.variables q.side.reduced.basis (side-weak n c.generators v (negated a) bs q.side) q.levels c.flippable.inside.zero (q.basis.members d k)
+        (q.further d k)
         (record { remainder = t; reached = s; irreducible = i; head = refl; poly = λ x. refl }))
 
 -- ---- lifts
@@ -96,45 +105,62 @@ pub record AreEverLifted (n : ℕ) (bs : List MarkedPolynomial) (a : List ℤ) (
   pub at : (gs : List Terms) (k : Region) → AreInVariables n gs → IsBasisInRegion n gs k bs → (f : IsFlippable n k bs a) → AreLifted n gs f.point hs ls
 
 -- such are the members less their remainders
-pub ever_lifted : (n : ℕ) (bs : List MarkedPolynomial) (a : List ℤ) (hs ls : List MarkedPolynomial) → IsBasisOfParts n bs a hs → AreLifts bs hs ls → AreEverLifted n bs a hs ls
-ever_lifted n bs a hs ls p l = record { at = λ gs k vars b f. lifted_all n gs bs p.along.parts hs ls a f.point vars f.inside.zero (parts_of n bs a hs p gs k vars b f) l }
+pub ever_lifted : (n : ℕ) (bs : List MarkedPolynomial) (a : List ℤ) (hs ls : List MarkedPolynomial) → IsBasisOfParts n bs a hs → AreLifts bs hs ls →
+    AreEverLifted n bs a hs ls
+ever_lifted n bs a hs ls p l = record {
+  at = λ gs k vars b f. lifted_all n gs bs p.along.parts hs ls a f.point vars f.inside.zero (parts_of n bs a hs p gs k vars b f) l;
+}
 
 -- and lifts that end early
-pub ever_topped : (n : ℕ) (bs : List MarkedPolynomial) (a : List ℤ) (hs ls : List MarkedPolynomial) → IsBasisOfParts n bs a hs → AreTopLifts bs a hs ls → AreEverLifted n bs a hs ls
-ever_topped n bs a hs ls p l = record { at = λ gs k vars b f. lifted_tops n gs bs p.along.parts hs ls a f.point vars f.inside.zero (parts_of n bs a hs p gs k vars b f) l }
+pub ever_topped : (n : ℕ) (bs : List MarkedPolynomial) (a : List ℤ) (hs ls : List MarkedPolynomial) → IsBasisOfParts n bs a hs → AreTopLifts bs a hs ls →
+    AreEverLifted n bs a hs ls
+ever_topped n bs a hs ls p l = record {
+  at = λ gs k vars b f. lifted_tops n gs bs p.along.parts hs ls a f.point vars f.inside.zero (parts_of n bs a hs p gs k vars b f) l;
+}
 
 -- they are a basis
-lifts_are_basis : (n : ℕ) (bs : List MarkedPolynomial) (a : List ℤ) (hs ls : List MarkedPolynomial) (c : IsCrossing n bs a) → IsBasisOfParts n bs a hs → AreEverLifted n bs a hs ls → IsBasis n c.generators ls
+lifts_are_basis : (n : ℕ) (bs : List MarkedPolynomial) (a : List ℤ) (hs ls : List MarkedPolynomial) (c : IsCrossing n bs a) → IsBasisOfParts n bs a hs →
+    AreEverLifted n bs a hs ls → IsBasis n c.generators ls
 lifts_are_basis n bs a hs ls c p l =
     let q = own_parts n bs a hs c p in
-    lifted_basis n c.generators c.region bs p.along.parts hs ls c.flippable.point a c.variables q.side.reduced.basis (side-weak n c.generators c.flippable.point (negated a) bs q.side) q.levels c.flippable.region q.width q.nonzero c.flippable.inside.zero q.basis q.further
+    lifted_basis n c.generators c.region bs p.along.parts hs ls c.flippable.point a c.variables q.side.reduced.basis
+    (side-weak n c.generators c.flippable.point (negated a) bs q.side) q.levels c.flippable.region q.width q.nonzero c.flippable.inside.zero q.basis
+    q.further
     (l.at c.generators c.region c.variables c.basis c.flippable)
 
 -- monic, and marked by some positive weight
-pub lifts_marked : (n : ℕ) (bs : List MarkedPolynomial) (a : List ℤ) (hs ls : List MarkedPolynomial) → IsCrossing n bs a → IsBasisOfParts n bs a hs → AreEverLifted n bs a hs ls → HasPositiveWeight n ls
+pub lifts_marked : (n : ℕ) (bs : List MarkedPolynomial) (a : List ℤ) (hs ls : List MarkedPolynomial) → IsCrossing n bs a → IsBasisOfParts n bs a hs →
+    AreEverLifted n bs a hs ls → HasPositiveWeight n ls
 lifts_marked n bs a hs ls c p l = (lifts_are_basis n bs a hs ls c p l).marked
 
-pub realisable : (n : ℕ) (bs : List MarkedPolynomial) (a : List ℤ) (hs ls : List MarkedPolynomial) → IsCrossing n bs a → IsBasisOfParts n bs a hs → AreEverLifted n bs a hs ls → IsRealisable n ls
+pub realisable : (n : ℕ) (bs : List MarkedPolynomial) (a : List ℤ) (hs ls : List MarkedPolynomial) → IsCrossing n bs a → IsBasisOfParts n bs a hs →
+    AreEverLifted n bs a hs ls → IsRealisable n ls
 realisable n bs a hs ls c p l =
     let m = lifts_marked n bs a hs ls c p l in
     (m.0, m.1, λ d k. realised_of_marked m.0 d (m.2 d k))
 
 -- and apart
-pub lifts_apart : (n : ℕ) (bs : List MarkedPolynomial) (a : List ℤ) (hs ls : List MarkedPolynomial) → IsCrossing n bs a → IsBasisOfParts n bs a hs → AreEverLifted n bs a hs ls → AreApart ls
-lifts_apart n bs a hs ls c p l = matched-apart (IsLifted n c.generators c.flippable.point) hs ls (λ d e q. q.head) (l.at c.generators c.region c.variables c.basis c.flippable) p.reduced.heads
+pub lifts_apart : (n : ℕ) (bs : List MarkedPolynomial) (a : List ℤ) (hs ls : List MarkedPolynomial) → IsCrossing n bs a → IsBasisOfParts n bs a hs →
+    AreEverLifted n bs a hs ls → AreApart ls
+lifts_apart n bs a hs ls c p l = matched-apart (IsLifted n c.generators c.flippable.point) hs ls (λ d e q. q.head)
+    (l.at c.generators c.region c.variables c.basis c.flippable) p.reduced.heads
 
 -- ---- each of them is needed
 
 not_multiple : (x y : Exponents) → NoMultiple x y → Divides x y → ⊥
-not_multiple x y n d = let f : same y (plus x d.rest) ≡ false = n d.rest in let t : same y (plus x d.rest) ≡ true = ap (same y) (plus_comm x d.rest) ∙ d.product in absurd (cc)
+not_multiple x y n d = let f : same y (plus x d.rest) ≡ false = n d.rest in let t : same y (plus x d.rest) ≡ true =
+    ap (same y) (plus_comm x d.rest) ∙ d.product in absurd (cc)
 
 pub one_place : (bs : List MarkedPolynomial) (i j : ℕ) (b c : MarkedPolynomial) → AreApart bs → IsAt bs i b → IsAt bs j c →
     Divides c.head b.head → i ≡ j
 one_place [] i j b c a p q d = absurd (omega (arith, p.within))
 one_place (e ∷ bs) zero zero b c a p q d = refl
-one_place (e ∷ bs) zero (suc j) b c a p q d = absurd (not_multiple c.head b.head (subst (λ (z : MarkedPolynomial). NoMultiple c.head z.head) p.is (contained_each (λ (z : MarkedPolynomial). NoMultiple e.head z.head × NoMultiple z.head e.head) bs a.0 c (j, omega (arith, q.within), q.is)).1) d)
-one_place (e ∷ bs) (suc i) zero b c a p q d = absurd (not_multiple c.head b.head (subst (λ (z : MarkedPolynomial). NoMultiple z.head b.head) q.is (contained_each (λ (z : MarkedPolynomial). NoMultiple e.head z.head × NoMultiple z.head e.head) bs a.0 b (i, omega (arith, p.within), p.is)).0) d)
-one_place (e ∷ bs) (suc i) (suc j) b c a p q d = ap suc (one_place bs i j b c a.1 (record { within = omega (arith, p.within); is = p.is }) (record { within = omega (arith, q.within); is = q.is }) d)
+one_place (e ∷ bs) zero (suc j) b c a p q d = absurd (not_multiple c.head b.head (subst (λ (z : MarkedPolynomial). NoMultiple c.head z.head) p.is
+    (contained_each (λ (z : MarkedPolynomial). NoMultiple e.head z.head × NoMultiple z.head e.head) bs a.0 c (j, omega (arith, q.within), q.is)).1) d)
+one_place (e ∷ bs) (suc i) zero b c a p q d = absurd (not_multiple c.head b.head (subst (λ (z : MarkedPolynomial). NoMultiple z.head b.head) q.is
+    (contained_each (λ (z : MarkedPolynomial). NoMultiple e.head z.head × NoMultiple z.head e.head) bs a.0 b (i, omega (arith, p.within), p.is)).0) d)
+one_place (e ∷ bs) (suc i) (suc j) b c a p q d =
+    ap suc (one_place bs i j b c a.1 (record { within = omega (arith, p.within); is = p.is }) (record { within = omega (arith, q.within); is = q.is }) d)
 
 itself : (b c : MarkedPolynomial) → c ≡ b → IsTwin b c
 itself b c e = subst (λ (z : MarkedPolynomial). IsTwin b z) (sym e) (record { head = same-refl b.head; poly = λ x. refl })
@@ -154,7 +180,8 @@ needed_same bs ks a one n = record {
         same_at : (i j : ℕ) (b c : MarkedPolynomial) → IsAt bs i b → IsAt bs j c → i ≡ j → same c.head b.head ≡ true
         same_at i j b c p q e = subst (λ (z : MarkedPolynomial). same z.head b.head ≡ true) (equal bs i j b c p.within p.is q.is e) (same-refl b.head)
           where
-            equal : (bs : List MarkedPolynomial) (i j : ℕ) (b c : MarkedPolynomial) → i < length bs → slice_index_or bs i b ≡ b → slice_index_or bs j c ≡ c → i ≡ j → b ≡ c
+            equal : (bs : List MarkedPolynomial) (i j : ℕ) (b c : MarkedPolynomial) → i < length bs → slice_index_or bs i b ≡ b → slice_index_or bs j c ≡ c →
+                i ≡ j → b ≡ c
             equal [] i j b c l p q e = absurd (omega arith)
             equal (d ∷ bs) zero zero b c l p q e = sym p ∙ q
             equal (d ∷ bs) zero (suc j) b c l p q e = absurd (omega arith)
@@ -164,10 +191,11 @@ needed_same bs ks a one n = record {
 -- ---- the neighbour
 
 -- the lifts, or equal members, their tails reduced, arranged
-pub neighbour : (n : ℕ) (bs : List MarkedPolynomial) (a : List ℤ) (hs ls ks ts cs : List MarkedPolynomial) → IsBasisOfParts n bs a hs → AreEverLifted n bs a hs ls →
-    AreSameBasis ls ks → AreApart ks → AreReducedTails ks ks ts → IsPermutation ts cs → AreArranged n cs → IsNeighbour n bs a cs
+pub neighbour : (n : ℕ) (bs : List MarkedPolynomial) (a : List ℤ) (hs ls ks ts cs : List MarkedPolynomial) → IsBasisOfParts n bs a hs →
+    AreEverLifted n bs a hs ls → AreSameBasis ls ks → AreApart ks → AreReducedTails ks ks ts → IsPermutation ts cs → AreArranged n cs → IsNeighbour n bs a cs
 neighbour n bs a hs ls ks ts cs p l twins heads tails moved o = record {
-  at = λ gs k vars b f. crossed n gs k bs p.along.parts hs ls ks ts cs a f.point vars b f.region f.inside p.along.each (reduced_parts n bs a hs p) (l.at gs k vars b f) twins heads tails moved o;
+  at = λ gs k vars b f. crossed n gs k bs p.along.parts hs ls ks ts cs a f.point vars b f.region f.inside p.along.each (reduced_parts n bs a hs p)
+      (l.at gs k vars b f) twins heads tails moved o;
 }
 
 -- ---- values under other names
@@ -175,14 +203,16 @@ neighbour n bs a hs ls ks ts cs p l twins heads tails moved o = record {
 pub have_at : (n m : ℕ) (bs items : List MarkedPolynomial) → HaveVariables n bs → items ≡ bs → m ≡ n → HaveVariables m items
 have_at n m bs items v e q = subst (λ (z : ℕ). HaveVariables z items) (sym q) (subst (HaveVariables n) (sym e) v)
 
-pub realisable_at : (n m : ℕ) (bs : List MarkedPolynomial) (a : List ℤ) (hs ls : List MarkedPolynomial) (s : MarkedPolynomials) → IsCrossing n bs a → IsBasisOfParts n bs a hs →
-    AreEverLifted n bs a hs ls → m ≡ n → s ≡ record { variables = m; items = ls } → IsRealisable s.variables s.items
+pub realisable_at : (n m : ℕ) (bs : List MarkedPolynomial) (a : List ℤ) (hs ls : List MarkedPolynomial) (s : MarkedPolynomials) → IsCrossing n bs a →
+    IsBasisOfParts n bs a hs → AreEverLifted n bs a hs ls → m ≡ n → s ≡ record { variables = m; items = ls } → IsRealisable s.variables s.items
 realisable_at n m bs a hs ls s c p l e q =
     subst (λ (z : MarkedPolynomials). IsRealisable z.variables z.items) (sym q) (subst (λ (z : ℕ). IsRealisable z ls) (sym e) (realisable n bs a hs ls c p l))
 
-pub neighbour_at : (n m : ℕ) (bs : List MarkedPolynomial) (a : List ℤ) (hs ls : List MarkedPolynomial) (s t : MarkedPolynomials) → IsCrossing n bs a → IsBasisOfParts n bs a hs →
-    AreEverLifted n bs a hs ls → m ≡ n → s ≡ record { variables = m; items = ls } → IsAutoreduced s t → AreArranged s.variables t.items → IsNeighbour n bs a t.items
+pub neighbour_at : (n m : ℕ) (bs : List MarkedPolynomial) (a : List ℤ) (hs ls : List MarkedPolynomial) (s t : MarkedPolynomials) → IsCrossing n bs a →
+    IsBasisOfParts n bs a hs → AreEverLifted n bs a hs ls → m ≡ n → s ≡ record { variables = m; items = ls } → IsAutoreduced s t →
+    AreArranged s.variables t.items → IsNeighbour n bs a t.items
 neighbour_at n m bs a hs ls s t c p l e q w o =
     neighbour n bs a hs ls w.forms w.tails t.items p l
-    (needed_same ls w.forms (lifts_apart n bs a hs ls c p l) (λ b k. ((lifts_marked n bs a hs ls c p l).2 b k).monic) (subst (λ (z : MarkedPolynomials). AreNeededForms z.items w.forms) q w.needed))
+    (needed_same ls w.forms (lifts_apart n bs a hs ls c p l) (λ b k. ((lifts_marked n bs a hs ls c p l).2 b k).monic)
+    (subst (λ (z : MarkedPolynomials). AreNeededForms z.items w.forms) q w.needed))
     w.needed.apart w.reduced w.arranged.members (subst (λ (z : ℕ). AreArranged z t.items) (ap (λ (z : MarkedPolynomials). z.variables) q ∙ e) o)

@@ -14,7 +14,8 @@ use Rattle.gf_division.specs.Steps.{IsReductionRefusal}
 use Rattle.gf_lifts.specs.LiftRefusals.{IsLiftOperation, IsLiftRefusal, IsLiftsRefusal}
 
 -- the reduction of a member
-pub remainder_refused : (bs : List MarkedPolynomial) (h : MarkedPolynomial) (f : Terms) (e : PolyError) → f ≡ h.poly → IsReductionRefusal bs f e → IsLiftRefusal bs h e
+pub remainder_refused : (bs : List MarkedPolynomial) (h : MarkedPolynomial) (f : Terms) (e : PolyError) → f ≡ h.poly → IsReductionRefusal bs f e →
+    IsLiftRefusal bs h e
 remainder_refused bs h f e q r = at e (subst (λ (z : Terms). IsReductionRefusal bs z e) q r)
   where
     at : (e : PolyError) → IsReductionRefusal bs h.poly e → IsLiftRefusal bs h e

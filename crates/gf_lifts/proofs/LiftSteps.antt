@@ -26,12 +26,19 @@ none_at_mark bs h r l f = l.none r (normal_form-reached bs h.poly r f.reached) f
 -- the mark is a monomial of the difference
 pub lift_there : (bs : List MarkedPolynomial) (h : MarkedPolynomial) (r p : Terms) → IsLiftable bs h → IsNormalForm bs h.poly r →
     IsDifference h.poly r p → HasMonomial p h.head
-lift_there bs h r p l f d z = one_not_zero (sym (d h.head ∙ ap (λ c. c +ℚ neg_ℚ (coefficient r h.head)) l.monic ∙ ap (λ c. one_ℚ +ℚ neg_ℚ c) (none_at_mark bs h r l f) ∙ less_zero one_ℚ) ∙ z)
+lift_there bs h r p l f d z = one_not_zero (sym (d h.head ∙ ap (λ c. c +ℚ neg_ℚ (coefficient r h.head)) l.monic ∙ ap (λ c. one_ℚ +ℚ neg_ℚ c)
+    (none_at_mark bs h r l f) ∙ less_zero one_ℚ) ∙ z)
 
 -- which is the lift
 pub lifted_member : (bs : List MarkedPolynomial) (h l : MarkedPolynomial) (r p : Terms) → IsNormalForm bs h.poly r → IsDifference h.poly r p →
     l.poly ≡ p → l.head ≡ h.head → IsLift bs h l
-lifted_member bs h l r p f d e k = record { remainder = r; reached = normal_form-reached bs h.poly r f.reached; irreducible = f.irreducible; head = k; poly = λ x. ap (λ g. coefficient g x) e ∙ d x ∙ sym (difference h.poly r x) }
+lifted_member bs h l r p f d e k = record {
+  remainder = r;
+  reached = normal_form-reached bs h.poly r f.reached;
+  irreducible = f.irreducible;
+  head = k;
+  poly = λ x. ap (λ g. coefficient g x) e ∙ d x ∙ sym (difference h.poly r x);
+}
 
 -- ---- all
 
@@ -55,8 +62,8 @@ variables_at : (n : ℕ) (h : MarkedPolynomial) (g r p : Terms) → g ≡ h.poly
 variables_at n h g r p e k v w = k.at n (subst (HasVariables n) (sym e) v) w
 
 -- the difference has the variables
-pub place_variables : (n : ℕ) (h : MarkedPolynomial) (g r p t : Terms) (x : Exponents) → g ≡ h.poly → KeepsBothVariables g r p → HasVariables n h.poly → HasVariables n r →
-    t ≡ p → x ≡ h.head → HasMarkedTerm h → HasVariables (length x) t
+pub place_variables : (n : ℕ) (h : MarkedPolynomial) (g r p t : Terms) (x : Exponents) → g ≡ h.poly → KeepsBothVariables g r p → HasVariables n h.poly →
+    HasVariables n r → t ≡ p → x ≡ h.head → HasMarkedTerm h → HasVariables (length x) t
 place_variables n h g r p t x e k v w q f m =
     let l : n ≡ length x = sym (ap (λ (z : Exponents). length z) f ∙ head_length n h v m) in
     subst (λ (z : Terms). HasVariables (length x) z) (sym q) (subst (λ (z : ℕ). HasVariables z p) l (variables_at n h g r p e k v w))
@@ -65,15 +72,17 @@ place_variables n h g r p t x e k v w q f m =
 pub place_there : (bs : List MarkedPolynomial) (h : MarkedPolynomial) (f g r p t : Terms) (x : Exponents) → f ≡ h.poly → g ≡ h.poly → IsLiftable bs h →
     IsNormalForm bs f r → IsDifference g r p → t ≡ p → x ≡ h.head → HasMonomial t x
 place_there bs h f g r p t x e d l n i q y z =
-    lift_there bs h r p l (subst (λ (w : Terms). IsNormalForm bs w r) e n) (subst (λ (w : Terms). IsDifference w r p) d i) (ap (λ (w : Terms). coefficient w h.head) (sym q) ∙ ap (λ (w : Exponents). coefficient t w) (sym y) ∙ z)
+    lift_there bs h r p l (subst (λ (w : Terms). IsNormalForm bs w r) e n) (subst (λ (w : Terms). IsDifference w r p) d i)
+    (ap (λ (w : Terms). coefficient w h.head) (sym q) ∙ ap (λ (w : Exponents). coefficient t w) (sym y) ∙ z)
 
 -- so it is the lift
 pub lift_at : (bs : List MarkedPolynomial) (h l : MarkedPolynomial) (f g r p t : Terms) (x : Exponents) (i : ℕ) → f ≡ h.poly → g ≡ h.poly →
     IsNormalForm bs f r → IsDifference g r p → t ≡ p → x ≡ h.head → head_of t i ≡ x → l ≡ record { poly = p; head = head_of p i } → IsLift bs h l
 lift_at bs h l f g r p t x i e d n k q y m o =
-    lifted_member bs h l r p (subst (λ (w : Terms). IsNormalForm bs w r) e n) (subst (λ (w : Terms). IsDifference w r p) d k) (ap (λ (w : MarkedPolynomial). w.poly) o) (ap (λ (w : MarkedPolynomial). w.head) o ∙ ap (λ (w : Terms). head_of w i) (sym q) ∙ m ∙ y)
+    lifted_member bs h l r p (subst (λ (w : Terms). IsNormalForm bs w r) e n) (subst (λ (w : Terms). IsDifference w r p) d k)
+    (ap (λ (w : MarkedPolynomial). w.poly) o) (ap (λ (w : MarkedPolynomial). w.head) o ∙ ap (λ (w : Terms). head_of w i) (sym q) ∙ m ∙ y)
 
 -- in the variables
-pub lift_variables : (n : ℕ) (h l : MarkedPolynomial) (g r p : Terms) (x : Exponents) → g ≡ h.poly → KeepsBothVariables g r p → HasVariables n h.poly → HasVariables n r →
-    l ≡ record { poly = p; head = x } → HasVariables n l.poly
+pub lift_variables : (n : ℕ) (h l : MarkedPolynomial) (g r p : Terms) (x : Exponents) → g ≡ h.poly → KeepsBothVariables g r p → HasVariables n h.poly →
+    HasVariables n r → l ≡ record { poly = p; head = x } → HasVariables n l.poly
 lift_variables n h l g r p x e k v w o = subst (HasVariables n) (sym (ap (λ (z : MarkedPolynomial). z.poly) o)) (variables_at n h g r p e k v w)

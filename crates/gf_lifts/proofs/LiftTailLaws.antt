@@ -1,7 +1,8 @@
 -- Tails of lifts: which stay as they are, and that the others are reduced by all of them.
 -- To cite: copied_to-more, undivided-start, undivided-end, ArePassed, passed_at, passed_more, stays_at, copies_more, copies-length, copied_at,
 -- undivided_along, stay_reduced.
-use Rattle.std.proofs.Common.{◌≡◌, ◌⊎◌, ℕ, zero, suc, ◌+◌, ◌<◌, ◌≤◌, Bool, true, false, List, [], ◌∷◌, ◌++◌, length, take, get_or, Contains, arith, refl, sym, ap, ◌∙◌, subst, inl, inr, eqb}
+use Rattle.std.proofs.Common.{◌≡◌, ◌⊎◌, ℕ, zero, suc, ◌+◌, ◌<◌, ◌≤◌, Bool, true, false, List, [], ◌∷◌, ◌++◌, length, take, get_or, Contains, arith, refl, sym}
+use Rattle.std.proofs.Common.{ap, ◌∙◌, subst, inl, inr, eqb}
 use Rattle.std.proofs.lemmas.Bool.{cases_eq, cases_lt, ne_eqb, false≢true}
 use Rattle.std.proofs.lemmas.List.{take_more, take_all, get_or_default}
 use Rattle.gf_exponents_theory.specs.Exponents.{Exponents, same, plus, Divides}
@@ -31,15 +32,17 @@ copied_to-more flags j e h k l = at (cases_lt k j)
     at (inr m) = subst (λ (z : ℕ). get_or flags z false ≡ true) (omega (arith, l, m)) e
 
 -- before the first place of those that are tried nothing divides that is tried
-pub undivided-start : (ls : List MarkedPolynomial) (flags : List Bool) (copied : Bool) (x : Exponents) (first end : ℕ) → AreSparedBeside flags copied first end → AreUndivided ls flags copied x first
+pub undivided-start : (ls : List MarkedPolynomial) (flags : List Bool) (copied : Bool) (x : Exponents) (first end : ℕ) →
+    AreSparedBeside flags copied first end → AreUndivided ls flags copied x first
 undivided-start ls flags copied x first end s = record { none = λ j b l a n d. n (s.front j l).0 (s.front j l).1 }
 
 -- nor from the end on
-pub undivided-end : (ls : List MarkedPolynomial) (flags : List Bool) (copied : Bool) (x : Exponents) (first end i : ℕ) → length flags ≡ length ls → AreSparedBeside flags copied first end → end ≤ i →
-    AreUndivided ls flags copied x i → AreUndivided ls flags copied x (length ls)
+pub undivided-end : (ls : List MarkedPolynomial) (flags : List Bool) (copied : Bool) (x : Exponents) (first end i : ℕ) → length flags ≡ length ls →
+    AreSparedBeside flags copied first end → end ≤ i → AreUndivided ls flags copied x i → AreUndivided ls flags copied x (length ls)
 undivided-end ls flags copied x first end i e s l u = record { none = λ j b m a n d. at j b m a n d (cases_lt j i) }
   where
-    at : (j : ℕ) (b : MarkedPolynomial) → j < length ls → IsAt ls j b → (copied ≡ true → get_or flags j false ≡ true → ⊥) → Divides b.head x → (j < i) ⊎ (i ≤ j) → ⊥
+    at : (j : ℕ) (b : MarkedPolynomial) → j < length ls → IsAt ls j b → (copied ≡ true → get_or flags j false ≡ true → ⊥) → Divides b.head x →
+        (j < i) ⊎ (i ≤ j) → ⊥
     at j b m a n d (inl r) = u.none j b r a n d
     at j b m a n d (inr r) = let w = s.back j (omega (arith, l, r)) (omega (arith, m, e)) in n w.0 w.1
 
@@ -64,7 +67,8 @@ passed_at ls flags copied b k m f t q l e h n = at (cases_eq k m)
 
 pub passed_more : (ls : List MarkedPolynomial) (flags : List Bool) (copied : Bool) (x : Exponents) (k : ℕ) (f : Terms) (t : Term) → k < length f →
     t ≡ get_or f k t → IsPassed ls flags copied x t → ArePassed ls flags copied x k f → ArePassed ls flags copied x (k + 1) f
-passed_more ls flags copied x k f t l e p h = subst (Each (IsPassed ls flags copied x)) (sym (take_more f k t l ∙ ap (λ (z : Term). take k f ++ z ∷ []) (sym e)))
+passed_more ls flags copied x k f t l e p h =
+    subst (Each (IsPassed ls flags copied x)) (sym (take_more f k t l ∙ ap (λ (z : Term). take k f ++ z ∷ []) (sym e)))
     (Each-++ (IsPassed ls flags copied x) (take k f) (t ∷ []) h (p, tt))
 
 -- all of them are
@@ -81,9 +85,10 @@ stays_at ls flags i b k f a m q n h = record {
 
 -- ---- copies
 
-pub copies_more : (bs ls new : List MarkedPolynomial) (flags more : List Bool) (l : MarkedPolynomial) (f : Bool) → IsCopy bs l f → new ≡ ls ++ l ∷ [] → more ≡ flags ++ f ∷ [] →
-    AreCopies bs ls flags → AreCopies bs new more
-copies_more bs ls new flags more l f k e q h = subst (λ (z : List MarkedPolynomial). AreCopies bs z more) (sym e) (subst (AreCopies bs (ls ++ l ∷ [])) (sym q) (matched-push (IsCopy bs) ls flags l f h k))
+pub copies_more : (bs ls new : List MarkedPolynomial) (flags more : List Bool) (l : MarkedPolynomial) (f : Bool) → IsCopy bs l f → new ≡ ls ++ l ∷ [] →
+    more ≡ flags ++ f ∷ [] → AreCopies bs ls flags → AreCopies bs new more
+copies_more bs ls new flags more l f k e q h = subst (λ (z : List MarkedPolynomial). AreCopies bs z more) (sym e)
+    (subst (AreCopies bs (ls ++ l ∷ [])) (sym q) (matched-push (IsCopy bs) ls flags l f h k))
 
 pub copies-length : (bs ls : List MarkedPolynomial) (flags : List Bool) → AreCopies bs ls flags → length flags ≡ length ls
 copies-length bs [] [] h = refl
@@ -91,7 +96,8 @@ copies-length bs [] (f ∷ flags) h = elim h [ ]
 copies-length bs (l ∷ ls) [] h = elim h [ ]
 copies-length bs (l ∷ ls) (f ∷ flags) h = ap suc (copies-length bs ls flags h.1)
 
-pub copied_at : (bs ls : List MarkedPolynomial) (flags : List Bool) (j : ℕ) (d : MarkedPolynomial) → AreCopies bs ls flags → IsAt ls j d → get_or flags j false ≡ true → Contains bs d
+pub copied_at : (bs ls : List MarkedPolynomial) (flags : List Bool) (j : ℕ) (d : MarkedPolynomial) → AreCopies bs ls flags → IsAt ls j d →
+    get_or flags j false ≡ true → Contains bs d
 copied_at bs [] flags j d h a e = absurd (omega (arith, a.within))
 copied_at bs (l ∷ ls) [] j d h a e = elim h [ ]
 copied_at bs (l ∷ ls) (f ∷ flags) zero d h a e = subst (Contains bs) a.is (subst (IsCopy bs l) e h.0)
@@ -125,8 +131,10 @@ stay_reduced bs ls flags i b r h u a x m d = at (listed (IsPassed ls flags (get_
         over : Divides d.member.head t.0.mono
         over = record { rest = d.rest; product = sym (same_along x t.0.mono (plus d.rest d.member.head) t.2) ∙ d.divides }
 
-        both : AreUndivided ls flags (get_or flags i false) t.0.mono (length ls) → (p : Bool) → get_or flags i false ≡ p → (q : Bool) → get_or flags d.contained.0 false ≡ q → same x b.head ≡ true
-        both n true e true f = r b (copied_at bs ls flags i b h a e) x m (record { member = d.member; contained = copied_at bs ls flags d.contained.0 d.member h place f; rest = d.rest; divides = d.divides })
+        both : AreUndivided ls flags (get_or flags i false) t.0.mono (length ls) → (p : Bool) → get_or flags i false ≡ p → (q : Bool) →
+            get_or flags d.contained.0 false ≡ q → same x b.head ≡ true
+        both n true e true f = r b (copied_at bs ls flags i b h a e) x m
+            (record { member = d.member; contained = copied_at bs ls flags d.contained.0 d.member h place f; rest = d.rest; divides = d.divides })
         both n true e false f = absurd (n.none d.contained.0 d.member d.contained.1 place (λ s t. absurd (false≢true (sym f ∙ t))) over)
         both n false e q f = absurd (n.none d.contained.0 d.member d.contained.1 place (λ s t. absurd (false≢true (sym e ∙ s))) over)
 

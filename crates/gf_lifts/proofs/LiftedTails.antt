@@ -1,6 +1,7 @@
 -- A lift whose tail is reduced by lifts is a lift: what is taken away is lighter.
 -- To cite: lifted_tail, ever_turned.
-use Rattle.std.proofs.Common.{◌≡◌, ◌⊎◌, ℕ, zero, suc, Bool, true, false, Some, List, [], ◌∷◌, set, Contains, ℤ, pos, ◌<ℤ◌, ◌≤ℤ◌, arith, refl, sym, ap, ◌∙◌, subst, inl, inr}
+use Rattle.std.proofs.Common.{◌≡◌, ◌⊎◌, ℕ, zero, suc, Bool, true, false, Some, List, [], ◌∷◌, set, Contains, ℤ, pos, ◌<ℤ◌, ◌≤ℤ◌, arith, refl, sym, ap, ◌∙◌}
+use Rattle.std.proofs.Common.{subst, inl, inr}
 use Rattle.std.proofs.lemmas.Bool.{false≢true}
 use Rattle.std.proofs.lemmas.Int.{ints}
 use Rattle.gf_frac.specs.Fraction.{◌+ℚ◌, neg_ℚ, zero_ℚ}
@@ -31,11 +32,12 @@ use Rattle.gf_lifts.specs.LiftTails.{IsReducedLift, IsNextInTurn, AreTailsInTurn
 use Rattle.gf_lifts.proofs.CrossingMath.{parts_of, AreEverLifted}
 
 -- what one step at an unmarked monomial leads to
-lifted_step : (n : ℕ) (fs : List Terms) (v a : List ℤ) (hs ks : List MarkedPolynomial) (h : MarkedPolynomial) (x : Exponents) (f g : Terms) → AreInVariables n fs →
-    dot a v ≡ pos 0 → IsNonzero a → AreMarked (IsFurther a) hs → HasReducedTails hs → AreLifted n fs v hs ks → Contains hs h → (s : IsStep (Contains ks) f g) →
-    same s.at x ≡ false → IsLifted n fs v h (record { poly = f; head = x }) → IsLifted n fs v h (record { poly = g; head = x })
+lifted_step : (n : ℕ) (fs : List Terms) (v a : List ℤ) (hs ks : List MarkedPolynomial) (h : MarkedPolynomial) (x : Exponents) (f g : Terms) →
+    AreInVariables n fs → dot a v ≡ pos 0 → IsNonzero a → AreMarked (IsFurther a) hs → HasReducedTails hs → AreLifted n fs v hs ks → Contains hs h →
+    (s : IsStep (Contains ks) f g) → same s.at x ≡ false → IsLifted n fs v h (record { poly = f; head = x }) → IsLifted n fs v h (record { poly = g; head = x })
 lifted_step n fs v a hs ks h x f g vars o nz further tails lifts c s u t = record {
-  member = member-reached n fs (Contains ks) f g vars (λ b k. (matched-from (IsLifted n fs v) hs ks lifts b k).2.member) (reached-one (Contains ks) f g s) t.member;
+  member = member-reached n fs (Contains ks) f g vars (λ b k. (matched-from (IsLifted n fs v) hs ks lifts b k).2.member) (reached-one (Contains ks) f g s)
+      t.member;
   head = t.head;
   form = record {
     heaviest = λ y k.
@@ -71,7 +73,12 @@ lifted_step n fs v a hs ks h x f g vars o nz further tails lifts c s u t = recor
         level e =
             let q = matched-from (IsLifted n fs v) hs ks lifts s.member s.contained in
             let m : HasMonomial h.poly s.at = λ z. s.there (sym (t.form.heaviest s.at (λ y k. omega (arith, ints, top y k, e))) ∙ z) in
-            let d : same s.at h.head ≡ true = tails h c s.at m (record { member = q.0; contained = q.1; rest = s.rest; divides = subst (λ (z : Exponents). same s.at (plus s.rest z) ≡ true) q.2.head s.divides }) in
+            let d : same s.at h.head ≡ true = tails h c s.at m (record {
+              member = q.0;
+              contained = q.1;
+              rest = s.rest;
+              divides = subst (λ (z : Exponents). same s.at (plus s.rest z) ≡ true) q.2.head s.divides;
+            }) in
             false≢true (sym u ∙ ap (same s.at) t.head ∙ d)
 
         at : (whole_weight v s.at <ℤ whole_weight v h.head) ⊎ ((whole_weight v s.at ≡ whole_weight v h.head) ⊎ (whole_weight v h.head <ℤ whole_weight v s.at)) →
@@ -91,7 +98,8 @@ lifted_step n fs v a hs ks h x f g vars o nz further tails lifts c s u t = recor
 
     -- so is all that it takes away
     under : IsWithin (λ (y : Exponents). whole_weight v y <ℤ whole_weight v h.head) (times (neg_ℚ (coefficient f s.at)) s.rest s.member.poly)
-    under = multiple_within (Contains ks) (λ (y : Exponents). whole_weight v y <ℤ whole_weight v h.head) s.member (neg_ℚ (coefficient f s.at)) s.rest closed s.contained
+    under = multiple_within (Contains ks) (λ (y : Exponents). whole_weight v y <ℤ whole_weight v h.head) s.member (neg_ℚ (coefficient f s.at))
+        s.rest closed s.contained
         (closed.along s.at (plus s.rest s.member.head) s.divides lower)
 
     -- and what isn't lighter stays
@@ -99,7 +107,10 @@ lifted_step n fs v a hs ks h x f g vars o nz further tails lifts c s u t = recor
     kept y d = s.equal y ∙ coefficient-++ f (times (neg_ℚ (coefficient f s.at)) s.rest s.member.poly) y ∙ ap (λ z. coefficient f y +ℚ z) none ∙ +ℚ-zero _
       where
         none : coefficient (times (neg_ℚ (coefficient f s.at)) s.rest s.member.poly) y ≡ zero_ℚ
-        none = elim (zero_or_not (coefficient (times (neg_ℚ (coefficient f s.at)) s.rest s.member.poly) y)) [ inl z ↦ z | inr k ↦ absurd (omega (arith, ints, under y k, d)) ]
+        none = elim (zero_or_not (coefficient (times (neg_ℚ (coefficient f s.at)) s.rest s.member.poly) y)) [
+          | inl z ↦ z
+          | inr k ↦ absurd (omega (arith, ints, under y k, d))
+        ]
 
     there : HasMonomial g h.head
     there z = before (sym (kept h.head (omega (arith, ints))) ∙ z)
@@ -115,8 +126,8 @@ lifted_step n fs v a hs ks h x f g vars o nz further tails lifts c s u t = recor
 
 -- what steps at unmarked monomials lead to
 pub lifted_tail : (n : ℕ) (fs : List Terms) (v a : List ℤ) (hs ks : List MarkedPolynomial) (h l : MarkedPolynomial) (g : Terms) → AreInVariables n fs →
-    dot a v ≡ pos 0 → IsNonzero a → AreMarked (IsFurther a) hs → HasReducedTails hs → AreLifted n fs v hs ks → Contains hs h → ReachedBeside ks (Some l.head) l.poly g →
-    IsLifted n fs v h l → IsLifted n fs v h (record { poly = g; head = l.head })
+    dot a v ≡ pos 0 → IsNonzero a → AreMarked (IsFurther a) hs → HasReducedTails hs → AreLifted n fs v hs ks → Contains hs h →
+    ReachedBeside ks (Some l.head) l.poly g → IsLifted n fs v h l → IsLifted n fs v h (record { poly = g; head = l.head })
 lifted_tail n fs v a hs ks h l g vars o nz further tails lifts c ReachedBeside.here t = t
 lifted_tail n fs v a hs ks h l g vars o nz further tails lifts c (ReachedBeside.next f k r s u d) t =
     lifted_step n fs v a hs ks h l.head f g vars o nz further tails lifts c s u (lifted_tail n fs v a hs ks h l f vars o nz further tails lifts c r t)
@@ -133,23 +144,26 @@ matched-set R (x ∷ xs) (y ∷ ys) zero c m h = (h x y (zero, omega arith, refl
 matched-set R (x ∷ xs) (y ∷ ys) (suc i) c m h =
     (m.0, matched-set R xs ys i c m.1 (λ z w k p r. h z w (suc k.0, omega (arith, k.1), k.2) (record { within = omega (arith, p.within); is = p.is }) r))
 
-lifted_next : (n : ℕ) (fs : List Terms) (v a : List ℤ) (hs ms ns : List MarkedPolynomial) (flags : List Bool) (i : ℕ) → AreInVariables n fs →
-    dot a v ≡ pos 0 → IsNonzero a → AreMarked (IsFurther a) hs → HasReducedTails hs → IsNextInTurn ms flags i ns → AreLifted n fs v hs ms → AreLifted n fs v hs ns
+lifted_next : (n : ℕ) (fs : List Terms) (v a : List ℤ) (hs ms ns : List MarkedPolynomial) (flags : List Bool) (i : ℕ) → AreInVariables n fs → dot a v ≡ pos 0 →
+    IsNonzero a → AreMarked (IsFurther a) hs → HasReducedTails hs → IsNextInTurn ms flags i ns → AreLifted n fs v hs ms → AreLifted n fs v hs ns
 lifted_next n fs v a hs ms ns flags i vars o nz further tails (inl s) lifts = subst (AreLifted n fs v hs) (sym s.0) lifts
-lifted_next n fs v a hs ms ns flags i vars o nz further tails (inr x) lifts = subst (AreLifted n fs v hs) (sym x.2) (matched-set (IsLifted n fs v) hs ms i x.0 lifts (λ h l c p t. put h l c (x.1.at l p) t))
+lifted_next n fs v a hs ms ns flags i vars o nz further tails (inr x) lifts =
+    subst (AreLifted n fs v hs) (sym x.2) (matched-set (IsLifted n fs v) hs ms i x.0 lifts (λ h l c p t. put h l c (x.1.at l p) t))
   where
     put : (h l : MarkedPolynomial) → Contains hs h → IsReducedLift ms l x.0 → IsLifted n fs v h l → IsLifted n fs v h x.0
-    put h l c r t = subst (λ (z : Exponents). IsLifted n fs v h (record { poly = x.0.poly; head = z })) (sym r.head) (lifted_tail n fs v a hs ms h l x.0.poly vars o nz further tails lifts c r.reached t)
+    put h l c r t = subst (λ (z : Exponents). IsLifted n fs v h (record { poly = x.0.poly; head = z })) (sym r.head)
+        (lifted_tail n fs v a hs ms h l x.0.poly vars o nz further tails lifts c r.reached t)
 
-lifted_turned : (n : ℕ) (fs : List Terms) (v a : List ℤ) (hs ls : List MarkedPolynomial) (flags : List Bool) (i : ℕ) (ms : List MarkedPolynomial) → AreInVariables n fs →
-    dot a v ≡ pos 0 → IsNonzero a → AreMarked (IsFurther a) hs → HasReducedTails hs → AreTailsInTurn ls flags i ms → AreLifted n fs v hs ls → AreLifted n fs v hs ms
+lifted_turned : (n : ℕ) (fs : List Terms) (v a : List ℤ) (hs ls : List MarkedPolynomial) (flags : List Bool) (i : ℕ) (ms : List MarkedPolynomial) →
+    AreInVariables n fs → dot a v ≡ pos 0 → IsNonzero a → AreMarked (IsFurther a) hs → HasReducedTails hs → AreTailsInTurn ls flags i ms →
+    AreLifted n fs v hs ls → AreLifted n fs v hs ms
 lifted_turned n fs v a hs ls flags i ms vars o nz further tails AreTailsInTurn.none lifts = lifts
 lifted_turned n fs v a hs ls flags i ns vars o nz further tails (AreTailsInTurn.more j ms ks t l x) lifts =
     lifted_next n fs v a hs ms ns flags j vars o nz further tails x (lifted_turned n fs v a hs ls flags j ms vars o nz further tails t lifts)
 
 -- lifts of which tails are reduced one after another are lifts
-pub ever_turned : (n : ℕ) (bs : List MarkedPolynomial) (a : List ℤ) (hs ls : List MarkedPolynomial) (flags : List Bool) (i : ℕ) (ms : List MarkedPolynomial) → IsBasisOfParts n bs a hs →
-    AreTailsInTurn ls flags i ms → AreEverLifted n bs a hs ls → AreEverLifted n bs a hs ms
+pub ever_turned : (n : ℕ) (bs : List MarkedPolynomial) (a : List ℤ) (hs ls : List MarkedPolynomial) (flags : List Bool) (i : ℕ) (ms : List MarkedPolynomial) →
+    IsBasisOfParts n bs a hs → AreTailsInTurn ls flags i ms → AreEverLifted n bs a hs ls → AreEverLifted n bs a hs ms
 ever_turned n bs a hs ls flags i ms p t l = record {
   at = λ gs k vars b f.
       let q = parts_of n bs a hs p gs k vars b f in

@@ -1,7 +1,8 @@
 -- Lifts with reduced tails, each worked out at once, are lifts: what is taken away is lighter than the mark.
 -- To cite: AreLiftingInTurn, in_turn_none, in_turn_more, in_turn_weight, ever_in_turn, placed_variables, rest_if, rests_more, rest_there, less_by_at,
 -- less_by_kept, lifts_in_more, reduced_as.
-use Rattle.std.proofs.Common.{◌≡◌, ◌⊎◌, ℕ, zero, suc, ◌+◌, ◌<◌, true, List, [], ◌∷◌, ◌++◌, length, take, get_or, Contains, ℤ, pos, ◌<ℤ◌, ◌≤ℤ◌, arith, refl, sym, ap, ◌∙◌, subst, inl, inr, Result, Ok, Err, IfOk, ◌≤◌}
+use Rattle.std.proofs.Common.{◌≡◌, ◌⊎◌, ℕ, zero, suc, ◌+◌, ◌<◌, true, List, [], ◌∷◌, ◌++◌, length, take, get_or, Contains, ℤ, pos, ◌<ℤ◌, ◌≤ℤ◌, arith, refl, sym}
+use Rattle.std.proofs.Common.{ap, ◌∙◌, subst, inl, inr, Result, Ok, Err, IfOk, ◌≤◌}
 use Rattle.std.proofs.lemmas.Int.{ints}
 use Rattle.std.proofs.lemmas.List.{take_more}
 use Rattle.gf_int_theory.proofs.ListLaws.{Contains-last}
@@ -52,9 +53,9 @@ use Rattle.gf_lifts.proofs.LiftSteps.{lift_variables}
 -- ---- a member of the ideal that differs from a lift where terms are lighter
 
 -- it is a lift too
-lifted_beside : (n : ℕ) (fs : List Terms) (v a : List ℤ) (h : MarkedPolynomial) (x : Exponents) (f g : Terms) → dot a v ≡ pos 0 → IsMarked (IsFurther a) h → IsMember n fs g →
-    ((y : Exponents) → whole_weight v h.head ≤ℤ whole_weight v y → coefficient g y ≡ coefficient f y) → IsLifted n fs v h (record { poly = f; head = x }) →
-    IsLifted n fs v h (record { poly = g; head = x })
+lifted_beside : (n : ℕ) (fs : List Terms) (v a : List ℤ) (h : MarkedPolynomial) (x : Exponents) (f g : Terms) → dot a v ≡ pos 0 → IsMarked (IsFurther a) h →
+    IsMember n fs g → ((y : Exponents) → whole_weight v h.head ≤ℤ whole_weight v y → coefficient g y ≡ coefficient f y) →
+    IsLifted n fs v h (record { poly = f; head = x }) → IsLifted n fs v h (record { poly = g; head = x })
 lifted_beside n fs v a h x f g o mark member kept t = record {
   member = member;
   head = t.head;
@@ -118,14 +119,17 @@ less_both h r s v e =
     ∙ ap (λ z. h +ℚ z) (sym (+ℚ_assoc (neg_ℚ r) r (neg_ℚ s)) ∙ ap (λ z. z +ℚ neg_ℚ s) (+ℚ_comm (neg_ℚ r) r ∙ +ℚ-neg_ℚ r) ∙ zero-+ℚ (neg_ℚ s))
 
 -- h less r is in the ideal; so is h less what steps by members lead to from r
-less_member : (n : ℕ) (fs : List Terms) (ks : List MarkedPolynomial) (B : Exponents → Type 0) (h r s : Terms) → AreInVariables n fs → ((b : MarkedPolynomial) → Contains ks b → IsMember n fs b.poly) →
-    IsInVariables n h → IsInVariables n r → Reached (Contains ks) r s → AreTaken (Contains ks) B r s → IsMember n fs (h ++ times (neg_ℚ one_ℚ) [] r) → IsMember n fs (h ++ times (neg_ℚ one_ℚ) [] s)
+less_member : (n : ℕ) (fs : List Terms) (ks : List MarkedPolynomial) (B : Exponents → Type 0) (h r s : Terms) → AreInVariables n fs →
+    ((b : MarkedPolynomial) → Contains ks b → IsMember n fs b.poly) → IsInVariables n h → IsInVariables n r → Reached (Contains ks) r s →
+    AreTaken (Contains ks) B r s → IsMember n fs (h ++ times (neg_ℚ one_ℚ) [] r) → IsMember n fs (h ++ times (neg_ℚ one_ℚ) [] s)
 less_member n fs ks B h r s vars members ring left reached w m =
     member_of_spans n fs (h ++ times (neg_ℚ one_ℚ) [] s) vars
-    (variables-++ n h (times (neg_ℚ one_ℚ) [] s) ring (variables-times n (neg_ℚ one_ℚ) [] s (λ i l. refl) (variables-reached n (Contains ks) r s (λ b k. variables_of_member n fs b.poly vars (members b k)) left reached)))
+    (variables-++ n h (times (neg_ℚ one_ℚ) [] s) ring (variables-times n (neg_ℚ one_ℚ) [] s (λ i l. refl)
+    (variables-reached n (Contains ks) r s (λ b k. variables_of_member n fs b.poly vars (members b k)) left reached)))
     (Spans-equal fs ((h ++ times (neg_ℚ one_ℚ) [] r) ++ value w.pieces) (h ++ times (neg_ℚ one_ℚ) [] s) equal
     (Spans-++ fs (h ++ times (neg_ℚ one_ℚ) [] r) (value w.pieces) (spans_of_member n fs (h ++ times (neg_ℚ one_ℚ) [] r) m)
-    (spans_value fs (Contains ks) (λ b k. spans_of_member n fs b.poly (members b k)) w.pieces (Each-weaker (IsPieceIn (Contains ks) B) (λ (p : Piece). Contains ks p.of) (λ p q. q.member) w.pieces w.inside))))
+    (spans_value fs (Contains ks) (λ b k. spans_of_member n fs b.poly (members b k)) w.pieces
+    (Each-weaker (IsPieceIn (Contains ks) B) (λ (p : Piece). Contains ks p.of) (λ p q. q.member) w.pieces w.inside))))
   where
     equal : SamePolynomial ((h ++ times (neg_ℚ one_ℚ) [] r) ++ value w.pieces) (h ++ times (neg_ℚ one_ℚ) [] s)
     equal x =
@@ -136,13 +140,16 @@ less_member n fs ks B h r s vars members ring left reached w m =
 
 -- ---- one lift
 
-lifted_left : (n : ℕ) (fs : List Terms) (bs ps hs ks : List MarkedPolynomial) (v a : List ℤ) (h l : MarkedPolynomial) (r : Terms) → AreInVariables n fs → dot a v ≡ pos 0 → ArePartFacts n fs bs ps hs a v →
-    Contains hs h → AreMarked (IsBeyond v a) ks → ((b : MarkedPolynomial) → Contains ks b → IsMember n fs b.poly) → IsRest bs h r → IsLessBy ks r h l → IsLifted n fs v h l
+lifted_left : (n : ℕ) (fs : List Terms) (bs ps hs ks : List MarkedPolynomial) (v a : List ℤ) (h l : MarkedPolynomial) (r : Terms) → AreInVariables n fs →
+    dot a v ≡ pos 0 → ArePartFacts n fs bs ps hs a v → Contains hs h → AreMarked (IsBeyond v a) ks →
+    ((b : MarkedPolynomial) → Contains ks b → IsMember n fs b.poly) → IsRest bs h r → IsLessBy ks r h l → IsLifted n fs v h l
 lifted_left n fs bs ps hs ks v a h l r vars o q c marks members i t =
     subst (λ (z : Exponents). IsLifted n fs v h (record { poly = l.poly; head = z })) (sym t.head)
     (lifted_beside n fs v a h h.head whole.poly l.poly o (q.further h c)
     (member-equal n fs (h.poly ++ times (neg_ℚ one_ℚ) [] t.left) l.poly (λ x. sym (t.poly x))
-    (less_member n fs ks (IsUnder v h.head) h.poly r t.left vars members ring (variables-reached n (Contains bs) h.poly r (λ b k. variables_of_member n fs b.poly vars (q.side.reduced.basis.members b k)) ring i.remainder.reached) t.reached w first.member))
+    (less_member n fs ks (IsUnder v h.head) h.poly r t.left vars members ring
+    (variables-reached n (Contains bs) h.poly r (λ b k. variables_of_member n fs b.poly vars (q.side.reduced.basis.members b k)) ring i.remainder.reached)
+    t.reached w first.member))
     kept first)
   where
     ring : IsInVariables n h.poly
@@ -153,13 +160,15 @@ lifted_left n fs bs ps hs ks v a h l r vars o q c marks members i t =
     whole = record { poly = h.poly ++ times (neg_ℚ one_ℚ) [] r; head = h.head }
 
     first : IsLifted n fs v h whole
-    first = lifted_of_lift n fs bs ps v a h whole vars q.side.reduced.basis (side-weak n fs v (negated a) bs q.side) q.levels o (q.basis.members h c) (q.further h c)
+    first = lifted_of_lift n fs bs ps v a h whole vars q.side.reduced.basis (side-weak n fs v (negated a) bs q.side) q.levels o (q.basis.members h c)
+        (q.further h c)
         (record { remainder = r; reached = i.remainder.reached; irreducible = i.remainder.irreducible; head = refl; poly = λ x. refl })
 
     under : (x : Exponents) → HasMonomial r x → IsUnder v h.head x
     under = remainder_below n fs bs ps v (whole_weight v h.head) h.poly r
         (lift-taken n fs bs v a h r vars q.side.reduced.basis (side-weak n fs v (negated a) bs q.side) o ring (q.further h c) i.remainder.reached)
-        vars q.side.reduced.basis (side-weak n fs v (negated a) bs q.side) q.levels (q.basis.members h c) (further-flat v a h o (q.further h c)) i.remainder.irreducible
+        vars q.side.reduced.basis (side-weak n fs v (negated a) bs q.side) q.levels (q.basis.members h c) (further-flat v a h o (q.further h c))
+        i.remainder.irreducible
 
     w : AreTaken (Contains ks) (IsUnder v h.head) r t.left
     w = taken (Contains ks) (IsUnder v h.head) r t.left (closed-under v a ks h.head o q.nonzero marks) under t.reached
@@ -178,8 +187,9 @@ lifted_left n fs bs ps hs ks v a h l r vars o q c marks members i t =
 -- ---- the list
 
 -- each is a lift of one of hs
-in_turn : (n : ℕ) (fs : List Terms) (bs ps hs : List MarkedPolynomial) (v a : List ℤ) (es : List MarkedPolynomial) → AreInVariables n fs → dot a v ≡ pos 0 → ArePartFacts n fs bs ps hs a v →
-    AreLiftsInTurn bs hs es → (d : MarkedPolynomial) → Contains es d → (h : MarkedPolynomial) × Contains hs h × IsLifted n fs v h d
+in_turn : (n : ℕ) (fs : List Terms) (bs ps hs : List MarkedPolynomial) (v a : List ℤ) (es : List MarkedPolynomial) → AreInVariables n fs → dot a v ≡ pos 0 →
+    ArePartFacts n fs bs ps hs a v → AreLiftsInTurn bs hs es → (d : MarkedPolynomial) → Contains es d → (h : MarkedPolynomial) × Contains hs h ×
+    IsLifted n fs v h d
 in_turn n fs bs ps hs v a es vars o q AreLiftsInTurn.none d k = absurd (omega (arith, k.1))
 in_turn n fs bs ps hs v a es vars o q (AreLiftsInTurn.more ds h l r t c i w) d k = at (in_turn n fs bs ps hs v a ds vars o q t) (Contains-last ds l d k)
   where
@@ -195,16 +205,19 @@ in_turn n fs bs ps hs v a es vars o q (AreLiftsInTurn.more ds h l r t c i w) d k
     )
 
 -- a positive weight marks them
-pub in_turn_weight : (n : ℕ) (bs : List MarkedPolynomial) (a : List ℤ) (hs ds : List MarkedPolynomial) → IsCrossing n bs a → IsBasisOfParts n bs a hs → AreLiftsInTurn bs hs ds → HasPositiveWeight n ds
+pub in_turn_weight : (n : ℕ) (bs : List MarkedPolynomial) (a : List ℤ) (hs ds : List MarkedPolynomial) → IsCrossing n bs a → IsBasisOfParts n bs a hs →
+    AreLiftsInTurn bs hs ds → HasPositiveWeight n ds
 in_turn_weight n bs a hs ds c p t =
     beyond-positive n c.region c.flippable.point a ds c.flippable.region q.width q.nonzero c.flippable.inside.zero
-    (λ b j. let g = in_turn n c.generators bs p.along.parts hs c.flippable.point a ds c.variables c.flippable.inside.zero q t b j in lifted_marked n c.generators c.flippable.point a g.0 b (q.further g.0 g.1) g.2)
+    (λ b j. let g = in_turn n c.generators bs p.along.parts hs c.flippable.point a ds c.variables c.flippable.inside.zero q t b j in
+    lifted_marked n c.generators c.flippable.point a g.0 b (q.further g.0 g.1) g.2)
   where
     q : ArePartFacts n c.generators bs p.along.parts hs a c.flippable.point
     q = parts_of n bs a hs p c.generators c.region c.variables c.basis c.flippable
 
 -- those with the marks of hs are the lifts of hs
-pub ever_in_turn : (n : ℕ) (bs : List MarkedPolynomial) (a : List ℤ) (hs ds ls : List MarkedPolynomial) → IsBasisOfParts n bs a hs → AreLiftsInTurn bs hs ds → AreLiftsIn ds hs ls → AreEverLifted n bs a hs ls
+pub ever_in_turn : (n : ℕ) (bs : List MarkedPolynomial) (a : List ℤ) (hs ds ls : List MarkedPolynomial) → IsBasisOfParts n bs a hs → AreLiftsInTurn bs hs ds →
+    AreLiftsIn ds hs ls → AreEverLifted n bs a hs ls
 ever_in_turn n bs a hs ds ls p t m = record {
   at = λ gs k vars b f. matched-map (IsLiftIn ds) (IsLifted n gs f.point) hs ls (λ h l c i.
       let g = in_turn n gs bs p.along.parts hs f.point a ds vars f.inside.zero (parts_of n bs a hs p gs k vars b f) t l i.1 in
@@ -223,44 +236,48 @@ pub record AreLiftingInTurn (n : ℕ) (bs hs ds : List MarkedPolynomial) : Type 
 pub in_turn_none : (n : ℕ) (bs hs ds : List MarkedPolynomial) → ds ≡ [] → AreLiftingInTurn n bs hs ds
 in_turn_none n bs hs ds e = subst (AreLiftingInTurn n bs hs) (sym e) (record { lifts = AreLiftsInTurn.none; variables = tt })
 
-pub in_turn_more : (n : ℕ) (bs hs : List MarkedPolynomial) (h l : MarkedPolynomial) (r : Terms) (old new : List MarkedPolynomial) → Contains hs h → IsRest bs h r → IsLessBy old r h l → HasVariables n l.poly → new ≡ old ++ l ∷ [] →
-    AreLiftingInTurn n bs hs old → AreLiftingInTurn n bs hs new
+pub in_turn_more : (n : ℕ) (bs hs : List MarkedPolynomial) (h l : MarkedPolynomial) (r : Terms) (old new : List MarkedPolynomial) → Contains hs h →
+    IsRest bs h r → IsLessBy old r h l → HasVariables n l.poly → new ≡ old ++ l ∷ [] → AreLiftingInTurn n bs hs old → AreLiftingInTurn n bs hs new
 in_turn_more n bs hs h l r old new c i t v e s = subst (AreLiftingInTurn n bs hs) (sym e) (record {
   lifts = AreLiftsInTurn.more old h l r s.lifts c i t;
   variables = Each-++ (λ (b : MarkedPolynomial). HasVariables n b.poly) old (l ∷ []) s.variables (v, tt);
 })
 
 pub placed_variables : (n : ℕ) (ds hs ls : List MarkedPolynomial) → HaveVariables n ds → AreLiftsIn ds hs ls → HaveVariables n ls
-placed_variables n ds hs ls v m = each_contained (λ (b : MarkedPolynomial). HasVariables n b.poly) ls (λ b k. member_variables n ds b v (matched-from (IsLiftIn ds) hs ls m b k).2.1)
+placed_variables n ds hs ls v m = each_contained (λ (b : MarkedPolynomial). HasVariables n b.poly) ls
+    (λ b k. member_variables n ds b v (matched-from (IsLiftIn ds) hs ls m b k).2.1)
 
 -- a remainder, as it is worked out
-rest_at : (bs items : List MarkedPolynomial) (h : MarkedPolynomial) (g r : Terms) → items ≡ bs → g ≡ h.poly → IsRemainder items g r → KeepsVariables g r → IsRest bs h r
+rest_at : (bs items : List MarkedPolynomial) (h : MarkedPolynomial) (g r : Terms) → items ≡ bs → g ≡ h.poly → IsRemainder items g r → KeepsVariables g r →
+    IsRest bs h r
 rest_at bs items h g r e d i k = record {
   remainder = subst (λ (z : Terms). IsRemainder bs z r) d (subst (λ (z : List MarkedPolynomial). IsRemainder z g r) e i);
   kept = subst (λ (z : Terms). KeepsVariables z r) d k;
 }
 
-pub rest_if : {E : Type 0} (bs items : List MarkedPolynomial) (h : MarkedPolynomial) (g : Terms) (x : Result Terms E) → items ≡ bs → g ≡ h.poly → IfOk x (IsRemainder items g) → IfOk x (KeepsVariables g) → IfOk x (IsRest bs h)
+pub rest_if : {E : Type 0} (bs items : List MarkedPolynomial) (h : MarkedPolynomial) (g : Terms) (x : Result Terms E) → items ≡ bs → g ≡ h.poly →
+    IfOk x (IsRemainder items g) → IfOk x (KeepsVariables g) → IfOk x (IsRest bs h)
 rest_if bs items h g (Ok r) e d i k = rest_at bs items h g r e d i k
 rest_if bs items h g (Err y) e d i k = tt
 
 -- one more
-pub rests_more : (bs hs : List MarkedPolynomial) (i : ℕ) (h : MarkedPolynomial) (r : Terms) (old new : List Terms) → i < length hs → h ≡ get_or hs i h → IsRest bs h r → new ≡ old ++ r ∷ [] →
-    AreRests bs (take i hs) old → AreRests bs (take (i + 1) hs) new
+pub rests_more : (bs hs : List MarkedPolynomial) (i : ℕ) (h : MarkedPolynomial) (r : Terms) (old new : List Terms) → i < length hs → h ≡ get_or hs i h →
+    IsRest bs h r → new ≡ old ++ r ∷ [] → AreRests bs (take i hs) old → AreRests bs (take (i + 1) hs) new
 rests_more bs hs i h r old new k q t e m =
     subst (λ (z : List MarkedPolynomial). AreRests bs z new) (sym (take_more hs i h k ∙ ap (λ (z : MarkedPolynomial). take i hs ++ z ∷ []) (sym q)))
     (subst (λ (z : List Terms). AreRests bs (take i hs ++ h ∷ []) z) (sym e) (matched-push (IsRest bs) (take i hs) old h r m t))
 
 -- that of a member at its place
-pub rest_there : (bs hs : List MarkedPolynomial) (rs : List Terms) (i : ℕ) (h : MarkedPolynomial) (r : Terms) → AreRests bs hs rs → i < length hs → h ≡ get_or hs i h → r ≡ get_or rs i r → IsRest bs h r
+pub rest_there : (bs hs : List MarkedPolynomial) (rs : List Terms) (i : ℕ) (h : MarkedPolynomial) (r : Terms) → AreRests bs hs rs → i < length hs →
+    h ≡ get_or hs i h → r ≡ get_or rs i r → IsRest bs h r
 rest_there bs [] rs i h r m k p q = absurd (omega (arith, k))
 rest_there bs (g ∷ hs) [] i h r m k p q = elim m [ ]
 rest_there bs (g ∷ hs) (s ∷ rs) zero h r m k p q = subst (λ (z : Terms). IsRest bs h z) (sym q) (subst (λ (z : MarkedPolynomial). IsRest bs z s) (sym p) m.0)
 rest_there bs (g ∷ hs) (s ∷ rs) (suc i) h r m k p q = rest_there bs hs rs i h r m.1 (omega (arith, k)) p q
 
 -- what a member less what is left is
-pub less_by_at : (ds : List MarkedPolynomial) (h l : MarkedPolynomial) (r s u g p t : Terms) (x : Exponents) (i : ℕ) → IsRemainder ds r s → u ≡ s → g ≡ h.poly → IsDifference g u p → t ≡ p → x ≡ h.head → head_of t i ≡ x →
-    l ≡ record { poly = p; head = head_of p i } → IsLessBy ds r h l
+pub less_by_at : (ds : List MarkedPolynomial) (h l : MarkedPolynomial) (r s u g p t : Terms) (x : Exponents) (i : ℕ) → IsRemainder ds r s → u ≡ s → g ≡ h.poly →
+    IsDifference g u p → t ≡ p → x ≡ h.head → head_of t i ≡ x → l ≡ record { poly = p; head = head_of p i } → IsLessBy ds r h l
 less_by_at ds h l r s u g p t x i w e k d q y m o = record {
   left = u;
   reached = subst (Reached (Contains ds) r) (sym e) w.reached;
@@ -269,21 +286,22 @@ less_by_at ds h l r s u g p t x i w e k d q y m o = record {
 }
 
 -- in its variables
-pub less_by_kept : (h l : MarkedPolynomial) (r s u g p : Terms) (x : Exponents) → KeepsVariables h.poly r → KeepsVariables r s → u ≡ s → g ≡ h.poly → KeepsBothVariables g u p → l ≡ record { poly = p; head = x } →
-    KeepsVariables h.poly l.poly
+pub less_by_kept : (h l : MarkedPolynomial) (r s u g p : Terms) (x : Exponents) → KeepsVariables h.poly r → KeepsVariables r s → u ≡ s → g ≡ h.poly →
+    KeepsBothVariables g u p → l ≡ record { poly = p; head = x } → KeepsVariables h.poly l.poly
 less_by_kept h l r s u g p x a b e k d o = record {
   at = λ n v. lift_variables n h l g u p x k d v (subst (HasVariables n) (sym e) (b.at n (a.at n v))) o;
 }
 
 -- a lift more in its place
-pub lifts_in_more : (ds hs : List MarkedPolynomial) (i : ℕ) (h l : MarkedPolynomial) (old new : List MarkedPolynomial) → i < length hs → h ≡ get_or hs i h → IsLiftIn ds h l → new ≡ old ++ l ∷ [] →
-    AreLiftsIn ds (take i hs) old → AreLiftsIn ds (take (i + 1) hs) new
+pub lifts_in_more : (ds hs : List MarkedPolynomial) (i : ℕ) (h l : MarkedPolynomial) (old new : List MarkedPolynomial) → i < length hs → h ≡ get_or hs i h →
+    IsLiftIn ds h l → new ≡ old ++ l ∷ [] → AreLiftsIn ds (take i hs) old → AreLiftsIn ds (take (i + 1) hs) new
 lifts_in_more ds hs i h l old new k q t e m =
     subst (λ (z : List MarkedPolynomial). AreLiftsIn ds z new) (sym (take_more hs i h k ∙ ap (λ (z : MarkedPolynomial). take i hs ++ z ∷ []) (sym q)))
     (subst (λ (z : List MarkedPolynomial). AreLiftsIn ds (take i hs ++ h ∷ []) z) (sym e) (matched-push (IsLiftIn ds) (take i hs) old h l m t))
 
 -- t is the list s autoreduced, as told of its parts
-pub reduced_as : (n : ℕ) (bs : List MarkedPolynomial) (s t : MarkedPolynomials) → ◌≡◌ {A = MarkedPolynomials} s (record { variables = n; items = bs }) → IsAutoreduced s t → AreArranged s.variables t.items → HasPositiveWeight s.variables t.items → IsReducedOf s.variables s.items t.items → IsReducedForm n bs t
+pub reduced_as : (n : ℕ) (bs : List MarkedPolynomial) (s t : MarkedPolynomials) → ◌≡◌ {A = MarkedPolynomials} s (record { variables = n; items = bs }) →
+    IsAutoreduced s t → AreArranged s.variables t.items → HasPositiveWeight s.variables t.items → IsReducedOf s.variables s.items t.items → IsReducedForm n bs t
 reduced_as n bs s t e a r p d = record {
   value = subst (λ (z : MarkedPolynomials). IsAutoreduced z t) e a;
   arranged = subst (λ (z : MarkedPolynomials). AreArranged z.variables t.items) e r;

@@ -1,6 +1,7 @@
 -- Tails of lifts reduced in place, one lift after another: what the list is, and that each tail is reduced in the end.
 -- To cite: turned-length, turned_weight, turned_variables, turned_tails, turned_canonical.
-use Rattle.std.proofs.Common.{◌≡◌, ◌⊎◌, ℕ, zero, suc, ◌+◌, ◌<◌, ◌≤◌, Bool, false, List, [], ◌∷◌, length, get_or, set, Contains, arith, refl, sym, ap, ◌∙◌, subst, inl, inr}
+use Rattle.std.proofs.Common.{◌≡◌, ◌⊎◌, ℕ, zero, suc, ◌+◌, ◌<◌, ◌≤◌, Bool, false, List, [], ◌∷◌, length, get_or, set, Contains, arith, refl, sym, ap, ◌∙◌}
+use Rattle.std.proofs.Common.{subst, inl, inr}
 use Rattle.std.proofs.lemmas.Bool.{cases_lt, cases_eq}
 use Rattle.std.proofs.lemmas.List.{length-set}
 use Rattle.gf_exponents_theory.specs.Exponents.{Exponents}
@@ -43,7 +44,8 @@ pub turned-length : (ls : List MarkedPolynomial) (flags : List Bool) (i : ℕ) (
 turned-length ls flags i ms AreTailsInTurn.none = refl
 turned-length ls flags i ns (AreTailsInTurn.more j ms ks t l x) = next-length ms ns flags j x ∙ turned-length ls flags j ms t
 
-next_weight : (w : List ℕ) (ms ns : List MarkedPolynomial) (flags : List Bool) (i : ℕ) → i < length ms → IsNextInTurn ms flags i ns → AreMarked (lighter w) ms → AreMarked (lighter w) ns
+next_weight : (w : List ℕ) (ms ns : List MarkedPolynomial) (flags : List Bool) (i : ℕ) → i < length ms → IsNextInTurn ms flags i ns → AreMarked (lighter w) ms →
+    AreMarked (lighter w) ns
 next_weight w ms ns flags i l (inl s) m = subst (AreMarked (lighter w)) (sym s.0) m
 next_weight w ms ns flags i l (inr r) m = subst (AreMarked (lighter w)) (sym r.2) (λ d k. at d (set_cases ms i r.0 d k))
   where
@@ -54,22 +56,27 @@ next_weight w ms ns flags i l (inr r) m = subst (AreMarked (lighter w)) (sym r.2
     at d (inr k) = m d k
 
 -- they are marked by some weight
-pub turned_weight : (ls : List MarkedPolynomial) (flags : List Bool) (i : ℕ) (ms : List MarkedPolynomial) → AreTailsInTurn ls flags i ms → HasSomeWeight ls → HasSomeWeight ms
+pub turned_weight : (ls : List MarkedPolynomial) (flags : List Bool) (i : ℕ) (ms : List MarkedPolynomial) → AreTailsInTurn ls flags i ms → HasSomeWeight ls →
+    HasSomeWeight ms
 turned_weight ls flags i ms AreTailsInTurn.none w = w
 turned_weight ls flags i ns (AreTailsInTurn.more j ms ks t l x) w = let v = turned_weight ls flags j ms t w in (v.0, next_weight v.0 ms ns flags j l x v.1)
 
-next_variables : (n : ℕ) (ms ns : List MarkedPolynomial) (flags : List Bool) (i : ℕ) → i < length ms → IsNextInTurn ms flags i ns → HaveVariables n ms → HaveVariables n ns
+next_variables : (n : ℕ) (ms ns : List MarkedPolynomial) (flags : List Bool) (i : ℕ) → i < length ms → IsNextInTurn ms flags i ns → HaveVariables n ms →
+    HaveVariables n ns
 next_variables n ms ns flags i l (inl s) v = subst (HaveVariables n) (sym s.0) v
-next_variables n ms ns flags i l (inr r) v = subst (HaveVariables n) (sym r.2) (each_contained (λ (b : MarkedPolynomial). HasVariables n b.poly) (set ms i r.0) (λ d k. at d (set_cases ms i r.0 d k)))
+next_variables n ms ns flags i l (inr r) v = subst (HaveVariables n) (sym r.2) (each_contained (λ (b : MarkedPolynomial). HasVariables n b.poly) (set ms i r.0)
+    (λ d k. at d (set_cases ms i r.0 d k)))
   where
     at : (d : MarkedPolynomial) → (r.0 ≡ d) ⊎ Contains ms d → HasVariables n d.poly
     at d (inl e) =
         let p : IsAt ms i (get_or ms i d) = at_place ms i d l in
-        subst (λ (z : MarkedPolynomial). HasVariables n z.poly) e ((r.1.at (get_or ms i d) p).kept.at n (member_variables n ms (get_or ms i d) v (member_contained ms i (get_or ms i d) p))).variables
+        subst (λ (z : MarkedPolynomial). HasVariables n z.poly) e
+        ((r.1.at (get_or ms i d) p).kept.at n (member_variables n ms (get_or ms i d) v (member_contained ms i (get_or ms i d) p))).variables
     at d (inr k) = member_variables n ms d v k
 
 -- and have the variables
-pub turned_variables : (n : ℕ) (ls : List MarkedPolynomial) (flags : List Bool) (i : ℕ) (ms : List MarkedPolynomial) → AreTailsInTurn ls flags i ms → HaveVariables n ls → HaveVariables n ms
+pub turned_variables : (n : ℕ) (ls : List MarkedPolynomial) (flags : List Bool) (i : ℕ) (ms : List MarkedPolynomial) → AreTailsInTurn ls flags i ms →
+    HaveVariables n ls → HaveVariables n ms
 turned_variables n ls flags i ms AreTailsInTurn.none v = v
 turned_variables n ls flags i ns (AreTailsInTurn.more j ms ks t l x) v = next_variables n ms ns flags j l x (turned_variables n ls flags j ms t v)
 
@@ -82,8 +89,8 @@ pub record AreTurned (ls : List MarkedPolynomial) (i : ℕ) (ms : List MarkedPol
   pub rest : (j : ℕ) (b c : MarkedPolynomial) → i ≤ j → IsAt ls j b → IsAt ms j c → c ≡ b
   pub done : (j : ℕ) (b c : MarkedPolynomial) → j < i → IsAt ls j b → IsAt ms j c → HasReducedTail ls c × IsKeptForm b c
 
-turn_next : (bs ls : List MarkedPolynomial) (flags : List Bool) (i : ℕ) (ms ns : List MarkedPolynomial) → HasReducedTails bs → AreCopies bs ls flags → i < length ms →
-    IsNextInTurn ms flags i ns → AreTurned ls i ms → AreTurned ls (i + 1) ns
+turn_next : (bs ls : List MarkedPolynomial) (flags : List Bool) (i : ℕ) (ms ns : List MarkedPolynomial) → HasReducedTails bs → AreCopies bs ls flags →
+    i < length ms → IsNextInTurn ms flags i ns → AreTurned ls i ms → AreTurned ls (i + 1) ns
 turn_next bs ls flags i ms ns r k l (inl s) h = subst (AreTurned ls (i + 1)) (sym s.0) (record {
   each = h.each;
   heads = h.heads;
@@ -98,7 +105,8 @@ turn_next bs ls flags i ms ns r k l (inl s) h = subst (AreTurned ls (i + 1)) (sy
         let pi : IsAt ls i b = subst (λ (z : ℕ). IsAt ls z b) e p in
         let f : c ≡ b = h.rest j b c d p q in
         let qi : IsAt ms i b = subst (IsAt ms i) f (subst (λ (z : ℕ). IsAt ms z c) e q) in
-        let u : HasUndividedTail ls flags (get_or flags i false) b = Each-weaker (IsPassed ms flags (get_or flags i false) b.head) (IsPassed ls flags (get_or flags i false) b.head) (λ t v. along t v) b.poly (s.1.tail b qi) in
+        let u : HasUndividedTail ls flags (get_or flags i false) b = Each-weaker (IsPassed ms flags (get_or flags i false) b.head)
+        (IsPassed ls flags (get_or flags i false) b.head) (λ t v. along t v) b.poly (s.1.tail b qi) in
         (subst (HasReducedTail ls) (sym f) (stay_reduced bs ls flags i b r k u pi), subst (IsKeptForm b) (sym f) (s.1.kept b qi))
       where
         along : (t : Term) → IsPassed ms flags (get_or flags i false) b.head t → IsPassed ls flags (get_or flags i false) b.head t
@@ -117,7 +125,8 @@ turn_next bs ls flags i ms ns r k l (inr x) h = subst (AreTurned ls (i + 1)) (sy
 
     heads : (j : ℕ) (b c : MarkedPolynomial) → (j ≡ i) ⊎ (j ≡ i → ⊥) → IsAt ls j b → IsAt (set ms i x.0) j c → c.head ≡ b.head
     heads j b c (inl e) p q =
-        ap (λ (z : MarkedPolynomial). z.head) (sym (put_same ms i j x.0 c l e q)) ∙ (old b).head ∙ h.heads i b (get_or ms i b) (subst (λ (z : ℕ). IsAt ls z b) e p) (at_place ms i b l)
+        ap (λ (z : MarkedPolynomial). z.head) (sym (put_same ms i j x.0 c l e q)) ∙ (old b).head ∙ h.heads i b (get_or ms i b)
+        (subst (λ (z : ℕ). IsAt ls z b) e p) (at_place ms i b l)
     heads j b c (inr n) p q = h.heads j b c p (put_other ms i j x.0 c n q)
 
     done : (j : ℕ) (b c : MarkedPolynomial) → (j ≡ i) ⊎ (j ≡ i → ⊥) → j < i + 1 → IsAt ls j b → IsAt (set ms i x.0) j c → HasReducedTail ls c × IsKeptForm b c
@@ -130,7 +139,8 @@ turn_next bs ls flags i ms ns r k l (inr x) h = subst (AreTurned ls (i + 1)) (sy
           subst (λ (z : MarkedPolynomial). IsKeptForm z c) g (subst (IsKeptForm (get_or ms i b)) f (old b).kept),
         )
 
-turned : (bs ls : List MarkedPolynomial) (flags : List Bool) (i : ℕ) (ms : List MarkedPolynomial) → HasReducedTails bs → AreCopies bs ls flags → AreTailsInTurn ls flags i ms → AreTurned ls i ms
+turned : (bs ls : List MarkedPolynomial) (flags : List Bool) (i : ℕ) (ms : List MarkedPolynomial) → HasReducedTails bs → AreCopies bs ls flags →
+    AreTailsInTurn ls flags i ms → AreTurned ls i ms
 turned bs ls flags i ms r k AreTailsInTurn.none = record {
   each = refl;
   heads = λ j b c p q. ap (λ (z : MarkedPolynomial). z.head) (members_equal ls j c b q p);
@@ -149,7 +159,11 @@ by_place bs (c ∷ cs) h = (
 -- in the end each tail is reduced by all
 pub turned_tails : (bs ls : List MarkedPolynomial) (flags : List Bool) (ms : List MarkedPolynomial) → HasReducedTails bs → AreCopies bs ls flags →
     AreTailsInTurn ls flags (length ls) ms → AreReducedTails ms ms ms
-turned_tails bs ls flags ms r k t = by_place ms ms (λ j c p. record { tail = IsTail.member c (member_contained ms j c p); head = same-refl c.head; irreducible = λ x m d. reduced j c p x m d })
+turned_tails bs ls flags ms r k t = by_place ms ms (λ j c p. record {
+  tail = IsTail.member c (member_contained ms j c p);
+  head = same-refl c.head;
+  irreducible = λ x m d. reduced j c p x m d;
+})
   where
     u : AreTurned ls (length ls) ms
     u = turned bs ls flags (length ls) ms r k t
@@ -166,4 +180,5 @@ turned_canonical n bs ls flags ms r k t v c m =
     let u : AreTurned ls (length ls) ms = turned bs ls flags (length ls) ms r k t in
     let l : m.0 < length ls = omega (arith, m.1, u.each) in
     let a : IsAt ls m.0 (get_or ls m.0 c) = at_place ls m.0 c l in
-    (u.done m.0 (get_or ls m.0 c) c l a (record { within = m.1; is = m.2 })).1.at n (member_variables n ls (get_or ls m.0 c) v (member_contained ls m.0 (get_or ls m.0 c) a))
+    (u.done m.0 (get_or ls m.0 c) c l a (record { within = m.1; is = m.2 })).1.at n
+    (member_variables n ls (get_or ls m.0 c) v (member_contained ls m.0 (get_or ls m.0 c) a))

@@ -1,8 +1,10 @@
 -- Lifts that end once nothing is left along the normal, as the code works them out.
 -- To cite: reducible_there, SeekingLine, seeking_more, Topping, topping-none, topping_more, topping_less, top_step,
--- shares_at, divides_at, off_more, off_end, top_remainder_at, top_there, top_lift_at, divided_by, top_twin, divided_lift, AreTopping, topping_push, AreToppingBefore, before-more.
+-- shares_at, divides_at, off_more, off_end, top_remainder_at, top_there, top_lift_at, divided_by, top_twin, divided_lift, AreTopping, topping_push,
+-- AreToppingBefore, before-more.
 use Rattle.std.specs.declared.option.Option.{Option}
-use Rattle.std.proofs.Common.{◌≡◌, ◌≢◌, ℕ, ◌+◌, ◌<◌, ◌≤◌, ◌^◌, true, Some, None, IfSome, List, [], ◌∷◌, ◌++◌, length, take, get_or, Contains, ℤ, pos, ◌+ℤ◌, ◌*ℤ◌, arith, refl, sym, ap, ◌∙◌, subst, inl, inr}
+use Rattle.std.proofs.Common.{◌≡◌, ◌≢◌, ℕ, ◌+◌, ◌<◌, ◌≤◌, ◌^◌, true, Some, None, IfSome, List, [], ◌∷◌, ◌++◌, length, take, get_or, Contains, ℤ, pos, ◌+ℤ◌}
+use Rattle.std.proofs.Common.{◌*ℤ◌, arith, refl, sym, ap, ◌∙◌, subst, inl, inr}
 use Rattle.std.proofs.lemmas.List.{take_more, take_all, append_assoc}
 use Rattle.gf_int_theory.proofs.RingLaws.{dv, dn, ◌⊕◌, ◌⊗◌, same as same_number}
 use Rattle.gf_frac.specs.Fraction.{Fraction, ◌+ℚ◌, ◌*ℚ◌, neg_ℚ, reciprocal_ℚ, zero_ℚ, one_ℚ}
@@ -62,7 +64,8 @@ pub first_width : (n : ℕ) (old s : Split) (t : Term) → IsTermInFront s.below
 first_width n old s t f k = first_length n s t k.sound f
 
 -- the member that reduces the first term, if there is one
-pub reducible_there : (bs : List MarkedPolynomial) (s : Split) (t : Term) (o : Option ℕ) → IsTermInFront s.below t → IsMonomial t.mono → IfSome o (IsDivisorAt bs t.mono) → IfSome o (IsReducibleFirst bs None s)
+pub reducible_there : (bs : List MarkedPolynomial) (s : Split) (t : Term) (o : Option ℕ) → IsTermInFront s.below t → IsMonomial t.mono →
+    IfSome o (IsDivisorAt bs t.mono) → IfSome o (IsReducibleFirst bs None s)
 reducible_there bs s t (Some j) f m d = record { term = t; is = f; divisor = d; beside = tt; monomial = m }
 reducible_there bs s t None f m d = tt
 
@@ -83,8 +86,13 @@ is_member n bs s t j b k = members_equal bs j k.divisor.member b k.divisor.at k.
 pub shares_at : (n : ℕ) (bs : List MarkedPolynomial) (s : Split) (t : Term) (j : ℕ) (b : MarkedPolynomial) → IsTopStep n bs s t j b → SharesVariables b s
 shares_at n bs s t j b k = record { n = n; sound = k.sound; poly = member_variables n bs b k.members (member_contained bs j b k.at) }
 
-pub divides_at : (n : ℕ) (bs : List MarkedPolynomial) (s : Split) (t : Term) (j : ℕ) (b : MarkedPolynomial) → IsTopStep n bs s t j b → DividesFirst b.head s.below
-divides_at n bs s t j b k = record { term = t; first = k.first; divides = subst (λ (c : MarkedPolynomial). Divides c.head t.mono) (is_member n bs s t j b k) k.divisor.divides }
+pub divides_at : (n : ℕ) (bs : List MarkedPolynomial) (s : Split) (t : Term) (j : ℕ) (b : MarkedPolynomial) → IsTopStep n bs s t j b →
+    DividesFirst b.head s.below
+divides_at n bs s t j b k = record {
+  term = t;
+  first = k.first;
+  divides = subst (λ (c : MarkedPolynomial). Divides c.head t.mono) (is_member n bs s t j b k) k.divisor.divides;
+}
 
 pub step_of : (n : ℕ) (bs : List MarkedPolynomial) (s u : Split) (t : Term) (j : ℕ) (b : MarkedPolynomial) (q : Term) →
     IsTopStep n bs s t j b → TakesStep b s q u → IsStep (Contains bs) (joined_terms s) (joined_terms u)
@@ -97,7 +105,8 @@ step_of n bs s u t j b q k w =
       contained = member_contained bs j b k.at;
       there = λ z. w.there (sym w.coefficient_is ∙ ap (coefficient (joined_terms s)) (sym e) ∙ z);
       divides = same_of t.mono (plus q.mono b.head) (e ∙ sym w.product);
-      equal = λ y. w.same y ∙ ap (λ c. coefficient (joined_terms s ++ times (neg_ℚ c) q.mono b.poly) y) (sym (ap (coefficient (joined_terms s)) e ∙ w.coefficient_is));
+      equal = λ y. w.same y ∙ ap (λ c. coefficient (joined_terms s ++ times (neg_ℚ c) q.mono b.poly) y)
+          (sym (ap (coefficient (joined_terms s)) e ∙ w.coefficient_is));
     }
 
 -- what holds after some steps
@@ -119,7 +128,12 @@ pub topping_more : (n : ℕ) (bs : List MarkedPolynomial) (f : Terms) (old s u :
 topping_more n bs f old s u t j b q e k w h = record {
   reached = Reached.next (joined_terms s) (joined_terms u) (subst (Reached (Contains bs) f) (sym e) h.reached) (step_of n bs s u t j b q k w);
   sound = w.sound n k.sound;
-  kept = record { at = λ m v. (w.sound m (record { descending = k.sound.descending; variables = (keeps_along f (joined_terms old) (joined_terms s) e h.kept).at m v })).variables };
+  kept = record {
+    at = λ m v. (w.sound m (record {
+      descending = k.sound.descending;
+      variables = (keeps_along f (joined_terms old) (joined_terms s) e h.kept).at m v;
+    })).variables;
+  };
 }
 
 pub topping_less : (n : ℕ) (bs : List MarkedPolynomial) (w : List ℕ) (old s u : Split) (t : Term) (j : ℕ) (b : MarkedPolynomial) (q : Term) →
@@ -148,16 +162,18 @@ top_step n bs f old s j b e k q m h = record {
 abbrev pub AreOffBefore : List ℤ → Exponents → ℕ → Terms → Type 0
 AreOffBefore a x i f = Each (λ (t : Term). AreMultipleApart a t.mono x → ⊥) (take i f)
 
-pub off_more : (a : List ℤ) (x y z : Exponents) (i : ℕ) (f : Terms) (t : Term) → i < length f → t ≡ get_or f i t → y ≡ t.mono → z ≡ x → (AreMultipleApart a y z → ⊥) →
-    AreOffBefore a x i f → AreOffBefore a x (i + 1) f
-off_more a x y z i f t l e ey ez o h = subst (Each (λ (t : Term). AreMultipleApart a t.mono x → ⊥)) (sym (take_more f i t l ∙ ap (λ (w : Term). take i f ++ w ∷ []) (sym e))) (Each-++ (λ (t : Term). AreMultipleApart a t.mono x → ⊥) (take i f) (t ∷ []) h
+pub off_more : (a : List ℤ) (x y z : Exponents) (i : ℕ) (f : Terms) (t : Term) → i < length f → t ≡ get_or f i t → y ≡ t.mono → z ≡ x →
+    (AreMultipleApart a y z → ⊥) → AreOffBefore a x i f → AreOffBefore a x (i + 1) f
+off_more a x y z i f t l e ey ez o h = subst (Each (λ (t : Term). AreMultipleApart a t.mono x → ⊥))
+    (sym (take_more f i t l ∙ ap (λ (w : Term). take i f ++ w ∷ []) (sym e))) (Each-++ (λ (t : Term). AreMultipleApart a t.mono x → ⊥) (take i f) (t ∷ []) h
     (λ m. o (subst (λ (u : Exponents). AreMultipleApart a u z) (sym ey) (subst (λ (u : Exponents). AreMultipleApart a t.mono u) (sym ez) m)), tt))
 
 pub off_end : (a : List ℤ) (x : Exponents) (i : ℕ) (f : Terms) → length f ≤ i → AreOffBefore a x i f → AreOff a x f
 off_end a x i f l h = subst (Each (λ (t : Term). AreMultipleApart a t.mono x → ⊥)) (take_all i f l) h
 
 -- what is left has the variables
-pub left_variables : (n : ℕ) (bs : List MarkedPolynomial) (f r g : Terms) (old s : Split) → joined_terms s ≡ joined_terms old → r ≡ joined_terms s → g ≡ r → Topping n bs f old → HasVariables n g
+pub left_variables : (n : ℕ) (bs : List MarkedPolynomial) (f r g : Terms) (old s : Split) → joined_terms s ≡ joined_terms old → r ≡ joined_terms s → g ≡ r →
+    Topping n bs f old → HasVariables n g
 left_variables n bs f r g old s e q d h = subst (HasVariables n) (sym (d ∙ q ∙ e)) h.sound.variables
 
 pub top_remainder_at : (n : ℕ) (bs : List MarkedPolynomial) (a : List ℤ) (x : Exponents) (f r g : Terms) (old s : Split) → joined_terms s ≡ joined_terms old →
@@ -184,47 +200,56 @@ zero_apart a x = (pos 0, λ i. still (pos (entry x i)) (get_or a i (pos 0)))
     still y z = same_number (dv y) (dv y ⊕ dn 0 ⊗ dv z) (omega arith)
 
 -- the mark is a monomial of the difference
-pub top_there : (bs : List MarkedPolynomial) (a : List ℤ) (nz : HasNonzero a) (h : MarkedPolynomial) (f g r p t : Terms) (x y : Exponents) → coefficient h.poly h.head ≡ one_ℚ →
-    f ≡ h.poly → g ≡ h.poly → x ≡ h.head → y ≡ h.head → IsTopRemainder bs a x f r → IsDifference g r p → t ≡ p → HasMonomial t y
-top_there bs a nz h f g r p t x y one ef eg ex ey k d q z = one_not_zero (sym (d h.head ∙ ap (λ c. c +ℚ neg_ℚ (coefficient r h.head)) (ap (λ (w : Terms). coefficient w h.head) eg ∙ one) ∙ ap (λ c. one_ℚ +ℚ neg_ℚ c) none ∙ less_zero one_ℚ)
+pub top_there : (bs : List MarkedPolynomial) (a : List ℤ) (nz : HasNonzero a) (h : MarkedPolynomial) (f g r p t : Terms) (x y : Exponents) →
+    coefficient h.poly h.head ≡ one_ℚ → f ≡ h.poly → g ≡ h.poly → x ≡ h.head → y ≡ h.head → IsTopRemainder bs a x f r → IsDifference g r p → t ≡ p →
+    HasMonomial t y
+top_there bs a nz h f g r p t x y one ef eg ex ey k d q z =
+    one_not_zero (sym (d h.head ∙ ap (λ c. c +ℚ neg_ℚ (coefficient r h.head)) (ap (λ (w : Terms). coefficient w h.head) eg ∙ one) ∙ ap (λ c. one_ℚ +ℚ neg_ℚ c)
+    none ∙ less_zero one_ℚ)
     ∙ ap (λ (w : Terms). coefficient w h.head) (sym q) ∙ ap (coefficient t) (sym ey) ∙ z)
   where
     none : coefficient r h.head ≡ zero_ℚ
-    none = elim (zero_or_not (coefficient r h.head)) [ inl w ↦ w | inr m ↦ absurd (off_monomial a nz x r k.off h.head m (subst (λ (u : Exponents). AreMultipleApart a h.head u) (sym ex) (zero_apart a h.head))) ]
+    none = elim (zero_or_not (coefficient r h.head)) [
+      | inl w ↦ w
+      | inr m ↦ absurd (off_monomial a nz x r k.off h.head m (subst (λ (u : Exponents). AreMultipleApart a h.head u) (sym ex) (zero_apart a h.head)))
+    ]
 
 -- the difference has the variables
-pub top_variables : (bs : List MarkedPolynomial) (a : List ℤ) (n : ℕ) (x : Exponents) (h : MarkedPolynomial) (f g r p : Terms) → f ≡ h.poly → g ≡ h.poly → HasVariables n h.poly →
-    IsTopRemainder bs a x f r → KeepsBothVariables g r p → HasVariables n p
+pub top_variables : (bs : List MarkedPolynomial) (a : List ℤ) (n : ℕ) (x : Exponents) (h : MarkedPolynomial) (f g r p : Terms) → f ≡ h.poly → g ≡ h.poly →
+    HasVariables n h.poly → IsTopRemainder bs a x f r → KeepsBothVariables g r p → HasVariables n p
 top_variables bs a n x h f g r p ef eg v k b = b.at n (subst (HasVariables n) (sym eg) v) (k.kept.at n (subst (HasVariables n) (sym ef) v))
 
-pub top_place : (bs : List MarkedPolynomial) (a : List ℤ) (n : ℕ) (h : MarkedPolynomial) (f g r p t : Terms) (x y : Exponents) → f ≡ h.poly → g ≡ h.poly → HasVariables n h.poly →
-    IsTopRemainder bs a x f r → KeepsBothVariables g r p → t ≡ p → y ≡ h.head → HasMarkedTerm h → HasVariables (length y) t
+pub top_place : (bs : List MarkedPolynomial) (a : List ℤ) (n : ℕ) (h : MarkedPolynomial) (f g r p t : Terms) (x y : Exponents) → f ≡ h.poly → g ≡ h.poly →
+    HasVariables n h.poly → IsTopRemainder bs a x f r → KeepsBothVariables g r p → t ≡ p → y ≡ h.head → HasMarkedTerm h → HasVariables (length y) t
 top_place bs a n h f g r p t x y ef eg v k b q ey m =
     let l : n ≡ length y = sym (ap (λ (z : Exponents). length z) ey ∙ head_length n h v m) in
     subst (λ (z : Terms). HasVariables (length y) z) (sym q) (subst (λ (z : ℕ). HasVariables z p) l (top_variables bs a n x h f g r p ef eg v k b))
 
 -- so it is such a lift
-pub top_lift_at : (bs : List MarkedPolynomial) (a : List ℤ) (nz : HasNonzero a) (h l : MarkedPolynomial) (f g r p t : Terms) (x y : Exponents) (i : ℕ) → f ≡ h.poly → g ≡ h.poly →
-    x ≡ h.head → IsTopRemainder bs a x f r → IsDifference g r p → t ≡ p → y ≡ h.head → head_of t i ≡ y →
+pub top_lift_at : (bs : List MarkedPolynomial) (a : List ℤ) (nz : HasNonzero a) (h l : MarkedPolynomial) (f g r p t : Terms) (x y : Exponents) (i : ℕ) →
+    f ≡ h.poly → g ≡ h.poly → x ≡ h.head → IsTopRemainder bs a x f r → IsDifference g r p → t ≡ p → y ≡ h.head → head_of t i ≡ y →
     l ≡ record { poly = p; head = head_of p i } → IsTopLift bs a h l
 top_lift_at bs a nz h l f g r p t x y i ef eg ex k d q ey m o = record {
   remainder = r;
   reached = subst (λ (w : Terms). Reached (Contains bs) w r) ef k.reached;
   off = λ u n b. off_monomial a nz x r k.off u n (subst (λ (w : Exponents). AreMultipleApart a u w) (sym ex) b);
   head = ap (λ (w : MarkedPolynomial). w.head) o ∙ ap (λ (w : Terms). head_of w i) (sym q) ∙ m ∙ ey;
-  poly = λ u. ap (λ (w : MarkedPolynomial). coefficient w.poly u) o ∙ d u ∙ ap (λ (w : Terms). coefficient w u +ℚ neg_ℚ (coefficient r u)) eg ∙ sym (difference h.poly r u);
+  poly = λ u. ap (λ (w : MarkedPolynomial). coefficient w.poly u) o ∙ d u ∙ ap (λ (w : Terms). coefficient w u +ℚ neg_ℚ (coefficient r u)) eg ∙
+      sym (difference h.poly r u);
 }
 
 -- in the variables
-pub top_lifted_variables : (bs : List MarkedPolynomial) (a : List ℤ) (n : ℕ) (h l : MarkedPolynomial) (f g r p : Terms) (x : Exponents) (i : ℕ) → f ≡ h.poly → g ≡ h.poly → HasVariables n h.poly →
-    IsTopRemainder bs a x f r → KeepsBothVariables g r p → l ≡ record { poly = p; head = head_of p i } → HasVariables n l.poly
-top_lifted_variables bs a n h l f g r p x i ef eg v k b o = subst (HasVariables n) (sym (ap (λ (z : MarkedPolynomial). z.poly) o)) (top_variables bs a n x h f g r p ef eg v k b)
+pub top_lifted_variables : (bs : List MarkedPolynomial) (a : List ℤ) (n : ℕ) (h l : MarkedPolynomial) (f g r p : Terms) (x : Exponents) (i : ℕ) → f ≡ h.poly →
+    g ≡ h.poly → HasVariables n h.poly → IsTopRemainder bs a x f r → KeepsBothVariables g r p → l ≡ record { poly = p; head = head_of p i } →
+    HasVariables n l.poly
+top_lifted_variables bs a n h l f g r p x i ef eg v k b o = subst (HasVariables n) (sym (ap (λ (z : MarkedPolynomial). z.poly) o))
+    (top_variables bs a n x h f g r p ef eg v k b)
 
 -- ---- members that the crossing does not touch
 
 -- a monomial less the step by a member with its mark is that member
-pub untouched_at : (bs : List MarkedPolynomial) (a : List ℤ) (h b l : MarkedPolynomial) → coefficient h.poly h.head ≡ one_ℚ → coefficient b.poly b.head ≡ one_ℚ →
-    HasOneMonomial h → Contains bs b → b.head ≡ h.head → IsAlone a b → l ≡ b → IsTopLift bs a h l
+pub untouched_at : (bs : List MarkedPolynomial) (a : List ℤ) (h b l : MarkedPolynomial) → coefficient h.poly h.head ≡ one_ℚ →
+    coefficient b.poly b.head ≡ one_ℚ → HasOneMonomial h → Contains bs b → b.head ≡ h.head → IsAlone a b → l ≡ b → IsTopLift bs a h l
 untouched_at bs a h b l one unit single c e alone q = subst (IsTopLift bs a h) (sym q) (record {
   remainder = rest;
   reached = Reached.next h.poly rest (Reached.here h.poly (λ x. refl)) (record {
@@ -242,27 +267,33 @@ untouched_at bs a h b l one unit single c e alone q = subst (IsTopLift bs a h) (
       | inr n ↦ one_not_zero (sym unit ∙ sym (coefficient-same b.poly x b.head (subst (λ (y : Exponents). same x y ≡ true) (sym e) (single x n))) ∙ z)
     ]
     | inr n ↦ let s = alone x n (subst (λ (y : Exponents). AreMultipleApart a x y) (sym e) p) in
-        m (difference h.poly b.poly x ∙ ap (λ k. k +ℚ neg_ℚ (coefficient b.poly x)) (coefficient-same h.poly x h.head (subst (λ (y : Exponents). same x y ≡ true) e s) ∙ one) ∙ ap (λ k. one_ℚ +ℚ neg_ℚ k) (coefficient-same b.poly x b.head s ∙ unit) ∙ +ℚ-neg_ℚ one_ℚ)
+        m (difference h.poly b.poly x ∙ ap (λ k. k +ℚ neg_ℚ (coefficient b.poly x))
+        (coefficient-same h.poly x h.head (subst (λ (y : Exponents). same x y ≡ true) e s) ∙ one) ∙ ap (λ k. one_ℚ +ℚ neg_ℚ k)
+        (coefficient-same b.poly x b.head s ∙ unit) ∙ +ℚ-neg_ℚ one_ℚ)
   ];
   head = e;
-  poly = λ x. back (coefficient h.poly x) (coefficient b.poly x) ∙ ap (λ k. coefficient h.poly x +ℚ neg_ℚ k) (sym (difference h.poly b.poly x)) ∙ sym (difference h.poly rest x);
+  poly = λ x. back (coefficient h.poly x) (coefficient b.poly x) ∙ ap (λ k. coefficient h.poly x +ℚ neg_ℚ k) (sym (difference h.poly b.poly x)) ∙
+      sym (difference h.poly rest x);
 })
   where
     rest : Terms
     rest = h.poly ++ times (neg_ℚ one_ℚ) [] b.poly
 
     back : (p q : Fraction) → q ≡ p +ℚ neg_ℚ (p +ℚ neg_ℚ q)
-    back p q = sym (less_summand q (p +ℚ neg_ℚ q) p (sym (+ℚ_comm q (p +ℚ neg_ℚ q) ∙ +ℚ_assoc p (neg_ℚ q) q ∙ ap (λ z. p +ℚ z) (+ℚ_comm (neg_ℚ q) q ∙ +ℚ-neg_ℚ q) ∙ +ℚ-zero p)))
+    back p q = sym (less_summand q (p +ℚ neg_ℚ q) p (sym (+ℚ_comm q (p +ℚ neg_ℚ q) ∙ +ℚ_assoc p (neg_ℚ q) q ∙
+        ap (λ z. p +ℚ z) (+ℚ_comm (neg_ℚ q) q ∙ +ℚ-neg_ℚ q) ∙ +ℚ-zero p)))
 
 -- ---- members whose parts are only marked elsewhere
 
 -- a member divided by its coefficient at a place, and marked there
-pub divided_by : (b l : MarkedPolynomial) (f h : Terms) (t : Term) (i : ℕ) (x : Exponents) → f ≡ b.poly → IsDescending f → HasVariables (length x) b.poly → i < length f → t ≡ get_or f i t → t.coef ≢ zero_ℚ →
-    HasProducts (reciprocal_ℚ t.coef) [] b.poly h → head_of f i ≡ x → l ≡ record { poly = h; head = head_of h i } → IsQuotientAt b x l
+pub divided_by : (b l : MarkedPolynomial) (f h : Terms) (t : Term) (i : ℕ) (x : Exponents) → f ≡ b.poly → IsDescending f → HasVariables (length x) b.poly →
+    i < length f → t ≡ get_or f i t → t.coef ≢ zero_ℚ → HasProducts (reciprocal_ℚ t.coef) [] b.poly h → head_of f i ≡ x →
+    l ≡ record { poly = h; head = head_of h i } → IsQuotientAt b x l
 divided_by b l f h t i x e d v w r n p q o = subst (IsQuotientAt b x) (sym o) (record {
   there = λ z. n (sym value ∙ z);
   scaled = subst (λ (k : Fraction). IsScaled (reciprocal_ℚ k) b.poly h) (sym value) (IsScaled-products (reciprocal_ℚ t.coef) b.poly h p);
-  head = ap (λ (z : Terms). head_of z i) (p.nonzero (nonzero_reciprocal t.coef n)) ∙ head_of-times (reciprocal_ℚ t.coef) b.poly i ∙ ap (λ (z : Terms). head_of z i) (sym e) ∙ q;
+  head = ap (λ (z : Terms). head_of z i) (p.nonzero (nonzero_reciprocal t.coef n)) ∙ head_of-times (reciprocal_ℚ t.coef) b.poly i ∙
+      ap (λ (z : Terms). head_of z i) (sym e) ∙ q;
   variables = KeepsVariables-scaled (reciprocal_ℚ t.coef) b.poly h p;
 })
   where
@@ -270,21 +301,24 @@ divided_by b l f h t i x e d v w r n p q o = subst (IsQuotientAt b x) (sym o) (r
     at = sym (head_at f i t w r) ∙ q
 
     value : coefficient b.poly x ≡ t.coef
-    value = ap (coefficient b.poly) (sym at) ∙ term_coefficient (length x) b.poly t v (subst IsDescending e d) (subst (λ (z : Terms). Contains z t) e (i, w, sym r))
+    value = ap (coefficient b.poly) (sym at) ∙ term_coefficient (length x) b.poly t v (subst IsDescending e d)
+        (subst (λ (z : Terms). Contains z t) e (i, w, sym r))
 
 -- the lift of a polynomial is that of each one that is the same, with the same mark
-pub top_twin : (bs : List MarkedPolynomial) (a : List ℤ) (h k l : MarkedPolynomial) → SamePolynomial h.poly k.poly → h.head ≡ k.head → IsTopLift bs a h l → IsTopLift bs a k l
+pub top_twin : (bs : List MarkedPolynomial) (a : List ℤ) (h k l : MarkedPolynomial) → SamePolynomial h.poly k.poly → h.head ≡ k.head → IsTopLift bs a h l →
+    IsTopLift bs a k l
 top_twin bs a h k l s e t = record {
   remainder = t.remainder;
   reached = reached_trans (Contains bs) k.poly h.poly t.remainder (Reached.here h.poly (λ x. sym (s x))) t.reached;
   off = λ x m p. t.off x m (subst (AreMultipleApart a x) (sym e) p);
   head = t.head ∙ e;
-  poly = λ x. t.poly x ∙ coefficient-++ h.poly (times (neg_ℚ one_ℚ) [] t.remainder) x ∙ ap (λ z. z +ℚ coefficient (times (neg_ℚ one_ℚ) [] t.remainder) x) (s x) ∙ sym (coefficient-++ k.poly (times (neg_ℚ one_ℚ) [] t.remainder) x);
+  poly = λ x. t.poly x ∙ coefficient-++ h.poly (times (neg_ℚ one_ℚ) [] t.remainder) x ∙ ap (λ z. z +ℚ coefficient (times (neg_ℚ one_ℚ) [] t.remainder) x)
+      (s x) ∙ sym (coefficient-++ k.poly (times (neg_ℚ one_ℚ) [] t.remainder) x);
 }
 
 -- where the terms of b that are multiples of a apart from the mark of h are c times those of h, b divided by c is the lift of h: h less a step by b
-pub divided_lift : (bs : List MarkedPolynomial) (a : List ℤ) (h b l : MarkedPolynomial) → coefficient h.poly h.head ≡ one_ℚ → coefficient b.poly b.head ≡ one_ℚ →
-    Contains bs b → AreMultipleApart a b.head h.head → IsQuotientAt b h.head l →
+pub divided_lift : (bs : List MarkedPolynomial) (a : List ℤ) (h b l : MarkedPolynomial) → coefficient h.poly h.head ≡ one_ℚ →
+    coefficient b.poly b.head ≡ one_ℚ → Contains bs b → AreMultipleApart a b.head h.head → IsQuotientAt b h.head l →
     ((x : Exponents) → AreMultipleApart a x h.head → coefficient b.poly h.head *ℚ coefficient h.poly x ≡ coefficient b.poly x) → IsTopLift bs a h l
 divided_lift bs a h b l one unit c apart d p = record {
   remainder = rest;
@@ -316,17 +350,21 @@ divided_lift bs a h b l one unit c apart d p = record {
     q = on b.head apart ∙ d.scaled b.head ∙ ap (λ k. factor *ℚ k) unit ∙ *ℚ-one factor
 
     nonzero : factor ≡ zero_ℚ → ⊥
-    nonzero z = one_not_zero (sym (reciprocal_ℚ-*ℚ (coefficient b.poly h.head) d.there) ∙ ap (λ k. k *ℚ coefficient b.poly h.head) z ∙ zero-*ℚ (coefficient b.poly h.head))
+    nonzero z = one_not_zero (sym (reciprocal_ℚ-*ℚ (coefficient b.poly h.head) d.there) ∙ ap (λ k. k *ℚ coefficient b.poly h.head) z ∙
+        zero-*ℚ (coefficient b.poly h.head))
 
     value : (x : Exponents) → coefficient rest x ≡ coefficient h.poly x +ℚ neg_ℚ (coefficient l.poly x)
     value x = coefficient-++ h.poly (times (neg_ℚ (coefficient h.poly b.head)) [] b.poly) x
-        ∙ ap (λ k. coefficient h.poly x +ℚ k) (coefficient-times (neg_ℚ (coefficient h.poly b.head)) [] b.poly x ∙ neg_ℚ-*ℚ (coefficient h.poly b.head) (coefficient b.poly x) ∙ ap (λ k. neg_ℚ (k *ℚ coefficient b.poly x)) q ∙ ap neg_ℚ (sym (d.scaled x)))
+        ∙ ap (λ k. coefficient h.poly x +ℚ k) (coefficient-times (neg_ℚ (coefficient h.poly b.head)) [] b.poly x ∙ neg_ℚ-*ℚ (coefficient h.poly b.head)
+        (coefficient b.poly x) ∙ ap (λ k. neg_ℚ (k *ℚ coefficient b.poly x)) q ∙ ap neg_ℚ (sym (d.scaled x)))
 
     back : (p q : Fraction) → q ≡ p +ℚ neg_ℚ (p +ℚ neg_ℚ q)
-    back p q = sym (less_summand q (p +ℚ neg_ℚ q) p (sym (+ℚ_comm q (p +ℚ neg_ℚ q) ∙ +ℚ_assoc p (neg_ℚ q) q ∙ ap (λ z. p +ℚ z) (+ℚ_comm (neg_ℚ q) q ∙ +ℚ-neg_ℚ q) ∙ +ℚ-zero p)))
+    back p q = sym (less_summand q (p +ℚ neg_ℚ q) p (sym (+ℚ_comm q (p +ℚ neg_ℚ q) ∙ +ℚ_assoc p (neg_ℚ q) q ∙
+        ap (λ z. p +ℚ z) (+ℚ_comm (neg_ℚ q) q ∙ +ℚ-neg_ℚ q) ∙ +ℚ-zero p)))
 
 -- a monic member
-pub monic_member : (bs : List MarkedPolynomial) (b : MarkedPolynomial) (j : ℕ) → HasSomeWeight bs → j < length bs → b ≡ get_or bs j b → coefficient b.poly b.head ≡ one_ℚ
+pub monic_member : (bs : List MarkedPolynomial) (b : MarkedPolynomial) (j : ℕ) → HasSomeWeight bs → j < length bs → b ≡ get_or bs j b →
+    coefficient b.poly b.head ≡ one_ℚ
 monic_member bs b j w l e = (w.1 b (j, l, sym e)).monic
 
 -- ---- all lifts
@@ -348,8 +386,9 @@ pub record AreToppingBefore (n : ℕ) (bs : List MarkedPolynomial) (a : List ℤ
   pub split : done ++ left ≡ hs
   pub topping : AreTopping n bs a done ls
 
-pub before-more : (n : ℕ) (bs : List MarkedPolynomial) (a : List ℤ) (hs left next : List MarkedPolynomial) (h l : MarkedPolynomial) (old new : List MarkedPolynomial) →
-    left ≡ h ∷ next → IsTopLift bs a h l → HasVariables n l.poly → new ≡ old ++ l ∷ [] → AreToppingBefore n bs a hs left old → AreToppingBefore n bs a hs next new
+pub before-more : (n : ℕ) (bs : List MarkedPolynomial) (a : List ℤ) (hs left next : List MarkedPolynomial) (h l : MarkedPolynomial)
+    (old new : List MarkedPolynomial) → left ≡ h ∷ next → IsTopLift bs a h l → HasVariables n l.poly → new ≡ old ++ l ∷ [] →
+    AreToppingBefore n bs a hs left old → AreToppingBefore n bs a hs next new
 before-more n bs a hs left next h l old new e t v q s = record {
   done = s.done ++ h ∷ [];
   split = append_assoc s.done (h ∷ []) next ∙ ap (λ (z : List MarkedPolynomial). s.done ++ z) (sym e) ∙ s.split;

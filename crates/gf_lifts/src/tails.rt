@@ -11,7 +11,8 @@ ghost use Rattle.gf_ideal_theory.specs.Reduction.{IsDivisible};
 ghost use Rattle.gf_division.specs.NormalForms.{HasSomeWeight};
 ghost use Rattle.gf_division.specs.Autoreduction.{ShareSomeVariables};
 ghost use Rattle.gf_division.specs.Reducers.{AreIrreducible};
-ghost use Rattle.gf_lifts.specs.LiftTails.{AreCopiedTo, AreCopiedFrom, AreCopiedBeside, AreSparedBeside, AreUndivided, HasUndividedTailAt, IsReducedLiftAt, IsNextInTurn, AreTailsInTurn};
+ghost use Rattle.gf_lifts.specs.LiftTails.{AreCopiedTo, AreCopiedFrom, AreCopiedBeside, AreSparedBeside, AreUndivided, HasUndividedTailAt, IsReducedLiftAt};
+ghost use Rattle.gf_lifts.specs.LiftTails.{IsNextInTurn, AreTailsInTurn};
 
 use crate::tops::Lifts;
 use crate::weights::{Facet, weight_for};

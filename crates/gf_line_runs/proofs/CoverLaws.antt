@@ -41,7 +41,12 @@ IsCovered bs u h t = (same t.mono h ≡ true) ⊎ HasCover bs (plus u t.mono)
 
 -- a cover of a monomial is one of each that is the same
 cover_along : (bs : List MarkedPolynomial) (x y : Exponents) → same x y ≡ true → HasCover bs x → HasCover bs y
-cover_along bs x y s c = record { member = c.member; contained = c.contained; single = c.single; divides = record { rest = c.divides.rest; product = same_trans y x (plus c.divides.rest c.member.head) (same_flip x y s) c.divides.product } }
+cover_along bs x y s c = record {
+  member = c.member;
+  contained = c.contained;
+  single = c.single;
+  divides = record { rest = c.divides.rest; product = same_trans y x (plus c.divides.rest c.member.head) (same_flip x y s) c.divides.product };
+}
 
 -- each term is so: the tail is covered
 pub cover_all : (bs : List MarkedPolynomial) (u : Exponents) (b : MarkedPolynomial) → Each (IsCovered bs u b.head) b.poly → HasCoveredTail bs u b
@@ -63,7 +68,8 @@ one_term k r x e d m h s = at (same e x) refl
     at : (b : Bool) → same e x ≡ b → coefficient (times k r d.poly) e ≡ (if b then k else zero_ℚ)
     at true p = coefficient-mark k r e d m (same_trans e x (plus r d.head) p s)
     at false p = nothing_there k r d.poly e (λ y n q.
-        let z : same e x ≡ true = same_trans e (plus r d.head) x (same_trans e (plus r y) (plus r d.head) q (same_shift r y d.head (h y n))) (same_flip x (plus r d.head) s) in absurd (cc))
+        let z : same e x ≡ true = same_trans e (plus r d.head) x (same_trans e (plus r y) (plus r d.head) q (same_shift r y d.head (h y n)))
+        (same_flip x (plus r d.head) s) in absurd (cc))
 
 -- the terms of f but those at the mark h, all raised by u, are multiples of members below the mark
 record IsSpread (bs : List MarkedPolynomial) (below : Exponents → Exponents → Type 0) (u h : Exponents) (f : Terms) : Type 0 where
@@ -75,21 +81,31 @@ record IsSpread (bs : List MarkedPolynomial) (below : Exponents → Exponents �
 abbrev IsLow : List MarkedPolynomial → (Exponents → Exponents → Type 0) → Exponents → Exponents → Exponents → Type 0
 IsLow bs below u h y = (same y h ≡ true) ⊎ (below y h × HasCover bs (plus u y))
 
-spread : (bs : List MarkedPolynomial) (below : Exponents → Exponents → Type 0) (u h : Exponents) (f : Terms) → IsStrict below → AreMarked below bs → Each (λ (t : Term). IsLow bs below u h t.mono) f → IsSpread bs below u h f
+spread : (bs : List MarkedPolynomial) (below : Exponents → Exponents → Type 0) (u h : Exponents) (f : Terms) → IsStrict below → AreMarked below bs →
+    Each (λ (t : Term). IsLow bs below u h t.mono) f → IsSpread bs below u h f
 spread bs below u h [] o m k = record { pieces = []; lower = tt; equation = λ e. refl }
 spread bs below u h (t ∷ f) o m k = at (same (plus u h) (plus u t.mono)) refl (spread bs below u h f o m k.1)
   where
     -- as in the list, whether it is at the mark or not
     left : Bool → Terms
-    left b = if b then without (plus u h) (times one_ℚ u f) else (record { coef = one_ℚ *ℚ t.coef; mono = plus u t.mono } ∷ without (plus u h) (times one_ℚ u f))
+    left b = if b then without (plus u h) (times one_ℚ u f) else (record { coef = one_ℚ *ℚ t.coef; mono = plus u t.mono } ∷ without (plus u h)
+        (times one_ℚ u f))
 
-    further : IsSpread bs below u h f → below t.mono h → HasCover bs (plus u t.mono) → (ps : List Piece) × Each (IsPieceBelow (Contains bs) below (plus u h)) ps × ((e : Exponents) → coefficient (left false) e ≡ coefficient (value ps) e)
+    further : IsSpread bs below u h f → below t.mono h → HasCover bs (plus u t.mono) →
+        (ps : List Piece) × Each (IsPieceBelow (Contains bs) below (plus u h)) ps × ((e : Exponents) → coefficient (left false) e ≡ coefficient (value ps) e)
     further r l c = (
       record { factor = one_ℚ *ℚ t.coef; shift = c.divides.rest; of = c.member } ∷ r.pieces,
-      (record { member = c.contained; lower = o.along_left (plus u t.mono) (plus c.divides.rest c.member.head) (plus u h) c.divides.product (o.invariant u t.mono h l) }, r.lower),
+      (
+        record {
+          member = c.contained;
+          lower = o.along_left (plus u t.mono) (plus c.divides.rest c.member.head) (plus u h) c.divides.product (o.invariant u t.mono h l);
+        },
+        r.lower,
+      ),
       λ e.
           ap (λ z. (if same e (plus u t.mono) then one_ℚ *ℚ t.coef else zero_ℚ) +ℚ z) (r.equation e)
-          ∙ ap (λ z. z +ℚ coefficient (value r.pieces) e) (sym (one_term (one_ℚ *ℚ t.coef) c.divides.rest (plus u t.mono) e c.member (m c.member c.contained).monic c.single c.divides.product))
+          ∙ ap (λ z. z +ℚ coefficient (value r.pieces) e) (sym (one_term (one_ℚ *ℚ t.coef) c.divides.rest (plus u t.mono) e c.member
+          (m c.member c.contained).monic c.single c.divides.product))
           ∙ sym (coefficient-++ (times (one_ℚ *ℚ t.coef) c.divides.rest c.member.poly) (value r.pieces) e),
     )
 
@@ -106,8 +122,9 @@ record HasSpreadTail (bs : List MarkedPolynomial) (below : Exponents → Exponen
   lower : Each (IsPieceBelow (Contains bs) below (plus u b.head)) pieces
   equation : (e : Exponents) → coefficient (times one_ℚ u b.poly) e ≡ (if same e (plus u b.head) then one_ℚ else zero_ℚ) +ℚ coefficient (value pieces) e
 
-spread_tail : (bs : List MarkedPolynomial) (below : Exponents → Exponents → Type 0) (b : MarkedPolynomial) (u : Exponents) → IsStrict below → AreMarked below bs → IsMarked below b →
-    ((y : Exponents) → HasMonomial b.poly y → (same y b.head ≡ true) ⊎ HasCover bs (plus u y)) → HasSpreadTail bs below b u
+spread_tail : (bs : List MarkedPolynomial) (below : Exponents → Exponents → Type 0) (b : MarkedPolynomial) (u : Exponents) → IsStrict below →
+    AreMarked below bs → IsMarked below b → ((y : Exponents) → HasMonomial b.poly y → (same y b.head ≡ true) ⊎ HasCover bs (plus u y)) →
+    HasSpreadTail bs below b u
 spread_tail bs below b u o m mb h = at (canonical b.poly)
   where
     x : Exponents
@@ -128,12 +145,13 @@ spread_tail bs below b u o m mb h = at (canonical b.poly)
           equation = λ e.
               SamePolynomial-times one_ℚ u b.poly k.terms k.equal e
               ∙ apart x (times one_ℚ u k.terms) e
-              ∙ ap (λ z. (if same e x then z else zero_ℚ) +ℚ coefficient (without x (times one_ℚ u k.terms)) e) (sym (SamePolynomial-times one_ℚ u b.poly k.terms k.equal x) ∙ coefficient-mark one_ℚ u x b mb.monic (same-refl x))
+              ∙ ap (λ z. (if same e x then z else zero_ℚ) +ℚ coefficient (without x (times one_ℚ u k.terms)) e)
+              (sym (SamePolynomial-times one_ℚ u b.poly k.terms k.equal x) ∙ coefficient-mark one_ℚ u x b mb.monic (same-refl x))
               ∙ ap (λ z. (if same e x then one_ℚ else zero_ℚ) +ℚ z) (r.equation e);
         }
 
-settled_by_cover : (bs : List MarkedPolynomial) (below : Exponents → Exponents → Type 0) (b c : MarkedPolynomial) → IsStrict below → AreMarked below bs → Contains bs b → Contains bs c →
-    IsPairCovered bs b c → IsSettledAtJoin (Contains bs) below b c
+settled_by_cover : (bs : List MarkedPolynomial) (below : Exponents → Exponents → Type 0) (b c : MarkedPolynomial) → IsStrict below → AreMarked below bs →
+    Contains bs b → Contains bs c → IsPairCovered bs b c → IsSettledAtJoin (Contains bs) below b c
 settled_by_cover bs below b c o m hb hc k = record {
   left = u;
   right = v;
@@ -143,9 +161,13 @@ settled_by_cover bs below b c o m hb hc k = record {
     pieces = p.pieces ++ scale (neg_ℚ one_ℚ) [] q.pieces;
     lower = Each-++ (IsPieceBelow (Contains bs) below (plus u b.head)) p.pieces (scale (neg_ℚ one_ℚ) [] q.pieces) p.lower
         (Each-scale (IsPieceBelow (Contains bs) below (plus v c.head)) (IsPieceBelow (Contains bs) below (plus u b.head)) (neg_ℚ one_ℚ) []
-        (λ z g. record { member = g.member; lower = o.along_right (level z) (plus v c.head) (plus u b.head) (same_flip (plus u b.head) (plus v c.head) alike) g.lower }) q.pieces q.lower);
+        (λ z g. record {
+          member = g.member;
+          lower = o.along_right (level z) (plus v c.head) (plus u b.head) (same_flip (plus u b.head) (plus v c.head) alike) g.lower;
+        }) q.pieces q.lower);
     equation = λ e.
-        crossed_over (coefficient (times one_ℚ u b.poly) e) (coefficient (value q.pieces) e) (coefficient (times one_ℚ v c.poly) e) (coefficient (value p.pieces) e)
+        crossed_over (coefficient (times one_ℚ u b.poly) e) (coefficient (value q.pieces) e) (coefficient (times one_ℚ v c.poly) e)
+        (coefficient (value p.pieces) e)
         (ap (λ z. z +ℚ coefficient (value q.pieces) e) (p.equation e)
         ∙ swap_last _ _ _
         ∙ ap (λ z. ((if z then one_ℚ else zero_ℚ) +ℚ coefficient (value q.pieces) e) +ℚ coefficient (value p.pieces) e) (here e)
@@ -168,15 +190,17 @@ settled_by_cover bs below b c o m hb hc k = record {
     q = spread_tail bs below c v o m (m c hc) k.second.at
 
     alike : same (plus u b.head) (plus v c.head) ≡ true
-    alike = same_trans (plus u b.head) (join b.head c.head) (plus v c.head) (minus_left b.head c.head) (same_flip (plus v c.head) (join b.head c.head) (minus_right b.head c.head))
+    alike = same_trans (plus u b.head) (join b.head c.head) (plus v c.head) (minus_left b.head c.head)
+        (same_flip (plus v c.head) (join b.head c.head) (minus_right b.head c.head))
 
     here : (e : Exponents) → same e (plus u b.head) ≡ same e (plus v c.head)
     here e = same-sym e (plus u b.head) ∙ same_along (plus u b.head) (plus v c.head) e alike ∙ same-sym (plus v c.head) e
 
     negated : (e : Exponents) → coefficient (value (scale (neg_ℚ one_ℚ) [] q.pieces)) e ≡ neg_ℚ (coefficient (value q.pieces) e)
-    negated e = ap (λ z. coefficient z e) (value-scale (neg_ℚ one_ℚ) [] q.pieces) ∙ coefficient-factor (neg_ℚ one_ℚ) [] (value q.pieces) e ∙ ap (λ z. neg_ℚ one_ℚ *ℚ coefficient z e) (times-plain (value q.pieces)) ∙ neg_one _
+    negated e = ap (λ z. coefficient z e) (value-scale (neg_ℚ one_ℚ) [] q.pieces) ∙ coefficient-factor (neg_ℚ one_ℚ) [] (value q.pieces) e ∙
+        ap (λ z. neg_ℚ one_ℚ *ℚ coefficient z e) (times-plain (value q.pieces)) ∙ neg_one _
 
 -- members with one monomial settle it
-pub covered_pair : (n : ℕ) (bs : List MarkedPolynomial) (below : Exponents → Exponents → Type 0) (b c : MarkedPolynomial) → AreInVariables n (polys bs) → IsStrict below → AreMarked below bs → Contains bs b → Contains bs c →
-    IsPairCovered bs b c → IsSettledPair n bs below b c
+pub covered_pair : (n : ℕ) (bs : List MarkedPolynomial) (below : Exponents → Exponents → Type 0) (b c : MarkedPolynomial) → AreInVariables n (polys bs) →
+    IsStrict below → AreMarked below bs → Contains bs b → Contains bs c → IsPairCovered bs b c → IsSettledPair n bs below b c
 covered_pair n bs below b c v o m hb hc k = pair_of_settled n bs below b c v o m hb hc (settled_by_cover bs below b c o m hb hc k)

@@ -27,8 +27,10 @@ mark_there : (bs : List MarkedPolynomial) (i : ℕ) (b : MarkedPolynomial) → A
 mark_there bs i b o a z = one_not_zero (sym (o b (member_contained bs i b a)) ∙ z)
 
 -- a monomial that no line's mark divides is needed
-monomial_needed : (a : List ℤ) (xs : List Exponents) (ls : List Line) (i : ℕ) (x : Exponents) → AreMonomialsApart xs → i < length xs → x ≡ get_or xs i x → NoLineFrom ls 0 x → IsNeededAt (with_monomials xs (line_members a ls)) i
-monomial_needed a xs ls i x p l e u = (monomial_member x, record { at = front_at xs (line_members a ls) i x l e; least = λ k c m d. at k c (joined_cases xs (line_members a ls) k c m) d })
+monomial_needed : (a : List ℤ) (xs : List Exponents) (ls : List Line) (i : ℕ) (x : Exponents) → AreMonomialsApart xs → i < length xs → x ≡ get_or xs i x →
+    NoLineFrom ls 0 x → IsNeededAt (with_monomials xs (line_members a ls)) i
+monomial_needed a xs ls i x p l e u =
+    (monomial_member x, record { at = front_at xs (line_members a ls) i x l e; least = λ k c m d. at k c (joined_cases xs (line_members a ls) k c m) d })
   where
     at : (k : ℕ) (c : MarkedPolynomial) → AtFront xs k c ⊎ AtBehind xs (line_members a ls) k c → Divides c.head x → (same c.head x ≡ true) × (i ≤ k)
     at k c (inl f) d =
@@ -41,8 +43,9 @@ monomial_needed a xs ls i x p l e u = (monomial_member x, record { at = front_at
         absurd (u.none g.place m.line (omega arith) m.within m.at (subst (λ (z : MarkedPolynomial). Divides z.head x) m.member d))
 
 -- and so is a line that no later one's mark divides
-line_needed : (a : List ℤ) (xs : List Exponents) (ls : List Line) (j : ℕ) (l : Line) → AreMonic (with_monomials xs (line_members a ls)) → AreLaterUndivided (with_monomials xs (line_members a ls)) → j < length ls → l ≡ get_or ls j l →
-    NoLineFrom ls (j + 1) l.mark → IsNeededAt (with_monomials xs (line_members a ls)) (length xs + j)
+line_needed : (a : List ℤ) (xs : List Exponents) (ls : List Line) (j : ℕ) (l : Line) → AreMonic (with_monomials xs (line_members a ls)) →
+    AreLaterUndivided (with_monomials xs (line_members a ls)) → j < length ls → l ≡ get_or ls j l → NoLineFrom ls (j + 1) l.mark →
+    IsNeededAt (with_monomials xs (line_members a ls)) (length xs + j)
 line_needed a xs ls j l o h w q u = (line_member a l, record { at = here; least = λ k c m d. at k c (cases_lt k (length xs + j)) m d })
   where
     here : IsAt (with_monomials xs (line_members a ls)) (length xs + j) (line_member a l)
@@ -54,18 +57,26 @@ line_needed a xs ls j l o h w q u = (line_member a l, record { at = here; least 
         let m = line_at a ls b.place c b.at in
         u.none b.place m.line (omega (arith, g, b.is)) m.within m.at (subst (λ (z : MarkedPolynomial). Divides z.head l.mark) m.member d)
 
-    from : (k : ℕ) (c : MarkedPolynomial) → (length xs + j < k) ⊎ (k ≤ length xs + j) → length xs + j ≤ k → IsAt (with_monomials xs (line_members a ls)) k c → Divides c.head l.mark → (same c.head l.mark ≡ true) × (length xs + j ≤ k)
+    from : (k : ℕ) (c : MarkedPolynomial) → (length xs + j < k) ⊎ (k ≤ length xs + j) → length xs + j ≤ k → IsAt (with_monomials xs (line_members a ls)) k c →
+        Divides c.head l.mark → (same c.head l.mark ≡ true) × (length xs + j ≤ k)
     from k c (inl g) m i d = absurd (later k c g (joined_cases xs (line_members a ls) k c i) d)
     from k c (inr g) m i d =
-        let r : k ≡ length xs + j = omega (arith, g, m) in
-        (same_of c.head l.mark (ap (λ (z : MarkedPolynomial). z.head) (members_equal (with_monomials xs (line_members a ls)) (length xs + j) c (line_member a l) (subst (λ (z : ℕ). IsAt (with_monomials xs (line_members a ls)) z c) r i) here)), m)
+        let r : k ≡ length xs + j = omega (arith, g, m) in (
+          same_of c.head l.mark (ap (λ (z : MarkedPolynomial). z.head) (members_equal (with_monomials xs (line_members a ls)) (length xs + j) c
+              (line_member a l)
+              (subst (λ (z : ℕ). IsAt (with_monomials xs (line_members a ls)) z c) r i) here)),
+          m,
+        )
 
-    at : (k : ℕ) (c : MarkedPolynomial) → (k < length xs + j) ⊎ (length xs + j ≤ k) → IsAt (with_monomials xs (line_members a ls)) k c → Divides c.head l.mark → (same c.head l.mark ≡ true) × (length xs + j ≤ k)
-    at k c (inl m) i d = absurd (h.none k (length xs + j) c (line_member a l) m i here l.mark (mark_there (with_monomials xs (line_members a ls)) (length xs + j) (line_member a l) o here) d)
+    at : (k : ℕ) (c : MarkedPolynomial) → (k < length xs + j) ⊎ (length xs + j ≤ k) → IsAt (with_monomials xs (line_members a ls)) k c → Divides c.head l.mark →
+        (same c.head l.mark ≡ true) × (length xs + j ≤ k)
+    at k c (inl m) i d = absurd (h.none k (length xs + j) c (line_member a l) m i here l.mark (mark_there (with_monomials xs (line_members a ls))
+        (length xs + j) (line_member a l) o here) d)
     at k c (inr m) i d = from k c (cases_lt (length xs + j) k) m i d
 
 -- one that a later one's mark divides isn't: that would be the same mark, which divides the later one
-needless : (bs : List MarkedPolynomial) (i k : ℕ) (b c : MarkedPolynomial) → AreMonic bs → AreLaterUndivided bs → i < k → IsAt bs i b → IsAt bs k c → Divides c.head b.head → IsNeededAt bs i → ⊥
+needless : (bs : List MarkedPolynomial) (i k : ℕ) (b c : MarkedPolynomial) → AreMonic bs → AreLaterUndivided bs → i < k → IsAt bs i b → IsAt bs k c →
+    Divides c.head b.head → IsNeededAt bs i → ⊥
 needless bs i k b c o h l x y d n =
     let e : n.0 ≡ b = members_equal bs i n.0 b n.1.at x in
     let s = n.1.least k c y (subst (λ (z : MarkedPolynomial). Divides c.head z.head) (sym e) d) in
@@ -73,20 +84,24 @@ needless bs i k b c o h l x y d n =
 
 -- ---- as the code tells
 
-mark_flag : (a : List ℤ) (xs : List Exponents) (ls : List Line) (i : ℕ) (x : Exponents) (f : Bool) → AreMonic (with_monomials xs (line_members a ls)) → AreMonomialsApart xs → AreLaterUndivided (with_monomials xs (line_members a ls)) →
-    i < length xs → x ≡ get_or xs i x → (f ≡ true → NoLineFrom ls 0 x) → (f ≡ false → HasLineFrom ls 0 x) → IsNeededWhere (with_monomials xs (line_members a ls)) i f
+mark_flag : (a : List ℤ) (xs : List Exponents) (ls : List Line) (i : ℕ) (x : Exponents) (f : Bool) → AreMonic (with_monomials xs (line_members a ls)) →
+    AreMonomialsApart xs → AreLaterUndivided (with_monomials xs (line_members a ls)) → i < length xs → x ≡ get_or xs i x → (f ≡ true → NoLineFrom ls 0 x) →
+    (f ≡ false → HasLineFrom ls 0 x) → IsNeededWhere (with_monomials xs (line_members a ls)) i f
 mark_flag a xs ls i x true o p h l e u d = monomial_needed a xs ls i x p l e (u refl)
 mark_flag a xs ls i x false o p h l e u d =
     let g = d refl in
-    needless (with_monomials xs (line_members a ls)) i (length xs + g.place) (monomial_member x) (line_member a g.line) o h (omega (arith, l)) (front_at xs (line_members a ls) i x l e)
+    needless (with_monomials xs (line_members a ls)) i (length xs + g.place) (monomial_member x) (line_member a g.line) o h
+    (omega (arith, l)) (front_at xs (line_members a ls) i x l e)
     (behind_at xs (line_members a ls) g.place (line_member a g.line) (at_line a ls g.place g.line g.within g.at)) g.divides
 
-line_flag : (a : List ℤ) (xs : List Exponents) (ls : List Line) (j : ℕ) (l : Line) (f : Bool) → AreMonic (with_monomials xs (line_members a ls)) → AreLaterUndivided (with_monomials xs (line_members a ls)) →
-    j < length ls → l ≡ get_or ls j l → (f ≡ true → NoLineFrom ls (j + 1) l.mark) → (f ≡ false → HasLineFrom ls (j + 1) l.mark) → IsNeededWhere (with_monomials xs (line_members a ls)) (length xs + j) f
+line_flag : (a : List ℤ) (xs : List Exponents) (ls : List Line) (j : ℕ) (l : Line) (f : Bool) → AreMonic (with_monomials xs (line_members a ls)) →
+    AreLaterUndivided (with_monomials xs (line_members a ls)) → j < length ls → l ≡ get_or ls j l → (f ≡ true → NoLineFrom ls (j + 1) l.mark) →
+    (f ≡ false → HasLineFrom ls (j + 1) l.mark) → IsNeededWhere (with_monomials xs (line_members a ls)) (length xs + j) f
 line_flag a xs ls j l true o h w q u d = line_needed a xs ls j l o h w q (u refl)
 line_flag a xs ls j l false o h w q u d =
     let g = d refl in
-    needless (with_monomials xs (line_members a ls)) (length xs + j) (length xs + g.place) (line_member a l) (line_member a g.line) o h (omega (arith, g.from)) (behind_at xs (line_members a ls) j (line_member a l) (at_line a ls j l w (sym q)))
+    needless (with_monomials xs (line_members a ls)) (length xs + j) (length xs + g.place) (line_member a l) (line_member a g.line) o h
+    (omega (arith, g.from)) (behind_at xs (line_members a ls) j (line_member a l) (at_line a ls j l w (sym q)))
     (behind_at xs (line_members a ls) g.place (line_member a g.line) (at_line a ls g.place g.line g.within g.at)) g.divides
 
 -- ---- the flags
@@ -99,7 +114,8 @@ pub record AreFlagsTo (bs : List MarkedPolynomial) (flags : List Bool) (i : ℕ)
 pub flags_none : (bs : List MarkedPolynomial) (flags : List Bool) → flags ≡ [] → AreFlagsTo bs flags 0
 flags_none bs flags e = record { size = ap (λ (z : List Bool). length z) e; at = λ j l. absurd (omega (arith, l)) }
 
-flags_more : (bs : List MarkedPolynomial) (flags new : List Bool) (i : ℕ) (f : Bool) → IsNeededWhere bs i f → new ≡ flags ++ f ∷ [] → AreFlagsTo bs flags i → AreFlagsTo bs new (i + 1)
+flags_more : (bs : List MarkedPolynomial) (flags new : List Bool) (i : ℕ) (f : Bool) → IsNeededWhere bs i f → new ≡ flags ++ f ∷ [] → AreFlagsTo bs flags i →
+    AreFlagsTo bs new (i + 1)
 flags_more bs flags new i f p e h = subst (λ (z : List Bool). AreFlagsTo bs z (i + 1)) (sym e) (record { size = size; at = λ j l. at j (cases_lt j i) l })
   where
     longer : (xs : List Bool) → length (xs ++ f ∷ []) ≡ length xs + 1
@@ -116,23 +132,27 @@ flags_more bs flags new i f p e h = subst (λ (z : List Bool). AreFlagsTo bs z (
         subst (IsNeededWhere bs j) (sym (get_or_push flags f false j (h.size ∙ r))) (subst (λ (z : ℕ). IsNeededWhere bs z f) r p)
 
 -- that of a monomial
-pub flags_mark : (a : List ℤ) (xs : List Exponents) (ls : List Line) (flags new : List Bool) (i : ℕ) (x : Exponents) (f : Bool) → IsGround a xs → Each (IsLineAlong a) ls → AreMonomialsApart xs → AreLaterUndivided (with_monomials xs (line_members a ls)) →
-    i < length xs → x ≡ get_or xs i x → (f ≡ true → NoLineFrom ls 0 x) → (f ≡ false → HasLineFrom ls 0 x) → new ≡ flags ++ f ∷ [] →
-    AreFlagsTo (with_monomials xs (line_members a ls)) flags i → AreFlagsTo (with_monomials xs (line_members a ls)) new (i + 1)
+pub flags_mark : (a : List ℤ) (xs : List Exponents) (ls : List Line) (flags new : List Bool) (i : ℕ) (x : Exponents) (f : Bool) → IsGround a xs →
+    Each (IsLineAlong a) ls → AreMonomialsApart xs → AreLaterUndivided (with_monomials xs (line_members a ls)) → i < length xs → x ≡ get_or xs i x →
+    (f ≡ true → NoLineFrom ls 0 x) → (f ≡ false → HasLineFrom ls 0 x) → new ≡ flags ++ f ∷ [] → AreFlagsTo (with_monomials xs (line_members a ls)) flags i →
+    AreFlagsTo (with_monomials xs (line_members a ls)) new (i + 1)
 flags_mark a xs ls flags new i x f g o p h l e u d q r =
     flags_more (with_monomials xs (line_members a ls)) flags new i f (mark_flag a xs ls i x f (ground_monic a xs ls g.nonzero o) p h l e u d) q r
 
 -- behind the monomials
-pub flags_turn : (a : List ℤ) (xs : List Exponents) (ls : List Line) (flags : List Bool) (i : ℕ) → i ≡ length xs → AreFlagsTo (with_monomials xs (line_members a ls)) flags i → AreFlagsTo (with_monomials xs (line_members a ls)) flags (length xs + 0)
+pub flags_turn : (a : List ℤ) (xs : List Exponents) (ls : List Line) (flags : List Bool) (i : ℕ) → i ≡ length xs →
+    AreFlagsTo (with_monomials xs (line_members a ls)) flags i → AreFlagsTo (with_monomials xs (line_members a ls)) flags (length xs + 0)
 flags_turn a xs ls flags i e h = subst (AreFlagsTo (with_monomials xs (line_members a ls)) flags) (omega (arith, e)) h
 
 -- that of a line
-pub flags_line : (a : List ℤ) (xs : List Exponents) (ls : List Line) (flags new : List Bool) (j : ℕ) (l : Line) (y : Exponents) (f : Bool) → IsGround a xs → Each (IsLineAlong a) ls → AreLaterUndivided (with_monomials xs (line_members a ls)) →
-    j < length ls → l ≡ get_or ls j l → y ≡ l.mark → (f ≡ true → NoLineFrom ls (j + 1) y) → (f ≡ false → HasLineFrom ls (j + 1) y) → new ≡ flags ++ f ∷ [] →
-    AreFlagsTo (with_monomials xs (line_members a ls)) flags (length xs + j) → AreFlagsTo (with_monomials xs (line_members a ls)) new (length xs + (j + 1))
+pub flags_line : (a : List ℤ) (xs : List Exponents) (ls : List Line) (flags new : List Bool) (j : ℕ) (l : Line) (y : Exponents) (f : Bool) → IsGround a xs →
+    Each (IsLineAlong a) ls → AreLaterUndivided (with_monomials xs (line_members a ls)) → j < length ls → l ≡ get_or ls j l → y ≡ l.mark →
+    (f ≡ true → NoLineFrom ls (j + 1) y) → (f ≡ false → HasLineFrom ls (j + 1) y) → new ≡ flags ++ f ∷ [] → AreFlagsTo (with_monomials xs (line_members a ls))
+    flags (length xs + j) → AreFlagsTo (with_monomials xs (line_members a ls)) new (length xs + (j + 1))
 flags_line a xs ls flags new j l y f g o h w q m u d e r =
     subst (AreFlagsTo (with_monomials xs (line_members a ls)) new) (omega arith)
-    (flags_more (with_monomials xs (line_members a ls)) flags new (length xs + j) f (line_flag a xs ls j l f (ground_monic a xs ls g.nonzero o) h w q (λ t. subst (NoLineFrom ls (j + 1)) m (u t)) (λ t. subst (HasLineFrom ls (j + 1)) m (d t))) e r)
+    (flags_more (with_monomials xs (line_members a ls)) flags new (length xs + j) f (line_flag a xs ls j l f (ground_monic a xs ls g.nonzero o) h w q
+    (λ t. subst (NoLineFrom ls (j + 1)) m (u t)) (λ t. subst (HasLineFrom ls (j + 1)) m (d t))) e r)
 
 members-length : (a : List ℤ) (ls : List Line) → length (line_members a ls) ≡ length ls
 members-length a [] = refl
@@ -141,7 +161,8 @@ members-length a (l ∷ ls) = omega (arith, members-length a ls)
 pub lines_length : (a : List ℤ) (xs : List Exponents) (ls : List Line) → length (with_monomials xs (line_members a ls)) ≡ length xs + length ls
 lines_length a xs ls = joined_length xs (line_members a ls) ∙ ap (λ (k : ℕ). length xs + k) (members-length a ls)
 
-pub flags_end : (a : List ℤ) (xs : List Exponents) (ls : List Line) (flags : List Bool) (j : ℕ) → j ≡ length ls → AreFlagsTo (with_monomials xs (line_members a ls)) flags (length xs + j) → AreNeededFlags (with_monomials xs (line_members a ls)) flags
+pub flags_end : (a : List ℤ) (xs : List Exponents) (ls : List Line) (flags : List Bool) (j : ℕ) → j ≡ length ls →
+    AreFlagsTo (with_monomials xs (line_members a ls)) flags (length xs + j) → AreNeededFlags (with_monomials xs (line_members a ls)) flags
 flags_end a xs ls flags j e h =
     let s : length xs + j ≡ length (with_monomials xs (line_members a ls)) = ap (λ (k : ℕ). length xs + k) e ∙ sym (lines_length a xs ls) in
     record { size = h.size ∙ s; at = λ i l. h.at i (omega (arith, s, l)) }

@@ -1,6 +1,7 @@
 -- The tails of the needed lines of a run, reduced in place one after another: the needed ones are the reduced basis then.
 -- To cite: tail_kept, tail_reduced, lines_put, AreLinesTo, lines-start, lines-left, lines-settled, lines-size, flags_read, settles_to.
-use Rattle.std.proofs.Common.{◌≡◌, ◌⊎◌, ℕ, zero, suc, ◌+◌, ◌<◌, ◌≤◌, Bool, true, false, if◌then◌else◌, List, [], ◌∷◌, ◌++◌, length, drop, remove, get_or, set, Contains, IfSome, None, Option, ℤ, pos, ◌<ℤ◌, arith, refl, sym, ap, ◌∙◌, subst, inl, inr}
+use Rattle.std.proofs.Common.{◌≡◌, ◌⊎◌, ℕ, zero, suc, ◌+◌, ◌<◌, ◌≤◌, Bool, true, false, if◌then◌else◌, List, [], ◌∷◌, ◌++◌, length, drop, remove, get_or, set}
+use Rattle.std.proofs.Common.{Contains, IfSome, None, Option, ℤ, pos, ◌<ℤ◌, arith, refl, sym, ap, ◌∙◌, subst, inl, inr}
 use Rattle.std.proofs.lemmas.Bool.{cases_lt, cases_eq}
 use Rattle.std.proofs.lemmas.List.{drop_more, get_or_default, set-get_or, length-set, map-set, append_assoc, append-nil}
 use Rattle.gf_frac.specs.Fraction.{Fraction, ◌+ℚ◌, ◌*ℚ◌, neg_ℚ, zero_ℚ, one_ℚ}
@@ -34,7 +35,8 @@ use Rattle.gf_lines.specs.declared.lines.Point.{Point}
 use Rattle.gf_lines.specs.declared.lines.Line.{Line}
 use Rattle.gf_lines.specs.Along.{HasNonzero}
 use Rattle.gf_lines.specs.Members.{HasReducedTail, AreMonic}
-use Rattle.gf_lines.specs.Lines.{moved, AreSpots, AreFalling, line_terms, line_member, line_members, IsLineAlong, HasOrigin, IsLineOf, AreLinesOf, IsGround, facet_order}
+use Rattle.gf_lines.specs.Lines.{moved, AreSpots, AreFalling, line_terms, line_member, line_members, IsLineAlong, HasOrigin, IsLineOf, AreLinesOf, IsGround}
+use Rattle.gf_lines.specs.Lines.{facet_order}
 use Rattle.gf_lines.specs.Monomials.{monomial_member, with_monomials, AreLaterUndivided, chosen}
 use Rattle.gf_lines.specs.Forms.{NoLineFrom}
 use Rattle.gf_lines.proofs.LineLaws.{line_listed, line_marked}
@@ -72,7 +74,8 @@ headed_below : (below : Exponents → Exponents → Type 0) (x : Exponents) (f :
 headed_below below x f m y n = at (same y x) refl
   where
     none : coefficient f x ≡ zero_ℚ
-    none = crossed_over (coefficient f x) one_ℚ zero_ℚ one_ℚ (+ℚ_comm (coefficient f x) one_ℚ ∙ sym (headed_here x f) ∙ m.monic ∙ sym (zero-+ℚ one_ℚ)) ∙ zero-+ℚ (one_ℚ +ℚ neg_ℚ one_ℚ) ∙ +ℚ-neg_ℚ one_ℚ
+    none = crossed_over (coefficient f x) one_ℚ zero_ℚ one_ℚ (+ℚ_comm (coefficient f x) one_ℚ ∙ sym (headed_here x f) ∙ m.monic ∙ sym (zero-+ℚ one_ℚ)) ∙
+        zero-+ℚ (one_ℚ +ℚ neg_ℚ one_ℚ) ∙ +ℚ-neg_ℚ one_ℚ
 
     elsewhere : same y x ≡ false → (same y x ≡ true) ⊎ below y x → below y x
     elsewhere e (inl s) = absurd (cc)
@@ -97,9 +100,10 @@ marked_below below x f o w = record {
     at y (inr n) = inr (w y n)
 
 -- steps lead from it to it with what they lead to from the others
-headed_reached : (by : MarkedPolynomial → Type 0) (below : Exponents → Exponents → Type 0) (x : Exponents) (f g : Terms) → IsStrict below → ((b : MarkedPolynomial) → by b → IsMarked below b) → IsWithin (λ y. below y x) f →
-    Reached by f g → Reached by (headed x f).poly (headed x g).poly
-headed_reached by below x f g o m w (Reached.here k e) = Reached.here (headed x g).poly (λ y. ap (λ (z : Fraction). (if same y x then one_ℚ else zero_ℚ) +ℚ z) (e y))
+headed_reached : (by : MarkedPolynomial → Type 0) (below : Exponents → Exponents → Type 0) (x : Exponents) (f g : Terms) → IsStrict below →
+    ((b : MarkedPolynomial) → by b → IsMarked below b) → IsWithin (λ y. below y x) f → Reached by f g → Reached by (headed x f).poly (headed x g).poly
+headed_reached by below x f g o m w (Reached.here k e) =
+    Reached.here (headed x g).poly (λ y. ap (λ (z : Fraction). (if same y x then one_ℚ else zero_ℚ) +ℚ z) (e y))
 headed_reached by below x f g o m w (Reached.next k l r s) = Reached.next (headed x k).poly (headed x g).poly (headed_reached by below x f k o m w r) (record {
   at = s.at;
   member = s.member;
@@ -107,7 +111,8 @@ headed_reached by below x f g o m w (Reached.next k l r s) = Reached.next (heade
   contained = s.contained;
   there = λ z. s.there (sym plain ∙ z);
   divides = s.divides;
-  equal = λ y. ap (λ (z : Fraction). (if same y x then one_ℚ else zero_ℚ) +ℚ z) (s.equal y ∙ ap (λ (c : Fraction). coefficient (k ++ times (neg_ℚ c) s.rest s.member.poly) y) (sym plain));
+  equal = λ y. ap (λ (z : Fraction). (if same y x then one_ℚ else zero_ℚ) +ℚ z) (s.equal y ∙
+      ap (λ (c : Fraction). coefficient (k ++ times (neg_ℚ c) s.rest s.member.poly) y) (sym plain));
 })
   where
     under : below s.at x
@@ -131,10 +136,14 @@ led_same : (bs : List MarkedPolynomial) → IsLedTo bs bs
 led_same bs = record { marked = λ w m. m; members = λ n fs w v m b. b }
 
 led_trans : (bs cs ds : List MarkedPolynomial) → IsLedTo bs cs → IsLedTo cs ds → IsLedTo bs ds
-led_trans bs cs ds h k = record { marked = λ w m. k.marked w (h.marked w m); members = λ n fs w v m b. k.members n fs w v (h.marked w m) (h.members n fs w v m b) }
+led_trans bs cs ds h k = record {
+  marked = λ w m. k.marked w (h.marked w m);
+  members = λ n fs w v m b. k.members n fs w v (h.marked w m) (h.members n fs w v m b);
+}
 
 -- one tail put in that steps lead to
-led_put : (bs : List MarkedPolynomial) (p : ℕ) (x : Exponents) (f g : Terms) → IsAt bs p (headed x f) → Reached (Contains bs) f g → IsLedTo bs (set bs p (headed x g))
+led_put : (bs : List MarkedPolynomial) (p : ℕ) (x : Exponents) (f g : Terms) → IsAt bs p (headed x f) → Reached (Contains bs) f g →
+    IsLedTo bs (set bs p (headed x g))
 led_put bs p x f g a r = record {
   marked = λ w m c k. marked w m c (set_cases bs p (headed x g) c k);
   members = λ n fs w v m b c k. members n fs w v m b c (set_cases bs p (headed x g) c k);
@@ -144,12 +153,15 @@ led_put bs p x f g a r = record {
     below w m = headed_below (lighter w) x f (m (headed x f) (member_contained bs p (headed x f) a))
 
     marked : (w : List ℕ) → AreMarked (lighter w) bs → (c : MarkedPolynomial) → (headed x g ≡ c) ⊎ Contains bs c → IsMarked (lighter w) c
-    marked w m c (inl e) = subst (IsMarked (lighter w)) e (marked_below (lighter w) x g (lighter-strict w) (taken (Contains bs) (λ y. lighter w y x) f g (closed-below (Contains bs) (lighter w) x (lighter-strict w) m) (below w m) r).within)
+    marked w m c (inl e) = subst (IsMarked (lighter w)) e (marked_below (lighter w) x g (lighter-strict w)
+        (taken (Contains bs) (λ y. lighter w y x) f g (closed-below (Contains bs) (lighter w) x (lighter-strict w) m) (below w m) r).within)
     marked w m c (inr k) = m c k
 
-    members : (n : ℕ) (fs : List Terms) (w : List ℕ) → AreInVariables n fs → AreMarked (lighter w) bs → AreMembers n fs bs → (c : MarkedPolynomial) → (headed x g ≡ c) ⊎ Contains bs c → IsMember n fs c.poly
+    members : (n : ℕ) (fs : List Terms) (w : List ℕ) → AreInVariables n fs → AreMarked (lighter w) bs → AreMembers n fs bs → (c : MarkedPolynomial) →
+        (headed x g ≡ c) ⊎ Contains bs c → IsMember n fs c.poly
     members n fs w v m b c (inl e) = subst (λ (z : MarkedPolynomial). IsMember n fs z.poly) e
-        (member-reached n fs (Contains bs) (headed x f).poly (headed x g).poly v b (headed_reached (Contains bs) (lighter w) x f g (lighter-strict w) m (below w m) r) (b (headed x f) (member_contained bs p (headed x f) a)))
+        (member-reached n fs (Contains bs) (headed x f).poly (headed x g).poly v b (headed_reached (Contains bs) (lighter w) x f g (lighter-strict w) m
+        (below w m) r) (b (headed x f) (member_contained bs p (headed x f) a)))
     members n fs w v m b c (inr k) = b c k
 
 -- ---- tails before a place
@@ -162,7 +174,8 @@ pub record AreTailsTo (flags : List Bool) (bs : List MarkedPolynomial) (p : ℕ)
   pub led : IsLedTo bs cs
   pub tails : (i : ℕ) (c : MarkedPolynomial) → i < p → get_or flags i false ≡ true → IsAt cs i c → HasReducedTail bs c
 
-tails_none : (flags : List Bool) (bs : List MarkedPolynomial) (p : ℕ) → ((i : ℕ) (c : MarkedPolynomial) → i < p → IsAt bs i c → HasOneMonomial c) → AreTailsTo flags bs p bs
+tails_none : (flags : List Bool) (bs : List MarkedPolynomial) (p : ℕ) → ((i : ℕ) (c : MarkedPolynomial) → i < p → IsAt bs i c → HasOneMonomial c) →
+    AreTailsTo flags bs p bs
 tails_none flags bs p h = record {
   size = refl;
   heads = λ i b c x y. ap (λ (z : MarkedPolynomial). z.head) (members_equal bs i c b y x);
@@ -172,7 +185,8 @@ tails_none flags bs p h = record {
 }
 
 -- the member at the place isn't needed
-tails_skipped : (flags : List Bool) (bs : List MarkedPolynomial) (p : ℕ) (cs : List MarkedPolynomial) → get_or flags p false ≡ false → AreTailsTo flags bs p cs → AreTailsTo flags bs (p + 1) cs
+tails_skipped : (flags : List Bool) (bs : List MarkedPolynomial) (p : ℕ) (cs : List MarkedPolynomial) → get_or flags p false ≡ false →
+    AreTailsTo flags bs p cs → AreTailsTo flags bs (p + 1) cs
 tails_skipped flags bs p cs e h = record {
   size = h.size;
   heads = h.heads;
@@ -189,8 +203,8 @@ tails_skipped flags bs p cs e h = record {
         absurd (cc)
 
 -- one is put in
-tails_put : (flags : List Bool) (bs : List MarkedPolynomial) (p : ℕ) (cs ds : List MarkedPolynomial) (b c : MarkedPolynomial) → IsAt cs p b → ds ≡ set cs p c → c.head ≡ b.head → IsLedTo cs ds → HasReducedTail bs c →
-    AreTailsTo flags bs p cs → AreTailsTo flags bs (p + 1) ds
+tails_put : (flags : List Bool) (bs : List MarkedPolynomial) (p : ℕ) (cs ds : List MarkedPolynomial) (b c : MarkedPolynomial) → IsAt cs p b → ds ≡ set cs p c →
+    c.head ≡ b.head → IsLedTo cs ds → HasReducedTail bs c → AreTailsTo flags bs p cs → AreTailsTo flags bs (p + 1) ds
 tails_put flags bs p cs ds b c a e m k t h = subst (AreTailsTo flags bs (p + 1)) (sym e) (record {
   size = length-set cs p c ∙ h.size;
   heads = λ i d g x y. heads i d g (cases_eq i p) x y;
@@ -200,7 +214,8 @@ tails_put flags bs p cs ds b c a e m k t h = subst (AreTailsTo flags bs (p + 1))
 })
   where
     heads : (i : ℕ) (d g : MarkedPolynomial) → (i ≡ p) ⊎ (i ≡ p → ⊥) → IsAt bs i d → IsAt (set cs p c) i g → g.head ≡ d.head
-    heads i d g (inl r) x y = ap (λ (z : MarkedPolynomial). z.head) (sym (put_same cs p i c g a.within r y)) ∙ m ∙ h.heads p d b (subst (λ (z : ℕ). IsAt bs z d) r x) a
+    heads i d g (inl r) x y = ap (λ (z : MarkedPolynomial). z.head) (sym (put_same cs p i c g a.within r y)) ∙ m ∙ h.heads p d b
+        (subst (λ (z : ℕ). IsAt bs z d) r x) a
     heads i d g (inr n) x y = h.heads i d g x (put_other cs p i c g n y)
 
     tails : (i : ℕ) (g : MarkedPolynomial) → (i ≡ p) ⊎ (i ≡ p → ⊥) → i < p + 1 → get_or flags i false ≡ true → IsAt (set cs p c) i g → HasReducedTail bs g
@@ -209,17 +224,20 @@ tails_put flags bs p cs ds b c a e m k t h = subst (AreTailsTo flags bs (p + 1))
 
 -- ---- the tail of a line
 
-members_set : (a : List ℤ) (xs : List Exponents) (ls : List Line) (j : ℕ) (l : Line) → with_monomials xs (line_members a (set ls j l)) ≡ set (with_monomials xs (line_members a ls)) (length xs + j) (line_member a l)
+members_set : (a : List ℤ) (xs : List Exponents) (ls : List Line) (j : ℕ) (l : Line) →
+    with_monomials xs (line_members a (set ls j l)) ≡ set (with_monomials xs (line_members a ls)) (length xs + j) (line_member a l)
 members_set a [] ls j l =
     let e : j ≡ length {A = Exponents} [] + j = omega arith in
     map-set (line_member a) ls j l ∙ ap (λ (k : ℕ). set (line_members a ls) k (line_member a l)) e
 members_set a (x ∷ xs) ls j l =
     let e : suc (length xs + j) ≡ length (x ∷ xs) + j = omega arith in
-    ap (λ (z : List MarkedPolynomial). monomial_member x ∷ z) (members_set a xs ls j l) ∙ ap (λ (k : ℕ). set (with_monomials (x ∷ xs) (line_members a ls)) k (line_member a l)) e
+    ap (λ (z : List MarkedPolynomial). monomial_member x ∷ z) (members_set a xs ls j l) ∙ ap (λ (k : ℕ). set (with_monomials (x ∷ xs) (line_members a ls)) k
+    (line_member a l)) e
 
 -- it stays, and no mark of a line from its place on divides a term of it
-tail_stays : (a : List ℤ) (xs : List Exponents) (old ls : List Line) (j : ℕ) (l : Line) (flags : List Bool) → AreLaterUndivided (with_monomials xs (line_members a old)) → j < length ls → get_or ls j l ≡ l →
-    Each (λ (p : Point). NoLineFrom ls j (moved a l.mark p.k)) l.rest.items → AreTailsTo flags (with_monomials xs (line_members a old)) (length xs + j) (with_monomials xs (line_members a ls)) →
+tail_stays : (a : List ℤ) (xs : List Exponents) (old ls : List Line) (j : ℕ) (l : Line) (flags : List Bool) →
+    AreLaterUndivided (with_monomials xs (line_members a old)) → j < length ls → get_or ls j l ≡ l → Each (λ (p : Point). NoLineFrom ls j (moved a l.mark p.k))
+    l.rest.items → AreTailsTo flags (with_monomials xs (line_members a old)) (length xs + j) (with_monomials xs (line_members a ls)) →
     HasReducedTail (with_monomials xs (line_members a old)) (line_member a l)
 tail_stays a xs old ls j l flags u w q n h x m d = at (headed_cases l.mark (line_terms a l.mark l.rest.items) x m) (cases_lt d.contained.0 (length xs + j))
   where
@@ -247,31 +265,37 @@ tail_stays a xs old ls j l flags u w q n h x m d = at (headed_cases l.mark (line
     mark : (get_or cs d.contained.0 d.member).head ≡ d.member.head
     mark = h.heads d.contained.0 d.member (get_or cs d.contained.0 d.member) divisor now
 
-    late : (p : Point) → Contains l.rest.items p → same x (moved a l.mark p.k) ≡ true → length xs + j ≤ d.contained.0 → AtFront xs d.contained.0 (get_or cs d.contained.0 d.member) ⊎ AtBehind xs (line_members a ls) d.contained.0 (get_or cs d.contained.0 d.member) → ⊥
+    late : (p : Point) → Contains l.rest.items p → same x (moved a l.mark p.k) ≡ true → length xs + j ≤ d.contained.0 →
+        AtFront xs d.contained.0 (get_or cs d.contained.0 d.member) ⊎ AtBehind xs (line_members a ls) d.contained.0 (get_or cs d.contained.0 d.member) → ⊥
     late p c s g (inl f) = absurd (omega (arith, f.within, g))
     late p c s g (inr b) =
         let m = line_at a ls b.place (get_or cs d.contained.0 d.member) b.at in
         let e : d.member.head ≡ m.line.mark = sym mark ∙ ap (λ (z : MarkedPolynomial). z.head) m.member in
-        let t : same (moved a l.mark p.k) (plus d.rest d.member.head) ≡ true = same_trans (moved a l.mark p.k) x (plus d.rest d.member.head) (same_flip x (moved a l.mark p.k) s) d.divides in
+        let t : same (moved a l.mark p.k) (plus d.rest d.member.head) ≡ true =
+        same_trans (moved a l.mark p.k) x (plus d.rest d.member.head) (same_flip x (moved a l.mark p.k) s) d.divides in
         (contained_each (λ (p : Point). NoLineFrom ls j (moved a l.mark p.k)) l.rest.items n p c).none b.place m.line (omega (arith, g, b.is)) m.within m.at
         (record { rest = d.rest; product = subst (λ (z : Exponents). same (moved a l.mark p.k) (plus d.rest z) ≡ true) e t })
 
-    at : (same x l.mark ≡ true) ⊎ HasMonomial (line_terms a l.mark l.rest.items) x → (d.contained.0 < length xs + j) ⊎ (length xs + j ≤ d.contained.0) → same x l.mark ≡ true
+    at : (same x l.mark ≡ true) ⊎ HasMonomial (line_terms a l.mark l.rest.items) x → (d.contained.0 < length xs + j) ⊎ (length xs + j ≤ d.contained.0) →
+        same x l.mark ≡ true
     at (inl s) k = s
-    at (inr t) (inl k) = absurd (u.none d.contained.0 (length xs + j) d.member (line_member a l) k divisor before x m (record { rest = d.rest; product = d.divides }))
+    at (inr t) (inl k) =
+        absurd (u.none d.contained.0 (length xs + j) d.member (line_member a l) k divisor before x m (record { rest = d.rest; product = d.divides }))
     at (inr t) (inr k) =
         let p = line_listed a l.mark x l.rest.items t in
         absurd (late p.0 p.1 p.2 k (joined_cases xs (line_members a ls) d.contained.0 (get_or cs d.contained.0 d.member) now))
 
 -- it is reduced
-tail_divided : (bs cs : List MarkedPolynomial) (x : Exponents) (f : Terms) → length cs ≡ length bs → ((i : ℕ) (b c : MarkedPolynomial) → IsAt bs i b → IsAt cs i c → c.head ≡ b.head) → IsIrreducible (Contains cs) f → HasReducedTail bs (headed x f)
+tail_divided : (bs cs : List MarkedPolynomial) (x : Exponents) (f : Terms) → length cs ≡ length bs →
+    ((i : ℕ) (b c : MarkedPolynomial) → IsAt bs i b → IsAt cs i c → c.head ≡ b.head) → IsIrreducible (Contains cs) f → HasReducedTail bs (headed x f)
 tail_divided bs cs x f e h n y m d = elim (headed_cases x f y m) [
   | inl s ↦ s
   | inr t ↦ absurd (n y t (divisible_along bs cs e h y d))
 ]
 
 -- as the code stands: what the line at the place j is, by a list and points that are the same
-pub tail_kept : (a : List ℤ) (xs : List Exponents) (ls ms : List Line) (j : ℕ) (l : Line) (ps : List Point) → l ≡ get_or ls j l → ms ≡ ls → ps ≡ l.rest.items → Each (λ (p : Point). NoLineFrom ms j (moved a l.mark p.k)) ps → IsTailSettled a xs j ls ls
+pub tail_kept : (a : List ℤ) (xs : List Exponents) (ls ms : List Line) (j : ℕ) (l : Line) (ps : List Point) → l ≡ get_or ls j l → ms ≡ ls → ps ≡ l.rest.items →
+    Each (λ (p : Point). NoLineFrom ms j (moved a l.mark p.k)) ps → IsTailSettled a xs j ls ls
 tail_kept a xs ls ms j l ps q e f n = record {
   before = l;
   at = sym q;
@@ -279,11 +303,16 @@ tail_kept a xs ls ms j l ps q e f n = record {
   lines = sym (ap (set ls j) q ∙ set-get_or ls j l);
   mark = refl;
   reached = reached-here (Contains (with_monomials xs (line_members a ls))) (line_terms a l.mark l.rest.items);
-  tail = inl (refl, subst (λ (z : List Line). Each (λ (p : Point). NoLineFrom z j (moved a l.mark p.k)) l.rest.items) e (subst (Each (λ (p : Point). NoLineFrom ms j (moved a l.mark p.k))) f n));
+  tail = inl (
+    refl,
+    subst (λ (z : List Line). Each (λ (p : Point). NoLineFrom z j (moved a l.mark p.k)) l.rest.items) e
+        (subst (Each (λ (p : Point). NoLineFrom ms j (moved a l.mark p.k))) f n),
+  );
 }
 
-pub tail_reduced : (a : List ℤ) (xs : List Exponents) (ls ms : List Line) (j : ℕ) (l m : Line) (ps : List Point) → j < length ls → l ≡ get_or ls j l → ms ≡ ls → ps ≡ l.rest.items → m.mark ≡ l.mark →
-    IsRemainder (with_monomials xs (line_members a ms)) (line_terms a l.mark ps) (line_terms a l.mark m.rest.items) → IsTailSettled a xs j ls (set ls j m)
+pub tail_reduced : (a : List ℤ) (xs : List Exponents) (ls ms : List Line) (j : ℕ) (l m : Line) (ps : List Point) → j < length ls → l ≡ get_or ls j l → ms ≡ ls →
+    ps ≡ l.rest.items → m.mark ≡ l.mark → IsRemainder (with_monomials xs (line_members a ms)) (line_terms a l.mark ps) (line_terms a l.mark m.rest.items) →
+    IsTailSettled a xs j ls (set ls j m)
 tail_reduced a xs ls ms j l m ps w q e f k r = record {
   before = l;
   at = sym q;
@@ -304,9 +333,11 @@ each_set P (y ∷ xs) zero x h k = (k, h.1)
 each_set P (y ∷ xs) (suc j) x h k = (h.0, each_set P xs j x h.1 k)
 
 -- the line put in is a line again
-pub lines_put : (a : List ℤ) (by : List MarkedPolynomial) (ls : List Line) (j : ℕ) (l m : Line) (ps : List Point) → AreLinesOf a by ls → j < length ls → l ≡ get_or ls j l → ps ≡ l.rest.items → m.mark ≡ l.mark → m.origin ≡ None →
-    AreSpots a l.mark m.rest.items → (Each (λ (p : Point). pos 0 <ℤ p.k) ps → Each (λ (p : Point). pos 0 <ℤ p.k) m.rest.items) → AreFalling m.rest.items → AreLinesOf a by (set ls j m)
-lines_put a by ls j l m ps h w q f k o on further falling = each_set (IsLineOf a by) ls j m h (made, subst (λ (z : Option ℕ). IfSome z (HasOrigin a by m)) (sym o) tt)
+pub lines_put : (a : List ℤ) (by : List MarkedPolynomial) (ls : List Line) (j : ℕ) (l m : Line) (ps : List Point) → AreLinesOf a by ls → j < length ls →
+    l ≡ get_or ls j l → ps ≡ l.rest.items → m.mark ≡ l.mark → m.origin ≡ None → AreSpots a l.mark m.rest.items →
+    (Each (λ (p : Point). pos 0 <ℤ p.k) ps → Each (λ (p : Point). pos 0 <ℤ p.k) m.rest.items) → AreFalling m.rest.items → AreLinesOf a by (set ls j m)
+lines_put a by ls j l m ps h w q f k o on further falling =
+    each_set (IsLineOf a by) ls j m h (made, subst (λ (z : Option ℕ). IfSome z (HasOrigin a by m)) (sym o) tt)
   where
     old : IsLineAlong a l
     old = (each_line (IsLineOf a by) ls j l h w (sym q)).0
@@ -322,41 +353,53 @@ lines_put a by ls j l m ps h w q f k o on further falling = each_set (IsLineOf a
 -- ---- one line after another, as the code stands
 
 -- so it is with the lines before the place j
-pub record AreLinesTo (a : List ℤ) (xs : List Exponents) (by : List MarkedPolynomial) (flags : List Bool) (old : List Line) (j : ℕ) (ls : List Line) : Type 0 where
+pub record AreLinesTo (a : List ℤ) (xs : List Exponents) (by : List MarkedPolynomial) (flags : List Bool) (old : List Line) (j : ℕ) (ls : List Line) :
+    Type 0 where
   pub tails : AreTailsTo flags (with_monomials xs (line_members a old)) (length xs + j) (with_monomials xs (line_members a ls))
   pub size : length ls ≡ length old
   pub lines : AreLinesOf a by ls
 
-pub lines-start : (a : List ℤ) (xs : List Exponents) (by : List MarkedPolynomial) (flags : List Bool) (ls : List Line) → AreLinesOf a by ls → AreLinesTo a xs by flags ls 0 ls
-lines-start a xs by flags ls k = record { tails = tails_none flags (with_monomials xs (line_members a ls)) (length xs + 0) (λ i c l h. single i c l (joined_cases xs (line_members a ls) i c h)); size = refl; lines = k }
+pub lines-start : (a : List ℤ) (xs : List Exponents) (by : List MarkedPolynomial) (flags : List Bool) (ls : List Line) → AreLinesOf a by ls →
+    AreLinesTo a xs by flags ls 0 ls
+lines-start a xs by flags ls k = record {
+  tails = tails_none flags (with_monomials xs (line_members a ls)) (length xs + 0) (λ i c l h. single i c l (joined_cases xs (line_members a ls) i c h));
+  size = refl;
+  lines = k;
+}
   where
     single : (i : ℕ) (c : MarkedPolynomial) → i < length xs + 0 → AtFront xs i c ⊎ AtBehind xs (line_members a ls) i c → HasOneMonomial c
     single i c l (inl f) = subst HasOneMonomial (sym f.member) (monomial_single f.mono)
     single i c l (inr g) = absurd (omega (arith, l, g.is))
 
-pub flags_read : (a : List ℤ) (xs : List Exponents) (flags : List Bool) (old ms : List Line) → ms ≡ old → AreNeededFlags (with_monomials xs (line_members a ms)) flags → AreNeededFlags (with_monomials xs (line_members a old)) flags
+pub flags_read : (a : List ℤ) (xs : List Exponents) (flags : List Bool) (old ms : List Line) → ms ≡ old →
+    AreNeededFlags (with_monomials xs (line_members a ms)) flags → AreNeededFlags (with_monomials xs (line_members a old)) flags
 flags_read a xs flags old ms e f = subst (λ (z : List Line). AreNeededFlags (with_monomials xs (line_members a z)) flags) e f
 
 -- there is a flag for each line
-flags_within : (a : List ℤ) (xs : List Exponents) (flags : List Bool) (old : List Line) (j : ℕ) → AreNeededFlags (with_monomials xs (line_members a old)) flags → j < length old → length xs + j < length flags
+flags_within : (a : List ℤ) (xs : List Exponents) (flags : List Bool) (old : List Line) (j : ℕ) →
+    AreNeededFlags (with_monomials xs (line_members a old)) flags → j < length old → length xs + j < length flags
 flags_within a xs flags old j f l = omega (arith, f.size, lines_length a xs old, l)
 
 -- the line at the place isn't needed
-pub lines-left : (a : List ℤ) (xs : List Exponents) (by : List MarkedPolynomial) (flags : List Bool) (old : List Line) (j : ℕ) (ls : List Line) (f : Bool) → AreNeededFlags (with_monomials xs (line_members a old)) flags → j < length old → f ≡ get_or flags (length xs + j) f → f ≡ false →
+pub lines-left : (a : List ℤ) (xs : List Exponents) (by : List MarkedPolynomial) (flags : List Bool) (old : List Line) (j : ℕ) (ls : List Line) (f : Bool) →
+    AreNeededFlags (with_monomials xs (line_members a old)) flags → j < length old → f ≡ get_or flags (length xs + j) f → f ≡ false →
     AreLinesTo a xs by flags old j ls → AreLinesTo a xs by flags old (j + 1) ls
 lines-left a xs by flags old j ls f n w q e h = record {
   tails = subst (λ (k : ℕ). AreTailsTo flags (with_monomials xs (line_members a old)) k (with_monomials xs (line_members a ls))) (omega arith)
-      (tails_skipped flags (with_monomials xs (line_members a old)) (length xs + j) (with_monomials xs (line_members a ls)) (sym (get_or_default flags (length xs + j) f false (flags_within a xs flags old j n w)) ∙ sym q ∙ e) h.tails);
+      (tails_skipped flags (with_monomials xs (line_members a old)) (length xs + j) (with_monomials xs (line_members a ls))
+      (sym (get_or_default flags (length xs + j) f false (flags_within a xs flags old j n w)) ∙ sym q ∙ e) h.tails);
   size = h.size;
   lines = h.lines;
 }
 
 -- its tail is settled
-pub lines-settled : (a : List ℤ) (xs : List Exponents) (by : List MarkedPolynomial) (flags : List Bool) (old : List Line) (j : ℕ) (ls ns : List Line) → AreLaterUndivided (with_monomials xs (line_members a old)) → j < length old → IsTailSettled a xs j ls ns → AreLinesOf a by ns →
+pub lines-settled : (a : List ℤ) (xs : List Exponents) (by : List MarkedPolynomial) (flags : List Bool) (old : List Line) (j : ℕ) (ls ns : List Line) →
+    AreLaterUndivided (with_monomials xs (line_members a old)) → j < length old → IsTailSettled a xs j ls ns → AreLinesOf a by ns →
     AreLinesTo a xs by flags old j ls → AreLinesTo a xs by flags old (j + 1) ns
 lines-settled a xs by flags old j ls ns u w s o h = record {
   tails = subst (λ (k : ℕ). AreTailsTo flags bs k (with_monomials xs (line_members a ns))) (omega arith)
-      (tails_put flags bs (length xs + j) cs (with_monomials xs (line_members a ns)) (line_member a s.before) (line_member a s.after) here put s.mark led (reduced s.tail) h.tails);
+      (tails_put flags bs (length xs + j) cs (with_monomials xs (line_members a ns)) (line_member a s.before) (line_member a s.after) here put s.mark led
+      (reduced s.tail) h.tails);
   size = ap (λ (z : List Line). length z) s.lines ∙ length-set ls j s.after ∙ h.size;
   lines = o;
 }
@@ -382,20 +425,25 @@ lines-settled a xs by flags old j ls ns u w s o h = record {
 
     led : IsLedTo cs (with_monomials xs (line_members a ns))
     led = subst (IsLedTo cs) (sym (put ∙ ap (set cs (length xs + j)) form))
-        (led_put cs (length xs + j) s.before.mark (line_terms a s.before.mark s.before.rest.items) (line_terms a s.before.mark s.after.rest.items) here s.reached)
+        (led_put cs (length xs + j) s.before.mark (line_terms a s.before.mark s.before.rest.items) (line_terms a s.before.mark s.after.rest.items)
+        here s.reached)
 
-    reduced : ((s.after ≡ s.before) × Each (λ (p : Point). NoLineFrom ls j (moved a s.before.mark p.k)) s.before.rest.items) ⊎ IsIrreducible (Contains cs) (line_terms a s.before.mark s.after.rest.items) → HasReducedTail bs (line_member a s.after)
+    reduced : ((s.after ≡ s.before) × Each (λ (p : Point). NoLineFrom ls j (moved a s.before.mark p.k)) s.before.rest.items) ⊎ IsIrreducible (Contains cs)
+        (line_terms a s.before.mark s.after.rest.items) → HasReducedTail bs (line_member a s.after)
     reduced (inl k) = subst (λ (z : Line). HasReducedTail bs (line_member a z)) (sym k.0) (tail_stays a xs old ls j s.before flags u within s.at k.1 h.tails)
-    reduced (inr k) = subst (HasReducedTail bs) (sym form) (tail_divided bs cs s.before.mark (line_terms a s.before.mark s.after.rest.items) h.tails.size h.tails.heads k)
+    reduced (inr k) = subst (HasReducedTail bs) (sym form) (tail_divided bs cs s.before.mark (line_terms a s.before.mark s.after.rest.items)
+        h.tails.size h.tails.heads k)
 
-pub lines-size : (a : List ℤ) (xs : List Exponents) (by : List MarkedPolynomial) (flags : List Bool) (old : List Line) (j : ℕ) (ls : List Line) → AreNeededFlags (with_monomials xs (line_members a old)) flags → AreLinesTo a xs by flags old j ls →
+pub lines-size : (a : List ℤ) (xs : List Exponents) (by : List MarkedPolynomial) (flags : List Bool) (old : List Line) (j : ℕ) (ls : List Line) →
+    AreNeededFlags (with_monomials xs (line_members a old)) flags → AreLinesTo a xs by flags old j ls →
     length flags ≡ length (with_monomials xs (line_members a ls))
 lines-size a xs by flags old j ls f h = f.size ∙ sym h.tails.size
 
 -- ---- the needed ones
 
 -- which members are needed is told by their marks
-needed_along : (bs cs : List MarkedPolynomial) (i : ℕ) → length cs ≡ length bs → ((i : ℕ) (b c : MarkedPolynomial) → IsAt bs i b → IsAt cs i c → c.head ≡ b.head) → IsNeededAt bs i → IsNeededAt cs i
+needed_along : (bs cs : List MarkedPolynomial) (i : ℕ) → length cs ≡ length bs → ((i : ℕ) (b c : MarkedPolynomial) → IsAt bs i b → IsAt cs i c →
+    c.head ≡ b.head) → IsNeededAt bs i → IsNeededAt cs i
 needed_along bs cs i e h n = (get_or cs i n.0, record { at = here; least = λ k c p d. least k c p d })
   where
     here : IsAt cs i (get_or cs i n.0)
@@ -412,7 +460,8 @@ needed_along bs cs i e h n = (get_or cs i n.0, record { at = here; least = λ k 
         let r = n.1.least k b q (subst (λ (z : Exponents). Divides z n.0.head) m (subst (Divides c.head) mark d)) in
         (subst (λ (z : Exponents). same c.head z ≡ true) (sym mark) (subst (λ (z : Exponents). same z n.0.head ≡ true) (sym m) r.0), r.1)
 
-flags_along : (bs cs : List MarkedPolynomial) (flags : List Bool) → length cs ≡ length bs → ((i : ℕ) (b c : MarkedPolynomial) → IsAt bs i b → IsAt cs i c → c.head ≡ b.head) → AreNeededFlags bs flags → AreNeededFlags cs flags
+flags_along : (bs cs : List MarkedPolynomial) (flags : List Bool) → length cs ≡ length bs → ((i : ℕ) (b c : MarkedPolynomial) → IsAt bs i b → IsAt cs i c →
+    c.head ≡ b.head) → AreNeededFlags bs flags → AreNeededFlags cs flags
 flags_along bs cs flags e h f = record { size = f.size ∙ sym e; at = λ i l. at i (get_or flags i false) (f.at i (omega (arith, l, e))) }
   where
     at : (i : ℕ) (g : Bool) → IsNeededWhere bs i g → IsNeededWhere cs i g
@@ -428,17 +477,20 @@ own_form b e = record {
 }
 
 -- those whose flags are set
-chosen_on : (bs : List MarkedPolynomial) (flags : List Bool) (left ks : List MarkedPolynomial) (rest : List Bool) (i : ℕ) → AreMonic bs → AreNeededFlags bs flags → left ≡ drop i bs → rest ≡ drop i flags → length left + i ≡ length bs →
-    Forming bs i ks → AreNeededForms bs (ks ++ chosen rest left)
+chosen_on : (bs : List MarkedPolynomial) (flags : List Bool) (left ks : List MarkedPolynomial) (rest : List Bool) (i : ℕ) → AreMonic bs →
+    AreNeededFlags bs flags → left ≡ drop i bs → rest ≡ drop i flags → length left + i ≡ length bs → Forming bs i ks →
+    AreNeededForms bs (ks ++ chosen rest left)
 chosen_on bs flags [] ks rest i m p el e s h = subst (AreNeededForms bs) (sym (none rest)) (forming_end bs i ks (omega (arith, s)) h)
   where
     none : (rest : List Bool) → ks ++ chosen rest [] ≡ ks
     none [] = append-nil ks
     none (f ∷ rest) = append-nil ks
 chosen_on bs flags (b ∷ next) ks [] i m p el e s h =
-    let r : length {A = Bool} [] ≡ length (get_or flags i false ∷ drop (i + 1) flags) = ap (λ (z : List Bool). length z) (e ∙ drop_more flags i false (omega (arith, p.size, s))) in
+    let r : length {A = Bool} [] ≡ length (get_or flags i false ∷ drop (i + 1) flags) =
+    ap (λ (z : List Bool). length z) (e ∙ drop_more flags i false (omega (arith, p.size, s))) in
     absurd (omega (arith, r))
-chosen_on bs flags (b ∷ next) ks (f ∷ rest) i m p el e s h = at f (subst (IsNeededWhere bs i) first (p.at i within)) (λ new k. chosen_on bs flags next new rest (i + 1) m p after_members after (omega (arith, s)) k)
+chosen_on bs flags (b ∷ next) ks (f ∷ rest) i m p el e s h =
+    at f (subst (IsNeededWhere bs i) first (p.at i within)) (λ new k. chosen_on bs flags next new rest (i + 1) m p after_members after (omega (arith, s)) k)
   where
     within : i < length bs
     within = omega (arith, s)
@@ -461,9 +513,11 @@ chosen_on bs flags (b ∷ next) ks (f ∷ rest) i m p el e s h = at f (subst (Is
     here : IsAt bs i b
     here = record { within = within; is = sym (ap (λ (z : List MarkedPolynomial). get_or z 0 b) split_members) }
 
-    at : (g : Bool) → IsNeededWhere bs i g → ((new : List MarkedPolynomial) → Forming bs (i + 1) new → AreNeededForms bs (new ++ chosen rest next)) → AreNeededForms bs (ks ++ chosen (g ∷ rest) (b ∷ next))
+    at : (g : Bool) → IsNeededWhere bs i g → ((new : List MarkedPolynomial) → Forming bs (i + 1) new → AreNeededForms bs (new ++ chosen rest next)) →
+        AreNeededForms bs (ks ++ chosen (g ∷ rest) (b ∷ next))
     at true n more = subst (AreNeededForms bs) (append_assoc ks (b ∷ []) (chosen rest next))
-        (more (ks ++ b ∷ []) (forming-more bs i ks (ks ++ b ∷ []) b b here n (own_form b (m b (member_contained bs i b here))) (record { at = λ n v. v }) refl h))
+        (more (ks ++ b ∷ []) (forming-more bs i ks (ks ++ b ∷ []) b b here n (own_form b (m b (member_contained bs i b here))) (record { at = λ n v. v })
+        refl h))
     at false n more = more ks (forming-skipped bs i ks n h)
 
 chosen_forms : (bs : List MarkedPolynomial) (flags : List Bool) → AreMonic bs → AreNeededFlags bs flags → AreNeededForms bs (chosen flags bs)
@@ -477,8 +531,13 @@ record IsChosenAt (flags : List Bool) (cs : List MarkedPolynomial) (k : MarkedPo
   at : IsAt cs place k
   flag : get_or flags place false ≡ true
 
-chosen_place : (flags : List Bool) (cs ks : List MarkedPolynomial) (k : MarkedPolynomial) → AreMonic cs → AreNeededFlags cs flags → AreNeededForms cs ks → Contains ks k → IsChosenAt flags cs k
-chosen_place flags cs ks k m f h c = record { place = n.place; at = subst (IsAt cs n.place) (sym own) n.needed.at; flag = flag (get_or flags n.place false) refl (f.at n.place n.needed.at.within) }
+chosen_place : (flags : List Bool) (cs ks : List MarkedPolynomial) (k : MarkedPolynomial) → AreMonic cs → AreNeededFlags cs flags → AreNeededForms cs ks →
+    Contains ks k → IsChosenAt flags cs k
+chosen_place flags cs ks k m f h c = record {
+  place = n.place;
+  at = subst (IsAt cs n.place) (sym own) n.needed.at;
+  flag = flag (get_or flags n.place false) refl (f.at n.place n.needed.at.within);
+}
   where
     n : IsNeededForm cs k
     n = h.inside k c
@@ -491,10 +550,11 @@ chosen_place flags cs ks k m f h c = record { place = n.place; at = subst (IsAt 
     flag false e p = absurd (p (n.member, n.needed))
 
 -- the needed members, their tails reduced
-tails_basis : (order : MonomialOrder) (n : ℕ) (fs : List Terms) (flags : List Bool) (bs cs : List MarkedPolynomial) → IsEnd order n fs bs → AreNeededFlags bs flags → AreTailsTo flags bs (length bs) cs → AreMarked (below_of order) cs →
-    IsReducedBasisFor n fs (below_of order) (chosen flags cs)
+tails_basis : (order : MonomialOrder) (n : ℕ) (fs : List Terms) (flags : List Bool) (bs cs : List MarkedPolynomial) → IsEnd order n fs bs →
+    AreNeededFlags bs flags → AreTailsTo flags bs (length bs) cs → AreMarked (below_of order) cs → IsReducedBasisFor n fs (below_of order) (chosen flags cs)
 tails_basis order n fs flags bs cs h f t m =
-    reduced_by_order n fs (chosen flags cs) (below_of order) v (basis-kept n fs cs (chosen flags cs) basis inside (needed_divisible cs (chosen flags cs) forms)) (order-is order).strict (λ k c. m k (inside k c)) reduced forms.apart
+    reduced_by_order n fs (chosen flags cs) (below_of order) v (basis-kept n fs cs (chosen flags cs) basis inside (needed_divisible cs (chosen flags cs) forms))
+    (order-is order).strict (λ k c. m k (inside k c)) reduced forms.apart
   where
     v : AreInVariables n fs
     v = ring_variables n fs h.job.ring
@@ -522,25 +582,34 @@ tails_basis order n fs flags bs cs h f t m =
         (c, member_contained cs k.0 c q, same_of d.head c.head (sym (t.heads k.0 d c p q)))
 
     basis : IsBasis n fs cs
-    basis = basis-tails n fs bs cs h.basis (t.led.members n fs h.basis.marked.0 v h.basis.marked.2 h.basis.members) (t.led.marked h.basis.marked.0 h.basis.marked.2) heads
+    basis = basis-tails n fs bs cs h.basis (t.led.members n fs h.basis.marked.0 v h.basis.marked.2 h.basis.members)
+        (t.led.marked h.basis.marked.0 h.basis.marked.2) heads
 
     reduced : HasReducedTails (chosen flags cs)
     reduced k c x w d =
         let p = place k c in
         t.tails p.place k (omega (arith, p.at.within, t.size)) p.flag p.at x w
-        (divisible_along cs bs (sym t.size) (λ i b e q r. sym (t.heads i e b r q)) x (record { member = d.member; contained = inside d.member d.contained; rest = d.rest; divides = d.divides }))
+        (divisible_along cs bs (sym t.size) (λ i b e q r. sym (t.heads i e b r q)) x (record {
+          member = d.member;
+          contained = inside d.member d.contained;
+          rest = d.rest;
+          divides = d.divides;
+        }))
 
 -- the members are marked by the order
-lines_marked : (a : List ℤ) (xs : List Exponents) (ls : List Line) → HasNonzero a → Each (IsLineAlong a) ls → AreMarked (below_of (facet_order a)) (with_monomials xs (line_members a ls))
+lines_marked : (a : List ℤ) (xs : List Exponents) (ls : List Line) → HasNonzero a → Each (IsLineAlong a) ls →
+    AreMarked (below_of (facet_order a)) (with_monomials xs (line_members a ls))
 lines_marked a xs ls n h b c = at (joined_cases xs (line_members a ls) c.0 b (record { within = c.1; is = c.2 }))
   where
     at : AtFront xs c.0 b ⊎ AtBehind xs (line_members a ls) c.0 b → IsMarked (below_of (facet_order a)) b
-    at (inl f) = subst (IsMarked (below_of (facet_order a))) (sym f.member) (record { monic = monomial_one f.mono; tail = λ x m. inl (monomial_single f.mono x m) })
+    at (inl f) =
+        subst (IsMarked (below_of (facet_order a))) (sym f.member) (record { monic = monomial_one f.mono; tail = λ x m. inl (monomial_single f.mono x m) })
     at (inr g) =
         let l = line_at a ls g.place b g.at in
         subst (IsMarked (below_of (facet_order a))) (sym l.member) (line_marked a l.line n (each_line (IsLineAlong a) ls g.place l.line h l.within l.at))
 
-pub settles_to : (a : List ℤ) (xs : List Exponents) (by : List MarkedPolynomial) (flags : List Bool) (old : List Line) (j : ℕ) (ls : List Line) → IsGround a xs → AreNeededFlags (with_monomials xs (line_members a old)) flags → j ≡ length old → AreLinesTo a xs by flags old j ls →
+pub settles_to : (a : List ℤ) (xs : List Exponents) (by : List MarkedPolynomial) (flags : List Bool) (old : List Line) (j : ℕ) (ls : List Line) →
+    IsGround a xs → AreNeededFlags (with_monomials xs (line_members a old)) flags → j ≡ length old → AreLinesTo a xs by flags old j ls →
     SettlesTo (facet_order a) (length a) (with_monomials xs (line_members a old)) (chosen flags (with_monomials xs (line_members a ls)))
 settles_to a xs by flags old j ls g f e h = record {
   at = λ fs t i. tails_basis (facet_order a) (length a) fs flags (with_monomials xs (line_members a old)) (with_monomials xs (line_members a ls))
@@ -549,6 +618,7 @@ settles_to a xs by flags old j ls g f e h = record {
 }
   where
     whole : AreTailsTo flags (with_monomials xs (line_members a old)) (length (with_monomials xs (line_members a old))) (with_monomials xs (line_members a ls))
-    whole = subst (λ (z : ℕ). AreTailsTo flags (with_monomials xs (line_members a old)) z (with_monomials xs (line_members a ls))) (ap (λ (k : ℕ). length xs + k) e ∙ sym (lines_length a xs old)) h.tails
+    whole = subst (λ (z : ℕ). AreTailsTo flags (with_monomials xs (line_members a old)) z (with_monomials xs (line_members a ls)))
+        (ap (λ (k : ℕ). length xs + k) e ∙ sym (lines_length a xs old)) h.tails
 
 -- ---- lists in wide numbers

@@ -38,7 +38,8 @@ pub record IsTailSettled (a : List ℤ) (xs : List Exponents) (j : ℕ) (old new
   pub after : Line
   pub lines : new ≡ set old j after
   pub mark : after.mark ≡ before.mark
-  pub reached : Reached (Contains (with_monomials xs (line_members a old))) (line_terms a before.mark before.rest.items) (line_terms a before.mark after.rest.items)
+  pub reached : Reached (Contains (with_monomials xs (line_members a old))) (line_terms a before.mark before.rest.items)
+      (line_terms a before.mark after.rest.items)
   pub tail : IsTailOf a xs j old before after
 
 -- where bs is the list of a run on fs, all of whose pairs are settled, cs is the reduced basis

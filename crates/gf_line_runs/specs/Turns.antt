@@ -79,7 +79,8 @@ pub record HasEntering (order : MonomialOrder) (n : ℕ) (waiting : List Terms) 
   pub entering : IsEntering order n polynomials waiting bs
 
 -- where the old members are such a list, so are the new ones, of which others wait, whatever list the run is on
-pub record KeepsEntering (order : MonomialOrder) (n : ℕ) (before : List Terms) (old : List MarkedPolynomial) (after : List Terms) (new : List MarkedPolynomial) : Type 0 where
+pub record KeepsEntering (order : MonomialOrder) (n : ℕ) (before : List Terms) (old : List MarkedPolynomial) (after : List Terms)
+    (new : List MarkedPolynomial) : Type 0 where
   pub at : (fs : List Terms) → IsEntering order n fs before old → IsEntering order n fs after new
 
 -- the pair of p and q is taken before that of i and j

@@ -63,8 +63,11 @@ pub fn settled(alloc: Global, ground: &Ground, lines: &mut Vec<Line>) -> Option<
     requires lines { AreLinesOf ground.now.normal.now ground.now.by.now lines.old.items }
     requires apart { AreMonomialsApart ground.now.marks.now }
     requires later { AreLaterUndivided (with_monomials ground.now.marks.now (line_members ground.now.normal.now lines.old.items)) }
-    ensures basis { IfSome result (λ flags. SettlesTo (facet_order ground.now.normal.now) (length ground.now.normal.now) (with_monomials ground.now.marks.now (line_members ground.now.normal.now lines.old.items)) (chosen flags.items (with_monomials ground.now.marks.now (line_members ground.now.normal.now lines.new.items)))) }
-    ensures size { IfSome result (λ flags. length flags.items ≡ length (with_monomials ground.now.marks.now (line_members ground.now.normal.now lines.new.items))) }
+    ensures basis { IfSome result (λ flags. SettlesTo (facet_order ground.now.normal.now) (length ground.now.normal.now)
+        (with_monomials ground.now.marks.now (line_members ground.now.normal.now lines.old.items))
+        (chosen flags.items (with_monomials ground.now.marks.now (line_members ground.now.normal.now lines.new.items)))) }
+    ensures size { IfSome result (λ flags. length flags.items ≡
+        length (with_monomials ground.now.marks.now (line_members ground.now.normal.now lines.new.items))) }
     ensures lines { IfSome result (λ _. AreLinesOf ground.now.normal.now ground.now.by.now lines.new.items) }
 {
     let flags = needed_flags(alloc, ground, lines)?;

@@ -2,7 +2,8 @@
 
 ghost use Rattle.gf_lines.specs.Lines.{AreLinesOf, ArePartsOnLines, IsGround, facet_order, line_member, line_members, moved, negated_point, terms_of_parts};
 ghost use Rattle.gf_lines.specs.Monomials.{with_monomials};
-ghost use Rattle.gf_line_runs.specs.Turns.{AreKeptIn, ArePairExcused, AreUndividedBy, HasEntering, HasTurning, IsChained, KeepsEntering, KeepsTurning, LeadsToEnd};
+ghost use Rattle.gf_line_runs.specs.Turns.{AreKeptIn, ArePairExcused, AreUndividedBy, HasEntering, HasTurning, IsChained, KeepsEntering, KeepsTurning};
+ghost use Rattle.gf_line_runs.specs.Turns.{LeadsToEnd};
 ghost use Rattle.gf_lines.specs.Forms.{HasCover};
 ghost use Rattle.gf_frac.specs.Fraction.{one_ℚ};
 ghost use Rattle.gf_poly.specs.Marking.{Each, HaveVariables};
@@ -22,9 +23,12 @@ fn enter(alloc: Global, ground: &Ground, lines: &mut Vec<Line>, list: Vec<Part>)
     requires ground { IsGround ground.now.normal.now ground.now.marks.now }
     requires lines { AreLinesOf ground.now.normal.now ground.now.by.now lines.old.items }
     requires parts { ArePartsOnLines ground.now.normal.now ground.now.by.now list.items }
-    requires entering { HasEntering (facet_order ground.now.normal.now) (length ground.now.normal.now) (terms_of_parts ground.now.normal.now list.items) (with_monomials ground.now.marks.now (line_members ground.now.normal.now lines.old.items)) }
+    requires entering { HasEntering (facet_order ground.now.normal.now) (length ground.now.normal.now) (terms_of_parts ground.now.normal.now list.items)
+        (with_monomials ground.now.marks.now (line_members ground.now.normal.now lines.old.items)) }
     requires clear { AreUndividedBy (with_monomials ground.now.marks.now []) (terms_of_parts ground.now.normal.now list.items) }
-    ensures entering { IfSome result (λ _. KeepsEntering (facet_order ground.now.normal.now) (length ground.now.normal.now) (terms_of_parts ground.now.normal.now list.items) (with_monomials ground.now.marks.now (line_members ground.now.normal.now lines.old.items)) [] (with_monomials ground.now.marks.now (line_members ground.now.normal.now lines.new.items))) }
+    ensures entering { IfSome result (λ _. KeepsEntering (facet_order ground.now.normal.now) (length ground.now.normal.now)
+        (terms_of_parts ground.now.normal.now list.items) (with_monomials ground.now.marks.now (line_members ground.now.normal.now lines.old.items))
+        [] (with_monomials ground.now.marks.now (line_members ground.now.normal.now lines.new.items))) }
     ensures lines { IfSome result (λ _. AreLinesOf ground.now.normal.now ground.now.by.now lines.new.items) }
 {
     'list: for part in list {
@@ -93,11 +97,16 @@ fn take_sharing(
 ) -> Option<()>
     requires ground { IsGround ground.now.normal.now ground.now.marks.now }
     requires lines { AreLinesOf ground.now.normal.now ground.now.by.now lines.old.items }
-    requires turning { HasTurning (facet_order ground.now.normal.now) (length ground.now.normal.now) (with_monomials ground.now.marks.now (line_members ground.now.normal.now lines.old.items)) i (length ground.now.marks.now + j) }
+    requires turning { HasTurning (facet_order ground.now.normal.now) (length ground.now.normal.now)
+        (with_monomials ground.now.marks.now (line_members ground.now.normal.now lines.old.items)) i (length ground.now.marks.now + j) }
     requires first { i < length ground.now.marks.now }
     requires second { j < length lines.old.items }
-    ensures turning { IfSome result (λ _. KeepsTurning (facet_order ground.now.normal.now) (length ground.now.normal.now) (with_monomials ground.now.marks.now (line_members ground.now.normal.now lines.old.items)) i (length ground.now.marks.now + j) (with_monomials ground.now.marks.now (line_members ground.now.normal.now lines.new.items)) (i + 1) (length ground.now.marks.now + j)) }
-    ensures kept { IfSome result (λ _. AreKeptIn (with_monomials ground.now.marks.now (line_members ground.now.normal.now lines.old.items)) (with_monomials ground.now.marks.now (line_members ground.now.normal.now lines.new.items))) }
+    ensures turning { IfSome result (λ _. KeepsTurning (facet_order ground.now.normal.now) (length ground.now.normal.now)
+        (with_monomials ground.now.marks.now (line_members ground.now.normal.now lines.old.items)) i
+        (length ground.now.marks.now + j) (with_monomials ground.now.marks.now (line_members ground.now.normal.now lines.new.items))
+        (i + 1) (length ground.now.marks.now + j)) }
+    ensures kept { IfSome result (λ _. AreKeptIn (with_monomials ground.now.marks.now (line_members ground.now.normal.now lines.old.items))
+        (with_monomials ground.now.marks.now (line_members ground.now.normal.now lines.new.items))) }
     ensures size { IfSome result (λ _. length lines.old.items ≤ length lines.new.items) }
     ensures lines { IfSome result (λ _. AreLinesOf ground.now.normal.now ground.now.by.now lines.new.items) }
 {
@@ -124,11 +133,16 @@ fn take_monomial(
 ) -> Option<()>
     requires ground { IsGround ground.now.normal.now ground.now.marks.now }
     requires lines { AreLinesOf ground.now.normal.now ground.now.by.now lines.old.items }
-    requires turning { HasTurning (facet_order ground.now.normal.now) (length ground.now.normal.now) (with_monomials ground.now.marks.now (line_members ground.now.normal.now lines.old.items)) i (length ground.now.marks.now + j) }
+    requires turning { HasTurning (facet_order ground.now.normal.now) (length ground.now.normal.now)
+        (with_monomials ground.now.marks.now (line_members ground.now.normal.now lines.old.items)) i (length ground.now.marks.now + j) }
     requires first { i < length ground.now.marks.now }
     requires second { j < length lines.old.items }
-    ensures turning { IfSome result (λ _. KeepsTurning (facet_order ground.now.normal.now) (length ground.now.normal.now) (with_monomials ground.now.marks.now (line_members ground.now.normal.now lines.old.items)) i (length ground.now.marks.now + j) (with_monomials ground.now.marks.now (line_members ground.now.normal.now lines.new.items)) (i + 1) (length ground.now.marks.now + j)) }
-    ensures kept { IfSome result (λ _. AreKeptIn (with_monomials ground.now.marks.now (line_members ground.now.normal.now lines.old.items)) (with_monomials ground.now.marks.now (line_members ground.now.normal.now lines.new.items))) }
+    ensures turning { IfSome result (λ _. KeepsTurning (facet_order ground.now.normal.now) (length ground.now.normal.now)
+        (with_monomials ground.now.marks.now (line_members ground.now.normal.now lines.old.items)) i
+        (length ground.now.marks.now + j) (with_monomials ground.now.marks.now (line_members ground.now.normal.now lines.new.items))
+        (i + 1) (length ground.now.marks.now + j)) }
+    ensures kept { IfSome result (λ _. AreKeptIn (with_monomials ground.now.marks.now (line_members ground.now.normal.now lines.old.items))
+        (with_monomials ground.now.marks.now (line_members ground.now.normal.now lines.new.items))) }
     ensures size { IfSome result (λ _. length lines.old.items ≤ length lines.new.items) }
     ensures lines { IfSome result (λ _. AreLinesOf ground.now.normal.now ground.now.by.now lines.new.items) }
 {
@@ -174,11 +188,17 @@ fn take_pair(
 ) -> Option<()>
     requires ground { IsGround ground.now.normal.now ground.now.marks.now }
     requires lines { AreLinesOf ground.now.normal.now ground.now.by.now lines.old.items }
-    requires turning { HasTurning (facet_order ground.now.normal.now) (length ground.now.normal.now) (with_monomials ground.now.marks.now (line_members ground.now.normal.now lines.old.items)) (length ground.now.marks.now + i) (length ground.now.marks.now + j) }
+    requires turning { HasTurning (facet_order ground.now.normal.now) (length ground.now.normal.now)
+        (with_monomials ground.now.marks.now (line_members ground.now.normal.now lines.old.items))
+        (length ground.now.marks.now + i) (length ground.now.marks.now + j) }
     requires pair { i < j }
     requires second { j < length lines.old.items }
-    ensures turning { IfSome result (λ _. KeepsTurning (facet_order ground.now.normal.now) (length ground.now.normal.now) (with_monomials ground.now.marks.now (line_members ground.now.normal.now lines.old.items)) (length ground.now.marks.now + i) (length ground.now.marks.now + j) (with_monomials ground.now.marks.now (line_members ground.now.normal.now lines.new.items)) ((length ground.now.marks.now + i) + 1) (length ground.now.marks.now + j)) }
-    ensures kept { IfSome result (λ _. AreKeptIn (with_monomials ground.now.marks.now (line_members ground.now.normal.now lines.old.items)) (with_monomials ground.now.marks.now (line_members ground.now.normal.now lines.new.items))) }
+    ensures turning { IfSome result (λ _. KeepsTurning (facet_order ground.now.normal.now) (length ground.now.normal.now)
+        (with_monomials ground.now.marks.now (line_members ground.now.normal.now lines.old.items))
+        (length ground.now.marks.now + i) (length ground.now.marks.now + j) (with_monomials ground.now.marks.now
+        (line_members ground.now.normal.now lines.new.items)) ((length ground.now.marks.now + i) + 1) (length ground.now.marks.now + j)) }
+    ensures kept { IfSome result (λ _. AreKeptIn (with_monomials ground.now.marks.now (line_members ground.now.normal.now lines.old.items))
+        (with_monomials ground.now.marks.now (line_members ground.now.normal.now lines.new.items))) }
     ensures size { IfSome result (λ _. length lines.old.items ≤ length lines.new.items) }
     ensures lines { IfSome result (λ _. AreLinesOf ground.now.normal.now ground.now.by.now lines.new.items) }
 {
@@ -214,11 +234,17 @@ fn take_turn(
 ) -> Option<()>
     requires ground { IsGround ground.now.normal.now ground.now.marks.now }
     requires lines { AreLinesOf ground.now.normal.now ground.now.by.now lines.old.items }
-    requires turning { HasTurning (facet_order ground.now.normal.now) (length ground.now.normal.now) (with_monomials ground.now.marks.now (line_members ground.now.normal.now lines.old.items)) (length ground.now.marks.now + i) (length ground.now.marks.now + j) }
+    requires turning { HasTurning (facet_order ground.now.normal.now) (length ground.now.normal.now)
+        (with_monomials ground.now.marks.now (line_members ground.now.normal.now lines.old.items))
+        (length ground.now.marks.now + i) (length ground.now.marks.now + j) }
     requires pair { i < j }
     requires second { j < length lines.old.items }
-    ensures turning { IfSome result (λ _. KeepsTurning (facet_order ground.now.normal.now) (length ground.now.normal.now) (with_monomials ground.now.marks.now (line_members ground.now.normal.now lines.old.items)) (length ground.now.marks.now + i) (length ground.now.marks.now + j) (with_monomials ground.now.marks.now (line_members ground.now.normal.now lines.new.items)) ((length ground.now.marks.now + i) + 1) (length ground.now.marks.now + j)) }
-    ensures kept { IfSome result (λ _. AreKeptIn (with_monomials ground.now.marks.now (line_members ground.now.normal.now lines.old.items)) (with_monomials ground.now.marks.now (line_members ground.now.normal.now lines.new.items))) }
+    ensures turning { IfSome result (λ _. KeepsTurning (facet_order ground.now.normal.now) (length ground.now.normal.now)
+        (with_monomials ground.now.marks.now (line_members ground.now.normal.now lines.old.items))
+        (length ground.now.marks.now + i) (length ground.now.marks.now + j) (with_monomials ground.now.marks.now
+        (line_members ground.now.normal.now lines.new.items)) ((length ground.now.marks.now + i) + 1) (length ground.now.marks.now + j)) }
+    ensures kept { IfSome result (λ _. AreKeptIn (with_monomials ground.now.marks.now (line_members ground.now.normal.now lines.old.items))
+        (with_monomials ground.now.marks.now (line_members ground.now.normal.now lines.new.items))) }
     ensures size { IfSome result (λ _. length lines.old.items ≤ length lines.new.items) }
     ensures lines { IfSome result (λ _. AreLinesOf ground.now.normal.now ground.now.by.now lines.new.items) }
 {
@@ -232,10 +258,15 @@ fn take_turn(
 fn take_row(alloc: Global, ground: &Ground, lines: &mut Vec<Line>, j: usize) -> Option<()>
     requires ground { IsGround ground.now.normal.now ground.now.marks.now }
     requires lines { AreLinesOf ground.now.normal.now ground.now.by.now lines.old.items }
-    requires turning { HasTurning (facet_order ground.now.normal.now) (length ground.now.normal.now) (with_monomials ground.now.marks.now (line_members ground.now.normal.now lines.old.items)) 0 (length ground.now.marks.now + j) }
+    requires turning { HasTurning (facet_order ground.now.normal.now) (length ground.now.normal.now)
+        (with_monomials ground.now.marks.now (line_members ground.now.normal.now lines.old.items)) 0 (length ground.now.marks.now + j) }
     requires second { j < length lines.old.items }
-    ensures turning { IfSome result (λ _. KeepsTurning (facet_order ground.now.normal.now) (length ground.now.normal.now) (with_monomials ground.now.marks.now (line_members ground.now.normal.now lines.old.items)) 0 (length ground.now.marks.now + j) (with_monomials ground.now.marks.now (line_members ground.now.normal.now lines.new.items)) 0 ((length ground.now.marks.now + j) + 1)) }
-    ensures kept { IfSome result (λ _. AreKeptIn (with_monomials ground.now.marks.now (line_members ground.now.normal.now lines.old.items)) (with_monomials ground.now.marks.now (line_members ground.now.normal.now lines.new.items))) }
+    ensures turning { IfSome result (λ _. KeepsTurning (facet_order ground.now.normal.now) (length ground.now.normal.now)
+        (with_monomials ground.now.marks.now (line_members ground.now.normal.now lines.old.items)) 0
+        (length ground.now.marks.now + j) (with_monomials ground.now.marks.now (line_members ground.now.normal.now lines.new.items)) 0
+        ((length ground.now.marks.now + j) + 1)) }
+    ensures kept { IfSome result (λ _. AreKeptIn (with_monomials ground.now.marks.now (line_members ground.now.normal.now lines.old.items))
+        (with_monomials ground.now.marks.now (line_members ground.now.normal.now lines.new.items))) }
     ensures size { IfSome result (λ _. length lines.old.items ≤ length lines.new.items) }
     ensures lines { IfSome result (λ _. AreLinesOf ground.now.normal.now ground.now.by.now lines.new.items) }
 {
@@ -258,9 +289,12 @@ pub fn lines_in_turn(
 ) -> Option<Vec<Line>>
     requires ground { IsGround ground.now.normal.now ground.now.marks.now }
     requires parts { ArePartsOnLines ground.now.normal.now ground.now.by.now list.items }
-    requires entering { HasEntering (facet_order ground.now.normal.now) (length ground.now.normal.now) (terms_of_parts ground.now.normal.now list.items) (with_monomials ground.now.marks.now []) }
+    requires entering { HasEntering (facet_order ground.now.normal.now) (length ground.now.normal.now) (terms_of_parts ground.now.normal.now list.items)
+        (with_monomials ground.now.marks.now []) }
     requires clear { AreUndividedBy (with_monomials ground.now.marks.now []) (terms_of_parts ground.now.normal.now list.items) }
-    ensures end { IfSome result (λ ls. LeadsToEnd (facet_order ground.now.normal.now) (length ground.now.normal.now) (terms_of_parts ground.now.normal.now list.items) (with_monomials ground.now.marks.now []) (with_monomials ground.now.marks.now (line_members ground.now.normal.now ls.items))) }
+    ensures end { IfSome result (λ ls. LeadsToEnd (facet_order ground.now.normal.now) (length ground.now.normal.now)
+        (terms_of_parts ground.now.normal.now list.items) (with_monomials ground.now.marks.now []) (with_monomials ground.now.marks.now
+        (line_members ground.now.normal.now ls.items))) }
     ensures lines { IfSome result (λ ls. AreLinesOf ground.now.normal.now ground.now.by.now ls.items) }
 {
     let mut lines = with_room(alloc, list.len().saturating_mul(2))?;

@@ -1,7 +1,9 @@
 -- The terms along a vector, one term and one member after another.
--- To cite: selected-kept, selected-dropped, marked_along, marked_here, along_selected, part_of, along_more, width_at, added_coefficient, added_on, term_added, term_off,
+-- To cite: selected-kept, selected-dropped, marked_along, marked_here, along_selected, part_of, along_more, width_at, added_coefficient, added_on, term_added,
+-- term_off,
 -- IsLineTo, line_start, line_more_of, line_all, line_end.
-use Rattle.std.proofs.Common.{◌≡◌, ◌⊎◌, Bool, true, false, eqb, ℕ, zero, suc, ◌+◌, ◌<◌, ◌≤◌, if◌then◌else◌, List, [], ◌∷◌, ◌++◌, length, take, get_or, ℤ, Option, None, Some, IfSome, arith, refl, sym, ap, ap₂, ◌∙◌, subst, inl, inr}
+use Rattle.std.proofs.Common.{◌≡◌, ◌⊎◌, Bool, true, false, eqb, ℕ, zero, suc, ◌+◌, ◌<◌, ◌≤◌, if◌then◌else◌, List, [], ◌∷◌, ◌++◌, length, take, get_or, ℤ}
+use Rattle.std.proofs.Common.{Option, None, Some, IfSome, arith, refl, sym, ap, ap₂, ◌∙◌, subst, inl, inr}
 use Rattle.std.proofs.lemmas.Bool.{cases_eq, ne_eqb, false≢true}
 use Rattle.std.proofs.lemmas.List.{take_more, take_all, map-append}
 use Rattle.std.proofs.lemmas.List.Elements.{Contains-append_left, Contains-append_right, Contains-append_cases}
@@ -81,11 +83,16 @@ off_selected a n h f g x (IsSelected.dropped s k l q r) p = off_selected a n h k
 pub marked_along : (a : List ℤ) (x h : Exponents) → HasNonzero a → x ≡ h → AreMultipleApart a x h
 marked_along a x h n e = (multiple-grading a n).along x h (same_of x h e)
 
-pub same_apart : (a : List ℤ) (x y z w : Exponents) → x ≡ z → y ≡ w → (AreMultipleApart a x y → AreMultipleApart a z w) × (AreMultipleApart a z w → AreMultipleApart a x y)
-same_apart a x y z w e q = (λ m. subst (λ (u : Exponents). AreMultipleApart a u w) e (subst (AreMultipleApart a x) q m), λ m. subst (λ (u : Exponents). AreMultipleApart a u y) (sym e) (subst (AreMultipleApart a z) (sym q) m))
+pub same_apart : (a : List ℤ) (x y z w : Exponents) → x ≡ z → y ≡ w → (AreMultipleApart a x y → AreMultipleApart a z w) × (AreMultipleApart a z w →
+    AreMultipleApart a x y)
+same_apart a x y z w e q = (
+  λ m. subst (λ (u : Exponents). AreMultipleApart a u w) e (subst (AreMultipleApart a x) q m),
+  λ m. subst (λ (u : Exponents). AreMultipleApart a u y) (sym e) (subst (AreMultipleApart a z) (sym q) m),
+)
 
 -- and the term at the place i is it where i is that place
-pub marked_here : (b : MarkedPolynomial) (i m : ℕ) (f : Terms) (t : Term) → f ≡ b.poly → i < length f → t ≡ get_or f i t → head_of b.poly m ≡ b.head → eqb i m ≡ true → t.mono ≡ b.head
+pub marked_here : (b : MarkedPolynomial) (i m : ℕ) (f : Terms) (t : Term) → f ≡ b.poly → i < length f → t ≡ get_or f i t → head_of b.poly m ≡ b.head →
+    eqb i m ≡ true → t.mono ≡ b.head
 marked_here b i m f t q l e h r = at (cases_eq i m)
   where
     at : (i ≡ m) ⊎ (i ≡ m → ⊥) → t.mono ≡ b.head
@@ -176,8 +183,10 @@ between b a c = ap (λ z. b +ℚ z) (+ℚ_comm c a) ∙ sym (+ℚ_assoc b a c)
 
 -- the coefficient with a point between others
 with_point : (a : List ℤ) (x y : Exponents) (before after : List Point) (p : Point) →
-    coefficient (line_terms a x (before ++ p ∷ after)) y ≡ coefficient (line_terms a x before) y +ℚ ((if same y (moved a x p.k) then p.coef else zero_ℚ) +ℚ coefficient (line_terms a x after) y)
-with_point a x y before after p = ap (λ z. coefficient z y) (map-append (point_term a x) before (p ∷ after)) ∙ coefficient-++ (line_terms a x before) (line_terms a x (p ∷ after)) y
+    coefficient (line_terms a x (before ++ p ∷ after)) y ≡ coefficient (line_terms a x before) y +ℚ ((if same y (moved a x p.k) then p.coef else zero_ℚ) +ℚ
+    coefficient (line_terms a x after) y)
+with_point a x y before after p = ap (λ z. coefficient z y) (map-append (point_term a x) before (p ∷ after)) ∙ coefficient-++ (line_terms a x before)
+    (line_terms a x (p ∷ after)) y
 
 -- what is added at a multiple is added to the coefficient at the monomial there
 pub added_coefficient : (a : List ℤ) (x y : Exponents) (k : ℤ) (c : Fraction) (old new : List Point) → IsPointAdded k c old new →
@@ -186,7 +195,8 @@ added_coefficient a x y k c old new (IsPointAdded.joined before after d e q) =
     ap (λ (z : List Point). coefficient (line_terms a x z) y) q
     ∙ with_point a x y before after (record { k = k; coef = d +ℚ c })
     ∙ with_more (same y (moved a x k)) (coefficient (line_terms a x before) y) (coefficient (line_terms a x after) y) d c
-    ∙ ap (λ z. z +ℚ (if same y (moved a x k) then c else zero_ℚ)) (sym (ap (λ (z : List Point). coefficient (line_terms a x z) y) e ∙ with_point a x y before after (record { k = k; coef = d })))
+    ∙ ap (λ z. z +ℚ (if same y (moved a x k) then c else zero_ℚ))
+    (sym (ap (λ (z : List Point). coefficient (line_terms a x z) y) e ∙ with_point a x y before after (record { k = k; coef = d })))
 added_coefficient a x y k c old new (IsPointAdded.entered before after e q) =
     ap (λ (z : List Point). coefficient (line_terms a x z) y) q
     ∙ with_point a x y before after (record { k = k; coef = c })
@@ -204,28 +214,34 @@ each_later P [] qs h = h
 each_later P (p ∷ ps) qs h = each_later P ps qs h.1
 
 -- points that all have P, where the new one has it
-pub added_each : (P : ℤ → Type 0) (k : ℤ) (c : Fraction) (old new : List Point) → IsPointAdded k c old new → P k → Each (λ (p : Point). P p.k) old → Each (λ (p : Point). P p.k) new
+pub added_each : (P : ℤ → Type 0) (k : ℤ) (c : Fraction) (old new : List Point) → IsPointAdded k c old new → P k → Each (λ (p : Point). P p.k) old →
+    Each (λ (p : Point). P p.k) new
 added_each P k c old new (IsPointAdded.joined before after d e q) h o = subst (Each (λ (p : Point). P p.k)) (sym q)
     (let r : Each (λ (p : Point). P p.k) (before ++ record { k = k; coef = d } ∷ after) = subst (Each (λ (p : Point). P p.k)) e o in
-    Each-++ (λ (p : Point). P p.k) before (record { k = k; coef = d +ℚ c } ∷ after) (each_first (λ (p : Point). P p.k) before (record { k = k; coef = d } ∷ after) r)
+    Each-++ (λ (p : Point). P p.k) before (record { k = k; coef = d +ℚ c } ∷ after) (each_first (λ (p : Point). P p.k) before
+    (record { k = k; coef = d } ∷ after) r)
     (h, (each_later (λ (p : Point). P p.k) before (record { k = k; coef = d } ∷ after) r).1))
 added_each P k c old new (IsPointAdded.entered before after e q) h o = subst (Each (λ (p : Point). P p.k)) (sym q)
     (let r : Each (λ (p : Point). P p.k) (before ++ after) = subst (Each (λ (p : Point). P p.k)) e o in
-    Each-++ (λ (p : Point). P p.k) before (record { k = k; coef = c } ∷ after) (each_first (λ (p : Point). P p.k) before after r) (h, each_later (λ (p : Point). P p.k) before after r))
+    Each-++ (λ (p : Point). P p.k) before (record { k = k; coef = c } ∷ after) (each_first (λ (p : Point). P p.k) before after r)
+    (h, each_later (λ (p : Point). P p.k) before after r))
 
 -- so exponents stay exponents
-pub added_on : (a : List ℤ) (x : Exponents) (k : ℤ) (c : Fraction) (old new : List Point) → IsPointAdded k c old new → IsSpot a x k → AreSpots a x old → AreSpots a x new
+pub added_on : (a : List ℤ) (x : Exponents) (k : ℤ) (c : Fraction) (old new : List Point) → IsPointAdded k c old new → IsSpot a x k → AreSpots a x old →
+    AreSpots a x new
 added_on a x k c old new i h o = added_each (IsSpot a x) k c old new i h o
 
 -- the point of a term is added, if numbers fit
-pub term_added : (a : List ℤ) (x : Exponents) (t : Term) (y z : Exponents) (j k : ℤ) (old new : List Point) (r : Option (Unit {0})) → y ≡ t.mono → z ≡ x → k ≡ j → IsDistance a y z j →
-    IfSome r (λ _. IsPointAdded k t.coef old new) → IfSome r (λ _. AreFalling old → AreFalling new) → IfSome r (λ _. IsTermAdded a x t old new)
+pub term_added : (a : List ℤ) (x : Exponents) (t : Term) (y z : Exponents) (j k : ℤ) (old new : List Point) (r : Option (Unit {0})) → y ≡ t.mono → z ≡ x →
+    k ≡ j → IsDistance a y z j → IfSome r (λ _. IsPointAdded k t.coef old new) → IfSome r (λ _. AreFalling old → AreFalling new) →
+    IfSome r (λ _. IsTermAdded a x t old new)
 term_added a x t y z j k old new None ey ez ek d p f = tt
 term_added a x t y z j k old new (Some u) ey ez ek d p f = IsTermAdded.on k
     (subst (λ (w : Exponents). IsDistance a w x k) ey (subst (λ (w : Exponents). IsDistance a y w k) ez (subst (IsDistance a y z) (sym ek) d))) p f
 
 -- one that isn't on the line isn't
-pub term_off : (a : List ℤ) (x : Exponents) (t : Term) (y z : Exponents) (ps : List Point) → y ≡ t.mono → z ≡ x → (AreMultipleApart a y z → ⊥) → IsTermAdded a x t ps ps
+pub term_off : (a : List ℤ) (x : Exponents) (t : Term) (y z : Exponents) (ps : List Point) → y ≡ t.mono → z ≡ x → (AreMultipleApart a y z → ⊥) →
+    IsTermAdded a x t ps ps
 term_off a x t y z ps ey ez n = IsTermAdded.off (λ m. n ((same_apart a y z t.mono x ey ez).1 m)) refl
 
 -- the points have the terms of f that are a multiple of a apart from h
@@ -259,28 +275,34 @@ line_added a h f t old new n l (IsTermAdded.off q e) o = subst (IsLineTo a h (f 
     other : (x : Exponents) → AreMultipleApart a x h → same x t.mono ≡ false
     other x p = let m = multiple-grading a n in not_same x t.mono (λ s. q (m.transitive t.mono x h (m.symmetric x t.mono (m.along x t.mono s)) p))
 
-pub line_more : (a : List ℤ) (h : Exponents) (f : Terms) (t : Term) (i : ℕ) (old new : List Point) → HasNonzero a → length t.mono ≡ length a → length h ≡ length a → i < length f → t ≡ get_or f i t →
-    IsTermAdded a h t old new → IsLineTo a h (take i f) old → IsLineTo a h (take (i + 1) f) new
-line_more a h f t i old new n l w k e d o = subst (λ (z : Terms). IsLineTo a h z new) (sym (take-next f i t k e)) (line_added a h (take i f) t old new n (l ∙ sym w) d o)
+pub line_more : (a : List ℤ) (h : Exponents) (f : Terms) (t : Term) (i : ℕ) (old new : List Point) → HasNonzero a → length t.mono ≡ length a →
+    length h ≡ length a → i < length f → t ≡ get_or f i t → IsTermAdded a h t old new → IsLineTo a h (take i f) old → IsLineTo a h (take (i + 1) f) new
+line_more a h f t i old new n l w k e d o = subst (λ (z : Terms). IsLineTo a h z new) (sym (take-next f i t k e))
+    (line_added a h (take i f) t old new n (l ∙ sym w) d o)
 
 -- of a member
-pub line_more_of : (a : List ℤ) (b : MarkedPolynomial) (f : Terms) (h : Exponents) (t : Term) (i : ℕ) (old new : List Point) → HasNonzero a → HasVariables (length a) b.poly → HasMarkedTerm b → f ≡ b.poly → h ≡ b.head →
-    i < length f → t ≡ get_or f i t → IsTermAdded a h t old new → IsLineTo a b.head (take i f) old → IsLineTo a b.head (take (i + 1) f) new
-line_more_of a b f h t i old new n v m q e k s d o = line_more a b.head f t i old new n (width_at (length a) f b.poly t i v q k s) (head_length (length a) b v m) k s (subst (λ (z : Exponents). IsTermAdded a z t old new) e d) o
+pub line_more_of : (a : List ℤ) (b : MarkedPolynomial) (f : Terms) (h : Exponents) (t : Term) (i : ℕ) (old new : List Point) → HasNonzero a →
+    HasVariables (length a) b.poly → HasMarkedTerm b → f ≡ b.poly → h ≡ b.head → i < length f → t ≡ get_or f i t → IsTermAdded a h t old new →
+    IsLineTo a b.head (take i f) old → IsLineTo a b.head (take (i + 1) f) new
+line_more_of a b f h t i old new n v m q e k s d o = line_more a b.head f t i old new n (width_at (length a) f b.poly t i v q k s)
+    (head_length (length a) b v m) k s (subst (λ (z : Exponents). IsTermAdded a z t old new) e d) o
 
 -- elsewhere there is nothing
-off_line : (a : List ℤ) (h x : Exponents) (ps : List Point) → HasNonzero a → AreSpots a h ps → (AreMultipleApart a x h → ⊥) → coefficient (line_terms a h ps) x ≡ zero_ℚ
+off_line : (a : List ℤ) (h x : Exponents) (ps : List Point) → HasNonzero a → AreSpots a h ps → (AreMultipleApart a x h → ⊥) →
+    coefficient (line_terms a h ps) x ≡ zero_ℚ
 off_line a h x [] n o q = refl
 off_line a h x (p ∷ ps) n o q =
     let m = multiple-grading a n in
-    elsewhere (point_term a h p) (line_terms a h ps) x (not_same x (moved a h p.k) (λ s. q (m.transitive x (moved a h p.k) h (m.along x (moved a h p.k) s) (moved_apart a h p.k o.0))))
+    elsewhere (point_term a h p) (line_terms a h ps) x (not_same x (moved a h p.k)
+    (λ s. q (m.transitive x (moved a h p.k) h (m.along x (moved a h p.k) s) (moved_apart a h p.k o.0))))
     ∙ off_line a h x ps n o.1 q
 
 -- all terms
 pub line_all : (a : List ℤ) (h : Exponents) (f g : Terms) (ps : List Point) (i : ℕ) → f ≡ g → length f ≤ i → IsLineTo a h (take i f) ps → IsLineTo a h g ps
 line_all a h f g ps i e l o = subst (λ (z : Terms). IsLineTo a h z ps) (take_all i f l ∙ e) o
 
-pub line_end : (a : List ℤ) (b : MarkedPolynomial) (ps : List Point) → HasNonzero a → HasMarkedTerm b → IsLineTo a b.head b.poly ps → IsPartOf a b (line_terms a b.head ps)
+pub line_end : (a : List ℤ) (b : MarkedPolynomial) (ps : List Point) → HasNonzero a → HasMarkedTerm b → IsLineTo a b.head b.poly ps →
+    IsPartOf a b (line_terms a b.head ps)
 line_end a b ps n m o = record {
   along = record { head = refl; along = o.along; off = λ x q. off_line a b.head x ps n o.on q };
   variables = record { at = λ k v. line_variables a b.head ps k (head_length k b v m) };

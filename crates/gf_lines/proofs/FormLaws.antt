@@ -1,8 +1,11 @@
 -- Remainders on lines, by monomials and by lines; and new lines.
--- To cite: undivided-none, undivided-more, undivided_end, monomial_for, cover_found, cover_missed, none_of_all, both_undivided, NoLineTo, no_line-more, line_found,
--- no_line_missed, dropped_zero, dropped_covered, line_subtracted, point_kept, work_start, irreducible_points, work_done, unchanged, taken_line, taken_part, lines_more,
+-- To cite: undivided-none, undivided-more, undivided_end, monomial_for, cover_found, cover_missed, none_of_all, both_undivided, NoLineTo, no_line-more,
+-- line_found,
+-- no_line_missed, dropped_zero, dropped_covered, line_subtracted, point_kept, work_start, irreducible_points, work_done, unchanged, taken_line, taken_part,
+-- lines_more,
 -- origin_of, none_below, marks_wide, lines_wide.
-use Rattle.std.proofs.Common.{◌≡◌, ◌≢◌, ◌⊎◌, ℕ, zero, suc, ◌+◌, ◌<◌, ◌≤◌, Bool, true, false, if◌then◌else◌, Some, None, IfSome, IfNone, List, [], ◌∷◌, ◌++◌, length, get_or, Contains, ℤ, ◌<ℤ◌, arith, refl, sym, ap, ◌∙◌, subst, inl, inr}
+use Rattle.std.proofs.Common.{◌≡◌, ◌≢◌, ◌⊎◌, ℕ, zero, suc, ◌+◌, ◌<◌, ◌≤◌, Bool, true, false, if◌then◌else◌, Some, None, IfSome, IfNone, List, [], ◌∷◌, ◌++◌}
+use Rattle.std.proofs.Common.{length, get_or, Contains, ℤ, ◌<ℤ◌, arith, refl, sym, ap, ◌∙◌, subst, inl, inr}
 use Rattle.std.specs.Option.{is_some}
 use Rattle.std.specs.declared.option.Option.{Option}
 use Rattle.std.proofs.lemmas.Bool.{cases_lt}
@@ -29,7 +32,9 @@ use Rattle.gf_lines.specs.declared.lines.Point.{Point}
 use Rattle.gf_lines.specs.declared.lines.Line.{Line}
 use Rattle.gf_lines.specs.declared.lines.Part.{Part}
 use Rattle.gf_lines.specs.Along.{HasNonzero}
-use Rattle.gf_lines.specs.Lines.{moved, IsSpot, AreSpots, AreFalling, AreLinesOf, point_term, line_terms, line_member, line_members, terms_of_part, facet_order, IsLineAlong, IsLineOf, HasOrigin, IsPartOnLine, IsGround, IsSubtracted, IsWorkOn, KeepsWork, IsLineFrom, HasLineBelow, NoLineBelow, NoneDividesTo, IsMonomialFor}
+use Rattle.gf_lines.specs.Lines.{moved, IsSpot, AreSpots, AreFalling, AreLinesOf, point_term, line_terms, line_member, line_members, terms_of_part, facet_order}
+use Rattle.gf_lines.specs.Lines.{IsLineAlong, IsLineOf, HasOrigin, IsPartOnLine, IsGround, IsSubtracted, IsWorkOn, KeepsWork, IsLineFrom, HasLineBelow}
+use Rattle.gf_lines.specs.Lines.{NoLineBelow, NoneDividesTo, IsMonomialFor}
 use Rattle.gf_lines.specs.Forms.{NoLineFrom, HasCover, IsTakenIn}
 use Rattle.gf_lines.specs.Monomials.{monomial_member, with_monomials}
 use Rattle.gf_lines.proofs.LineLaws.{line_listed, line_coefficient, line_variables, member_variables, line_marked}
@@ -41,7 +46,8 @@ use Rattle.gf_lines.proofs.MoveLaws.{moved-length, moved_plus, on_plus}
 pub undivided-none : (xs : List Exponents) (x : Exponents) → NoneDividesTo xs 0 x
 undivided-none xs x = record { none = λ i l. absurd (omega (arith, l)) }
 
-pub undivided-more : (xs : List Exponents) (j : ℕ) (x m : Exponents) → j < length xs → m ≡ get_or xs j m → (Divides m x → ⊥) → NoneDividesTo xs j x → NoneDividesTo xs (j + 1) x
+pub undivided-more : (xs : List Exponents) (j : ℕ) (x m : Exponents) → j < length xs → m ≡ get_or xs j m → (Divides m x → ⊥) → NoneDividesTo xs j x →
+    NoneDividesTo xs (j + 1) x
 undivided-more xs j x m l e n h = record { none = λ i k d. at i (cases_lt i j) k d }
   where
     at : (i : ℕ) → (i < j) ⊎ (j ≤ i) → i < j + 1 → Divides (get_or xs i []) x → ⊥
@@ -53,7 +59,8 @@ undivided-more xs j x m l e n h = record { none = λ i k d. at i (cases_lt i j) 
 pub undivided_end : (xs : List Exponents) (j : ℕ) (x : Exponents) → length xs ≤ j → NoneDividesTo xs j x → NoneDividesTo xs (length xs) x
 undivided_end xs j x l h = record { none = λ i k d. h.none i (omega (arith, l, k)) d }
 
-pub monomial_for : (xs : List Exponents) (j : ℕ) (x m : Exponents) → j < length xs → m ≡ get_or xs j m → Divides m x → NoneDividesTo xs j x → IsMonomialFor xs x j
+pub monomial_for : (xs : List Exponents) (j : ℕ) (x m : Exponents) → j < length xs → m ≡ get_or xs j m → Divides m x → NoneDividesTo xs j x →
+    IsMonomialFor xs x j
 monomial_for xs j x m l e d h = record {
   within = l;
   divides = subst (λ (z : Exponents). Divides z x) (e ∙ get_or_default xs j m [] l) d;
@@ -76,13 +83,15 @@ cover_found xs x (Some j) h t = record {
 cover_found xs x None h t = absurd (let z : false ≡ true = t in cc)
 
 -- where it found none, no monomial divides
-pub cover_missed : (xs : List Exponents) (x : Exponents) (o : Option ℕ) → IfNone o (NoneDividesTo xs (length xs) x) → is_some o ≡ false → IsDivisible (Contains (with_monomials xs [])) x → ⊥
+pub cover_missed : (xs : List Exponents) (x : Exponents) (o : Option ℕ) → IfNone o (NoneDividesTo xs (length xs) x) → is_some o ≡ false →
+    IsDivisible (Contains (with_monomials xs [])) x → ⊥
 cover_missed xs x (Some j) h t d = absurd (let z : true ≡ false = t in cc)
 cover_missed xs x None h t d = at (joined_cases xs [] d.contained.0 d.member (record { within = d.contained.1; is = d.contained.2 }))
   where
     at : AtFront xs d.contained.0 d.member ⊎ AtBehind xs [] d.contained.0 d.member → ⊥
     at (inl f) =
-        let e : d.member.head ≡ get_or xs d.contained.0 [] = ap (λ (c : MarkedPolynomial). c.head) f.member ∙ f.is ∙ get_or_default xs d.contained.0 f.mono [] f.within in
+        let e : d.member.head ≡ get_or xs d.contained.0 [] =
+        ap (λ (c : MarkedPolynomial). c.head) f.member ∙ f.is ∙ get_or_default xs d.contained.0 f.mono [] f.within in
         h.none d.contained.0 f.within (subst (λ (z : Exponents). Divides z x) e (record { rest = d.rest; product = d.divides }))
     at (inr g) = absurd (omega (arith, g.at.within))
 
@@ -104,13 +113,20 @@ covering xs bs x h = at (joined_cases xs [] h.contained.0 h.member (record { wit
     at (inr g) = absurd (omega (arith, g.at.within))
 
 -- where neither a monomial nor a member divides, none of all does
-pub none_of_all : (xs : List Exponents) (bs : List MarkedPolynomial) (x : Exponents) → (IsDivisible (Contains (with_monomials xs [])) x → ⊥) → (IsDivisible (Contains bs) x → ⊥) → IsDivisible (Contains (with_monomials xs bs)) x → ⊥
+pub none_of_all : (xs : List Exponents) (bs : List MarkedPolynomial) (x : Exponents) → (IsDivisible (Contains (with_monomials xs [])) x → ⊥) →
+    (IsDivisible (Contains bs) x → ⊥) → IsDivisible (Contains (with_monomials xs bs)) x → ⊥
 none_of_all xs bs x n m d = elim (joined_cases xs bs d.contained.0 d.member (record { within = d.contained.1; is = d.contained.2 })) [
-  | inl f ↦ n (record { member = monomial_member f.mono; contained = member_contained (with_monomials xs []) d.contained.0 (monomial_member f.mono) (front_at xs [] d.contained.0 f.mono f.within f.is); rest = d.rest; divides = subst (λ (b : MarkedPolynomial). same x (plus d.rest b.head) ≡ true) f.member d.divides })
+  | inl f ↦ n (record {
+    member = monomial_member f.mono;
+    contained = member_contained (with_monomials xs []) d.contained.0 (monomial_member f.mono) (front_at xs [] d.contained.0 f.mono f.within f.is);
+    rest = d.rest;
+    divides = subst (λ (b : MarkedPolynomial). same x (plus d.rest b.head) ≡ true) f.member d.divides;
+  })
   | inr g ↦ m (record { member = d.member; contained = member_contained bs g.place d.member g.at; rest = d.rest; divides = d.divides })
 ]
 
-pub both_undivided : (xs : List Exponents) (bs : List MarkedPolynomial) (f : Terms) → IsIrreducible (Contains (with_monomials xs [])) f → IsIrreducible (Contains bs) f → IsIrreducible (Contains (with_monomials xs bs)) f
+pub both_undivided : (xs : List Exponents) (bs : List MarkedPolynomial) (f : Terms) → IsIrreducible (Contains (with_monomials xs [])) f →
+    IsIrreducible (Contains bs) f → IsIrreducible (Contains (with_monomials xs bs)) f
 both_undivided xs bs f n m x h d = none_of_all xs bs x (n x h) (m x h) d
 
 -- ---- the first line whose mark divides
@@ -119,7 +135,8 @@ both_undivided xs bs f n m x h d = none_of_all xs bs x (n x h) (m x h) d
 pub record NoLineTo (ls : List Line) (j : ℕ) (x : Exponents) : Type 0 where
   pub none : (i : ℕ) (l : Line) → i < j → get_or ls i l ≡ l → Divides l.mark x → ⊥
 
-pub no_line-more : (ls : List Line) (j : ℕ) (x : Exponents) (m : Line) → j < length ls → m ≡ get_or ls j m → (Divides m.mark x → ⊥) → NoLineTo ls j x → NoLineTo ls (j + 1) x
+pub no_line-more : (ls : List Line) (j : ℕ) (x : Exponents) (m : Line) → j < length ls → m ≡ get_or ls j m → (Divides m.mark x → ⊥) → NoLineTo ls j x →
+    NoLineTo ls (j + 1) x
 no_line-more ls j x m l e n h = record { none = λ i g k q d. at i g (cases_lt i j) k q d }
   where
     at : (i : ℕ) (g : Line) → (i < j) ⊎ (j ≤ i) → i < j + 1 → get_or ls i g ≡ g → Divides g.mark x → ⊥
@@ -140,7 +157,8 @@ record IsLineThere (a : List ℤ) (ls : List Line) (b : MarkedPolynomial) : Type
   at : get_or ls place line ≡ line
   member : line_member a line ≡ b
 
-line_there : (a : List ℤ) (ls : List Line) (b : MarkedPolynomial) (i : ℕ) → i < length (line_members a ls) → get_or (line_members a ls) i b ≡ b → IsLineThere a ls b
+line_there : (a : List ℤ) (ls : List Line) (b : MarkedPolynomial) (i : ℕ) → i < length (line_members a ls) → get_or (line_members a ls) i b ≡ b →
+    IsLineThere a ls b
 line_there a [] b i l e = absurd (omega (arith, l))
 line_there a (m ∷ ls) b zero l e = record { place = 0; line = m; within = omega arith; at = refl; member = e }
 line_there a (m ∷ ls) b (suc i) l e =
@@ -158,7 +176,10 @@ member_there a (m ∷ ls) l (suc j) k e =
 none_of_lines : (a : List ℤ) (ls : List Line) (x : Exponents) → NoLineBelow ls x → IsDivisible (Contains (line_members a ls)) x → ⊥
 none_of_lines a ls x n d =
     let r = line_there a ls d.member d.contained.0 d.contained.1 d.contained.2 in
-    n.none r.place r.line r.within r.at (record { rest = d.rest; product = subst (λ (b : MarkedPolynomial). same x (plus d.rest b.head) ≡ true) (sym r.member) d.divides })
+    n.none r.place r.line r.within r.at (record {
+      rest = d.rest;
+      product = subst (λ (b : MarkedPolynomial). same x (plus d.rest b.head) ≡ true) (sym r.member) d.divides;
+    })
 
 -- ---- lists of points
 
@@ -192,12 +213,16 @@ falling_apart (x ∷ xs) ys h =
     record {
       front = (s.0, r.front);
       back = r.back;
-      apart = each_two (λ (q : Point). q.k <ℤ x.k) (λ (q : Point). Each (λ (p : Point). q.k <ℤ p.k) xs) (λ (q : Point). Each (λ (p : Point). q.k <ℤ p.k) (x ∷ xs)) (λ q l m. (l, m)) ys s.1 r.apart;
+      apart = each_two (λ (q : Point). q.k <ℤ x.k) (λ (q : Point). Each (λ (p : Point). q.k <ℤ p.k) xs)
+          (λ (q : Point). Each (λ (p : Point). q.k <ℤ p.k) (x ∷ xs)) (λ q l m. (l, m)) ys s.1 r.apart;
     }
 
 falling_joined : (xs ys : List Point) → IsFallingOn xs ys → AreFalling (xs ++ ys)
 falling_joined [] ys h = h.back
-falling_joined (x ∷ xs) ys h = (Each-++ (λ (q : Point). q.k <ℤ x.k) xs ys h.front.0 (first ys h.apart), falling_joined xs ys (record { front = h.front.1; back = h.back; apart = rest ys h.apart }))
+falling_joined (x ∷ xs) ys h = (
+  Each-++ (λ (q : Point). q.k <ℤ x.k) xs ys h.front.0 (first ys h.apart),
+  falling_joined xs ys (record { front = h.front.1; back = h.back; apart = rest ys h.apart }),
+)
   where
     first : (ys : List Point) → Each (λ (q : Point). Each (λ (p : Point). q.k <ℤ p.k) (x ∷ xs)) ys → Each (λ (q : Point). q.k <ℤ x.k) ys
     first [] h = tt
@@ -212,8 +237,10 @@ falling_without xs ys p h = let r = falling_apart xs (p ∷ ys) h in falling_joi
 
 -- ---- coefficients
 
-joined_coefficient : (a : List ℤ) (x : Exponents) (xs ys : List Point) (e : Exponents) → coefficient (line_terms a x (xs ++ ys)) e ≡ coefficient (line_terms a x xs) e +ℚ coefficient (line_terms a x ys) e
-joined_coefficient a x xs ys e = ap (λ (z : Terms). coefficient z e) (map-append (point_term a x) xs ys) ∙ coefficient-++ (line_terms a x xs) (line_terms a x ys) e
+joined_coefficient : (a : List ℤ) (x : Exponents) (xs ys : List Point) (e : Exponents) →
+    coefficient (line_terms a x (xs ++ ys)) e ≡ coefficient (line_terms a x xs) e +ℚ coefficient (line_terms a x ys) e
+joined_coefficient a x xs ys e = ap (λ (z : Terms). coefficient z e) (map-append (point_term a x) xs ys) ∙ coefficient-++ (line_terms a x xs)
+    (line_terms a x ys) e
 
 dropped : (w k c : Fraction) (b : Bool) → c ≡ zero_ℚ → w +ℚ ((if b then c else zero_ℚ) +ℚ k) ≡ w +ℚ k
 dropped w k c b z = ap (λ (t : Fraction). w +ℚ (t +ℚ k)) (zero_chosen b c z) ∙ ap (λ (t : Fraction). w +ℚ t) (zero-+ℚ k)
@@ -223,10 +250,13 @@ gone : (w t k c : Fraction) (b d : Bool) → b ≡ d → (w +ℚ t) +ℚ k ≡ (
 gone w t k c b d e = at b d e
   where
     one : (w t k c : Fraction) → (w +ℚ t) +ℚ k ≡ (w +ℚ (c +ℚ k)) +ℚ (neg_ℚ c +ℚ t)
-    one = each_q _ (λ a a' k. each_q _ (λ b b' l. each_q _ (λ c c' m. each_q _ (λ d d' n. simp overs (over-eq _ _ _ _ (simp dens (simp naturals (diff-eq _ _ _ _ (omega arith)))))))))
+    one = each_q _
+        (λ a a' k. each_q _
+        (λ b b' l. each_q _ (λ c c' m. each_q _ (λ d d' n. simp overs (over-eq _ _ _ _ (simp dens (simp naturals (diff-eq _ _ _ _ (omega arith)))))))))
 
     two : (w t k : Fraction) → (w +ℚ t) +ℚ k ≡ (w +ℚ k) +ℚ t
-    two = each_q _ (λ a a' k. each_q _ (λ b b' l. each_q _ (λ c c' m. simp overs (over-eq _ _ _ _ (simp dens (simp naturals (diff-eq _ _ _ _ (omega arith))))))))
+    two = each_q _
+        (λ a a' k. each_q _ (λ b b' l. each_q _ (λ c c' m. simp overs (over-eq _ _ _ _ (simp dens (simp naturals (diff-eq _ _ _ _ (omega arith))))))))
 
     at : (b d : Bool) → b ≡ d → (w +ℚ t) +ℚ k ≡ (w +ℚ ((if b then c else zero_ℚ) +ℚ k)) +ℚ ((if d then neg_ℚ c *ℚ one_ℚ else zero_ℚ) +ℚ t)
     at true true e = one w t k c ∙ ap (λ (z : Fraction). (w +ℚ (c +ℚ k)) +ℚ (z +ℚ t)) (sym (*ℚ-one (neg_ℚ c)))
@@ -235,7 +265,8 @@ gone w t k c b d e = at b d e
     at false true e = absurd (let z : false ≡ true = e in cc)
 
 -- the points on the line through a multiple of the mark are that multiple of the points on the line through the mark
-line_times : (c : Fraction) (a : List ℤ) (u m : Exponents) (qs : List Point) → length u ≡ length m → AreSpots a m qs → times c [] (line_terms a (plus u m) qs) ≡ times c u (line_terms a m qs)
+line_times : (c : Fraction) (a : List ℤ) (u m : Exponents) (qs : List Point) → length u ≡ length m → AreSpots a m qs →
+    times c [] (line_terms a (plus u m) qs) ≡ times c u (line_terms a m qs)
 line_times c a u m [] e o = refl
 line_times c a u m (q ∷ qs) e o =
     ap (λ (z : Exponents). record { coef = c *ℚ q.coef; mono = z } ∷ times c [] (line_terms a (plus u m) qs)) (moved_plus a u m q.k e o.0)
@@ -258,7 +289,8 @@ record IsWorkAt (a : List ℤ) (x : Exponents) (ds : List MarkedPolynomial) (f :
   falling : AreFalling (work ++ p ∷ kept)
   irreducible : Each (λ (q : Point). IsDivisible (Contains ds) (moved a x q.k) → ⊥) kept
 
-work_at : (a : List ℤ) (x : Exponents) (ds : List MarkedPolynomial) (f : Terms) (work kept : List Point) (p : Point) → IsWorkOn a x ds f (work ++ p ∷ []) kept → IsWorkAt a x ds f work kept p
+work_at : (a : List ℤ) (x : Exponents) (ds : List MarkedPolynomial) (f : Terms) (work kept : List Point) (p : Point) → IsWorkOn a x ds f (work ++ p ∷ []) kept →
+    IsWorkAt a x ds f work kept p
 work_at a x ds f work kept p h = record {
   reached = subst (λ (z : List Point). Reached (Contains ds) f (line_terms a x z)) (work_joined work kept p) h.reached;
   on = subst (AreSpots a x) (work_joined work kept p) h.on;
@@ -267,7 +299,8 @@ work_at a x ds f work kept p h = record {
 }
 
 -- a point without a coefficient is left out
-pub dropped_zero : (a : List ℤ) (x : Exponents) (ds : List MarkedPolynomial) (work kept : List Point) (p : Point) → p.coef ≡ zero_ℚ → KeepsWork a x ds (work ++ p ∷ []) kept work kept
+pub dropped_zero : (a : List ℤ) (x : Exponents) (ds : List MarkedPolynomial) (work kept : List Point) (p : Point) → p.coef ≡ zero_ℚ →
+    KeepsWork a x ds (work ++ p ∷ []) kept work kept
 dropped_zero a x ds work kept p z = record { at = λ f h. at f (work_at a x ds f work kept p h) }
   where
     equal : SamePolynomial (line_terms a x (work ++ p ∷ kept)) (line_terms a x (work ++ kept))
@@ -277,15 +310,16 @@ dropped_zero a x ds work kept p z = record { at = λ f h. at f (work_at a x ds f
 
     at : (f : Terms) → IsWorkAt a x ds f work kept p → IsWorkOn a x ds f work kept
     at f h = record {
-      reached = reached_trans (Contains ds) f (line_terms a x (work ++ p ∷ kept)) (line_terms a x (work ++ kept)) h.reached (Reached.here (line_terms a x (work ++ kept)) equal);
+      reached = reached_trans (Contains ds) f (line_terms a x (work ++ p ∷ kept)) (line_terms a x (work ++ kept)) h.reached
+          (Reached.here (line_terms a x (work ++ kept)) equal);
       on = each_without (λ (q : Point). IsSpot a x q.k) work kept p h.on;
       falling = falling_without work kept p h.falling;
       irreducible = h.irreducible;
     }
 
 -- the coefficient at the point is its own
-coefficient_at : (a : List ℤ) (x : Exponents) (ds : List MarkedPolynomial) (f : Terms) (work kept : List Point) (p : Point) → HasNonzero a → IsWorkAt a x ds f work kept p →
-    coefficient (line_terms a x (work ++ p ∷ kept)) (moved a x p.k) ≡ p.coef
+coefficient_at : (a : List ℤ) (x : Exponents) (ds : List MarkedPolynomial) (f : Terms) (work kept : List Point) (p : Point) → HasNonzero a →
+    IsWorkAt a x ds f work kept p → coefficient (line_terms a x (work ++ p ∷ kept)) (moved a x p.k) ≡ p.coef
 coefficient_at a x ds f work kept p n h = line_coefficient a x work kept p n h.on h.falling
 
 -- a multiple of a member takes the point away, and what comes in its place is among the new points
@@ -296,30 +330,34 @@ record IsTakenAway (a : List ℤ) (x : Exponents) (ds : List MarkedPolynomial) (
   divides : same (moved a x p.k) (plus rest member.head) ≡ true
   equal : SamePolynomial (line_terms a x (new ++ kept)) (line_terms a x (work ++ p ∷ kept) ++ times (neg_ℚ p.coef) rest member.poly)
 
-taken_away : (a : List ℤ) (x : Exponents) (ds : List MarkedPolynomial) (f : Terms) (work kept new : List Point) (p : Point) → HasNonzero a → p.coef ≢ zero_ℚ → IsWorkAt a x ds f work kept p →
-    IsTakenAway a x ds work kept p new → Reached (Contains ds) f (line_terms a x (new ++ kept))
-taken_away a x ds f work kept new p n z h s = reached-next (Contains ds) f (line_terms a x (work ++ p ∷ kept)) (line_terms a x (new ++ kept)) h.reached (record {
-  at = moved a x p.k;
-  member = s.member;
-  rest = s.rest;
-  contained = s.contained;
-  there = λ e. z (sym c ∙ e);
-  divides = s.divides;
-  equal = subst (λ (k : Fraction). SamePolynomial (line_terms a x (new ++ kept)) (line_terms a x (work ++ p ∷ kept) ++ times (neg_ℚ k) s.rest s.member.poly)) (sym c) s.equal;
-})
+taken_away : (a : List ℤ) (x : Exponents) (ds : List MarkedPolynomial) (f : Terms) (work kept new : List Point) (p : Point) → HasNonzero a → p.coef ≢ zero_ℚ →
+    IsWorkAt a x ds f work kept p → IsTakenAway a x ds work kept p new → Reached (Contains ds) f (line_terms a x (new ++ kept))
+taken_away a x ds f work kept new p n z h s = reached-next (Contains ds) f (line_terms a x (work ++ p ∷ kept)) (line_terms a x (new ++ kept)) h.reached
+    (record {
+      at = moved a x p.k;
+      member = s.member;
+      rest = s.rest;
+      contained = s.contained;
+      there = λ e. z (sym c ∙ e);
+      divides = s.divides;
+      equal = subst (λ (k : Fraction). SamePolynomial (line_terms a x (new ++ kept)) (line_terms a x (work ++ p ∷ kept) ++ times (neg_ℚ k)
+          s.rest s.member.poly))
+          (sym c) s.equal;
+    })
   where
     c : coefficient (line_terms a x (work ++ p ∷ kept)) (moved a x p.k) ≡ p.coef
     c = coefficient_at a x ds f work kept p n h
 
 -- where a multiple of the terms behind a mark is taken away from the points in front, that multiple of all terms is taken away from all points
-step_coefficients : (a : List ℤ) (x : Exponents) (work kept new : List Point) (p : Point) (u m : Exponents) (f : Terms) → same (moved a x p.k) (plus u m) ≡ true →
-    SamePolynomial (line_terms a x new) (line_terms a x work ++ times (neg_ℚ p.coef) u f) →
+step_coefficients : (a : List ℤ) (x : Exponents) (work kept new : List Point) (p : Point) (u m : Exponents) (f : Terms) →
+    same (moved a x p.k) (plus u m) ≡ true → SamePolynomial (line_terms a x new) (line_terms a x work ++ times (neg_ℚ p.coef) u f) →
     SamePolynomial (line_terms a x (new ++ kept)) (line_terms a x (work ++ p ∷ kept) ++ times (neg_ℚ p.coef) u (record { coef = one_ℚ; mono = m } ∷ f))
 step_coefficients a x work kept new p u m f s q e =
     joined_coefficient a x new kept e
     ∙ ap (λ (z : Fraction). z +ℚ k) (q e ∙ coefficient-++ (line_terms a x work) (times (neg_ℚ p.coef) u f) e)
     ∙ gone w t k p.coef (same e (moved a x p.k)) (same e (plus u m)) same_there
-    ∙ ap (λ (z : Fraction). z +ℚ coefficient (times (neg_ℚ p.coef) u (record { coef = one_ℚ; mono = m } ∷ f)) e) (sym (joined_coefficient a x work (p ∷ kept) e))
+    ∙ ap (λ (z : Fraction). z +ℚ coefficient (times (neg_ℚ p.coef) u (record { coef = one_ℚ; mono = m } ∷ f)) e)
+    (sym (joined_coefficient a x work (p ∷ kept) e))
     ∙ sym (coefficient-++ (line_terms a x (work ++ p ∷ kept)) (times (neg_ℚ p.coef) u (record { coef = one_ℚ; mono = m } ∷ f)) e)
   where
     w : Fraction
@@ -335,8 +373,8 @@ step_coefficients a x work kept new p u m f s q e =
     same_there = same-sym e (moved a x p.k) ∙ same_along (moved a x p.k) (plus u m) e s ∙ same-sym (plus u m) e
 
 -- a monomial takes the point away
-pub dropped_covered : (a : List ℤ) (x : Exponents) (xs : List Exponents) (bs : List MarkedPolynomial) (work kept : List Point) (p : Point) → HasNonzero a → p.coef ≢ zero_ℚ → HasCover (with_monomials xs []) (moved a x p.k) →
-    KeepsWork a x (with_monomials xs bs) (work ++ p ∷ []) kept work kept
+pub dropped_covered : (a : List ℤ) (x : Exponents) (xs : List Exponents) (bs : List MarkedPolynomial) (work kept : List Point) (p : Point) → HasNonzero a →
+    p.coef ≢ zero_ℚ → HasCover (with_monomials xs []) (moved a x p.k) → KeepsWork a x (with_monomials xs bs) (work ++ p ∷ []) kept work kept
 dropped_covered a x xs bs work kept p n z v = record { at = λ f h. at f (work_at a x ds f work kept p h) }
   where
     ds : List MarkedPolynomial
@@ -366,8 +404,9 @@ dropped_covered a x xs bs work kept p n z v = record { at = λ f h. at f (work_a
     }
 
 -- the other terms of a line are taken away in the place of the point
-pub line_subtracted : (a : List ℤ) (x : Exponents) (xs : List Exponents) (ls : List Line) (work kept new : List Point) (p : Point) (j : ℕ) (l : Line) → HasNonzero a → length x ≡ length a → Each (IsLineAlong a) ls →
-    p.coef ≢ zero_ℚ → HasLineBelow ls (moved a x p.k) j → l ≡ get_or ls j l → IsSubtracted p l.rest.items work new → KeepsWork a x (with_monomials xs (line_members a ls)) (work ++ p ∷ []) kept new kept
+pub line_subtracted : (a : List ℤ) (x : Exponents) (xs : List Exponents) (ls : List Line) (work kept new : List Point) (p : Point) (j : ℕ) (l : Line) →
+    HasNonzero a → length x ≡ length a → Each (IsLineAlong a) ls → p.coef ≢ zero_ℚ → HasLineBelow ls (moved a x p.k) j → l ≡ get_or ls j l →
+    IsSubtracted p l.rest.items work new → KeepsWork a x (with_monomials xs (line_members a ls)) (work ++ p ∷ []) kept new kept
 line_subtracted a x xs ls work kept new p j l n w lines z b e s = record { at = λ f h. at f (work_at a x ds f work kept p h) }
   where
     ds : List MarkedPolynomial
@@ -401,7 +440,8 @@ line_subtracted a x xs ls work kept new p j l n w lines z b e s = record { at = 
     on_y = subst (λ (g : Exponents). AreSpots a g l.rest.items) there (line_moved a u l.mark l.rest.items wide is.on)
 
     rest_terms : times (neg_ℚ p.coef) [] (line_terms a y l.rest.items) ≡ times (neg_ℚ p.coef) u (line_terms a l.mark l.rest.items)
-    rest_terms = ap (λ (g : Exponents). times (neg_ℚ p.coef) [] (line_terms a g l.rest.items)) (sym there) ∙ line_times (neg_ℚ p.coef) a u l.mark l.rest.items wide is.on
+    rest_terms = ap (λ (g : Exponents). times (neg_ℚ p.coef) [] (line_terms a g l.rest.items)) (sym there) ∙ line_times (neg_ℚ p.coef)
+        a u l.mark l.rest.items wide is.on
 
     step : IsSpot a x p.k → IsTakenAway a x ds work kept p new
     step o = record {
@@ -420,7 +460,8 @@ line_subtracted a x xs ls work kept new p j l n w lines z b e s = record { at = 
       falling = falling_joined new kept (record {
         front = s.falling fall.front;
         back = fall.back.1;
-        apart = each_two (λ (q : Point). q.k <ℤ p.k) (λ (q : Point). Each (λ (r : Point). q.k <ℤ r.k) work) (λ (q : Point). Each (λ (r : Point). q.k <ℤ r.k) new) (λ q g v. s.above q.k g is.further v) kept fall.back.0 fall.apart.1;
+        apart = each_two (λ (q : Point). q.k <ℤ p.k) (λ (q : Point). Each (λ (r : Point). q.k <ℤ r.k) work)
+            (λ (q : Point). Each (λ (r : Point). q.k <ℤ r.k) new) (λ q g v. s.above q.k g is.further v) kept fall.back.0 fall.apart.1;
       });
       irreducible = h.irreducible;
     }
@@ -432,11 +473,13 @@ line_subtracted a x xs ls work kept new p j l n w lines z b e s = record { at = 
         fall = falling_apart work (p ∷ kept) h.falling
 
 -- the point is kept
-pub point_kept : (a : List ℤ) (x : Exponents) (xs : List Exponents) (ls : List Line) (work kept : List Point) (p : Point) → (IsDivisible (Contains (with_monomials xs [])) (moved a x p.k) → ⊥) → NoLineBelow ls (moved a x p.k) →
-    KeepsWork a x (with_monomials xs (line_members a ls)) (work ++ p ∷ []) kept work (p ∷ kept)
+pub point_kept : (a : List ℤ) (x : Exponents) (xs : List Exponents) (ls : List Line) (work kept : List Point) (p : Point) →
+    (IsDivisible (Contains (with_monomials xs [])) (moved a x p.k) → ⊥) → NoLineBelow ls (moved a x p.k) → KeepsWork a x (with_monomials xs (line_members a ls))
+    (work ++ p ∷ []) kept work (p ∷ kept)
 point_kept a x xs ls work kept p n m = record { at = λ f h. at f (work_at a x (with_monomials xs (line_members a ls)) f work kept p h) }
   where
-    at : (f : Terms) → IsWorkAt a x (with_monomials xs (line_members a ls)) f work kept p → IsWorkOn a x (with_monomials xs (line_members a ls)) f work (p ∷ kept)
+    at : (f : Terms) → IsWorkAt a x (with_monomials xs (line_members a ls)) f work kept p →
+        IsWorkOn a x (with_monomials xs (line_members a ls)) f work (p ∷ kept)
     at f h = record {
       reached = h.reached;
       on = h.on;
@@ -446,21 +489,25 @@ point_kept a x xs ls work kept p n m = record { at = λ f h. at f (work_at a x (
 
 -- ---- the remainder
 
-pub work_start : (a : List ℤ) (x : Exponents) (ds : List MarkedPolynomial) (points : List Point) → AreSpots a x points → AreFalling points → IsWorkOn a x ds (line_terms a x points) points []
+pub work_start : (a : List ℤ) (x : Exponents) (ds : List MarkedPolynomial) (points : List Point) → AreSpots a x points → AreFalling points →
+    IsWorkOn a x ds (line_terms a x points) points []
 work_start a x ds points o f = record {
-  reached = subst (λ (z : List Point). Reached (Contains ds) (line_terms a x points) (line_terms a x z)) (sym (append-nil points)) (reached-here (Contains ds) (line_terms a x points));
+  reached = subst (λ (z : List Point). Reached (Contains ds) (line_terms a x points) (line_terms a x z)) (sym (append-nil points))
+      (reached-here (Contains ds) (line_terms a x points));
   on = subst (AreSpots a x) (sym (append-nil points)) o;
   falling = subst AreFalling (sym (append-nil points)) f;
   irreducible = tt;
 }
 
 -- what is left of the points is irreducible
-pub irreducible_points : (a : List ℤ) (x : Exponents) (ds : List MarkedPolynomial) (ps : List Point) → Each (λ (p : Point). IsDivisible (Contains ds) (moved a x p.k) → ⊥) ps → IsIrreducible (Contains ds) (line_terms a x ps)
+pub irreducible_points : (a : List ℤ) (x : Exponents) (ds : List MarkedPolynomial) (ps : List Point) →
+    Each (λ (p : Point). IsDivisible (Contains ds) (moved a x p.k) → ⊥) ps → IsIrreducible (Contains ds) (line_terms a x ps)
 irreducible_points a x ds ps h y t d =
     let r = line_listed a x y ps t in
     contained_each (λ (p : Point). IsDivisible (Contains ds) (moved a x p.k) → ⊥) ps h r.0 r.1 (divisible_along (Contains ds) y (moved a x r.0.k) r.2 d)
 
-pub work_done : (a : List ℤ) (x : Exponents) (ds : List MarkedPolynomial) (f : Terms) (kept : List Point) → IsWorkOn a x ds f [] kept → IsRemainder ds f (line_terms a x kept)
+pub work_done : (a : List ℤ) (x : Exponents) (ds : List MarkedPolynomial) (f : Terms) (kept : List Point) → IsWorkOn a x ds f [] kept →
+    IsRemainder ds f (line_terms a x kept)
 work_done a x ds f kept h = record { reached = h.reached; irreducible = irreducible_points a x ds kept h.irreducible }
 
 -- where no mark divides a term, no step is taken
@@ -473,17 +520,17 @@ reached_zero by f g z (Reached.here h s) e = sym (s e) ∙ z e
 reached_zero by f g z (Reached.next h k r s) e = absurd (s.there (reached_zero by f h z r s.at))
 
 -- what isn't zero comes from points
-remainder_keeps : (a : List ℤ) (x y : Exponents) (ds : List MarkedPolynomial) (ps rs : List Point) → Reached (Contains ds) (line_terms a x ps) (line_terms a x rs) → HasMonomial (line_terms a x rs) y →
-    KeepsVariables (line_terms a x ps) (line_terms a x rs)
+remainder_keeps : (a : List ℤ) (x y : Exponents) (ds : List MarkedPolynomial) (ps rs : List Point) →
+    Reached (Contains ds) (line_terms a x ps) (line_terms a x rs) → HasMonomial (line_terms a x rs) y → KeepsVariables (line_terms a x ps) (line_terms a x rs)
 remainder_keeps a x y ds [] rs r h = absurd (h (reached_zero (Contains ds) [] (line_terms a x rs) (λ e. refl) r y))
 remainder_keeps a x y ds (p ∷ ps) rs r h = record { at = λ n v. line_variables a x rs n (sym (moved-length a x p.k) ∙ v.0) }
 
 -- ---- new lines
 
 -- some points are left, and they are a line
-taken_points : (a : List ℤ) (x : Exponents) (xs : List Exponents) (ls new : List Line) (f : Terms) (rs : List Point) (l : Line) → IsGround a xs → length x ≡ length a →
-    IsRemainder (with_monomials xs (line_members a ls)) f (line_terms a x rs) → KeepsVariables f (line_terms a x rs) → IsLineFrom a x rs l → new ≡ ls ++ l ∷ [] →
-    IsTakenIn (facet_order a) f (with_monomials xs (line_members a ls)) (with_monomials xs (line_members a new))
+taken_points : (a : List ℤ) (x : Exponents) (xs : List Exponents) (ls new : List Line) (f : Terms) (rs : List Point) (l : Line) → IsGround a xs →
+    length x ≡ length a → IsRemainder (with_monomials xs (line_members a ls)) f (line_terms a x rs) → KeepsVariables f (line_terms a x rs) →
+    IsLineFrom a x rs l → new ≡ ls ++ l ∷ [] → IsTakenIn (facet_order a) f (with_monomials xs (line_members a ls)) (with_monomials xs (line_members a new))
 taken_points a x xs ls new f rs l g w h v k e = record {
   r = line_terms a x rs;
   normal = h;
@@ -496,7 +543,8 @@ taken_points a x xs ls new f rs l g w h v k e = record {
       marked = line_marked a l g.nonzero k.line;
       poly = λ n u. member_variables a l n (width n rs some u);
       head = λ n u. width n rs some u;
-      members = ap (λ (z : List Line). with_monomials xs (line_members a z)) e ∙ ap (with_monomials xs) (map_push (line_member a) ls l) ∙ joined_push xs (line_members a ls) (line_member a l);
+      members = ap (λ (z : List Line). with_monomials xs (line_members a z)) e ∙ ap (with_monomials xs) (map_push (line_member a) ls l) ∙ joined_push xs
+          (line_members a ls) (line_member a l);
     },
   );
 }
@@ -512,21 +560,25 @@ pub taken_line : (a : List ℤ) (x : Exponents) (xs : List Exponents) (ls new : 
     IsRemainder (with_monomials xs (line_members a ls)) (line_terms a x ps) (line_terms a x rs) → IsLineFrom a x rs l → new ≡ ls ++ l ∷ [] →
     IsTakenIn (facet_order a) (line_terms a x ps) (with_monomials xs (line_members a ls)) (with_monomials xs (line_members a new))
 taken_line a x xs ls new ps rs l g w h k e =
-    taken_points a x xs ls new (line_terms a x ps) rs l g w h (remainder_keeps a x l.mark (with_monomials xs (line_members a ls)) ps rs h.reached k.monic.there) k e
+    taken_points a x xs ls new (line_terms a x ps) rs l g w h (remainder_keeps a x l.mark (with_monomials xs (line_members a ls)) ps rs h.reached k.monic.there)
+    k e
 
-pub lines_more : (a : List ℤ) (bs : List MarkedPolynomial) (ls new : List Line) (l : Line) → AreLinesOf a bs ls → IsLineAlong a l → IfSome l.origin (HasOrigin a bs l) → new ≡ ls ++ l ∷ [] → AreLinesOf a bs new
+pub lines_more : (a : List ℤ) (bs : List MarkedPolynomial) (ls new : List Line) (l : Line) → AreLinesOf a bs ls → IsLineAlong a l →
+    IfSome l.origin (HasOrigin a bs l) → new ≡ ls ++ l ∷ [] → AreLinesOf a bs new
 lines_more a bs ls new l h k o e = subst (AreLinesOf a bs) (sym e) (Each-++ (IsLineOf a bs) ls (l ∷ []) h ((k, o), tt))
 
 -- ---- parts
 
 -- the line of a part is of its member
-pub origin_of : (a : List ℤ) (bs : List MarkedPolynomial) (p : Part) (l : Line) → HasNonzero a → IsPartOnLine a bs p → IsLineFrom a p.base p.points.items l → HasOrigin a bs l p.place
+pub origin_of : (a : List ℤ) (bs : List MarkedPolynomial) (p : Part) (l : Line) → HasNonzero a → IsPartOnLine a bs p → IsLineFrom a p.base p.points.items l →
+    HasOrigin a bs l p.place
 origin_of a bs p l n h k = record {
   member = h.member;
   at = h.at;
   there = λ z. k.monic.there (along l.mark apart ∙ z);
   apart = apart;
-  part = λ x s. ap (λ (z : Fraction). z *ℚ coefficient (line_member a l).poly x) (sym (along l.mark apart)) ∙ k.monic.equation x ∙ along x ((multiple-grading a n).transitive x l.mark h.member.head s apart);
+  part = λ x s. ap (λ (z : Fraction). z *ℚ coefficient (line_member a l).poly x) (sym (along l.mark apart)) ∙ k.monic.equation x ∙ along x
+      ((multiple-grading a n).transitive x l.mark h.member.head s apart);
 }
   where
     along : (x : Exponents) → AreMultipleApart a x h.member.head → coefficient (terms_of_part a p) x ≡ coefficient h.member.poly x
@@ -536,31 +588,38 @@ origin_of a bs p l n h k = record {
     apart = subst (AreMultipleApart a l.mark) h.base k.apart
 
 -- none from the first place on does
-pub none_below : (a : List ℤ) (x : Exponents) (ls : List Line) (ps : List Point) → Each (λ (p : Point). NoLineFrom ls 0 (moved a x p.k)) ps → Each (λ (p : Point). NoLineBelow ls (moved a x p.k)) ps
+pub none_below : (a : List ℤ) (x : Exponents) (ls : List Line) (ps : List Point) → Each (λ (p : Point). NoLineFrom ls 0 (moved a x p.k)) ps →
+    Each (λ (p : Point). NoLineBelow ls (moved a x p.k)) ps
 none_below a x ls [] h = tt
 none_below a x ls (p ∷ ps) h = (record { none = λ j l k e d. h.0.none j l (omega arith) k e d }, none_below a x ls ps h.1)
 
 -- then no mark of all divides a term
-clear_points : (a : List ℤ) (x : Exponents) (xs : List Exponents) (ls : List Line) (ps : List Point) → IsIrreducible (Contains (with_monomials xs [])) (line_terms a x ps) → Each (λ (p : Point). NoLineBelow ls (moved a x p.k)) ps →
+clear_points : (a : List ℤ) (x : Exponents) (xs : List Exponents) (ls : List Line) (ps : List Point) →
+    IsIrreducible (Contains (with_monomials xs [])) (line_terms a x ps) → Each (λ (p : Point). NoLineBelow ls (moved a x p.k)) ps →
     IsIrreducible (Contains (with_monomials xs (line_members a ls))) (line_terms a x ps)
 clear_points a x xs ls ps n h = both_undivided xs (line_members a ls) (line_terms a x ps) n (λ y t d. at y (line_listed a x y ps t) d)
   where
     at : (y : Exponents) → (p : Point) × Contains ps p × (same y (moved a x p.k) ≡ true) → IsDivisible (Contains (line_members a ls)) y → ⊥
-    at y r d = none_of_lines a ls (moved a x r.0.k) (contained_each (λ (p : Point). NoLineBelow ls (moved a x p.k)) ps h r.0 r.1) (divisible_along (Contains (line_members a ls)) y (moved a x r.0.k) r.2 d)
+    at y r d = none_of_lines a ls (moved a x r.0.k) (contained_each (λ (p : Point). NoLineBelow ls (moved a x p.k)) ps h r.0 r.1)
+        (divisible_along (Contains (line_members a ls)) y (moved a x r.0.k) r.2 d)
 
 -- a part that no mark divides is a line as it is
-pub taken_part : (a : List ℤ) (xs : List Exponents) (ls new : List Line) (p : Part) (l : Line) → IsGround a xs → length p.base ≡ length a → IsIrreducible (Contains (with_monomials xs [])) (terms_of_part a p) →
-    Each (λ (q : Point). NoLineBelow ls (moved a p.base q.k)) p.points.items → IsLineFrom a p.base p.points.items l → new ≡ ls ++ l ∷ [] →
-    IsTakenIn (facet_order a) (terms_of_part a p) (with_monomials xs (line_members a ls)) (with_monomials xs (line_members a new))
+pub taken_part : (a : List ℤ) (xs : List Exponents) (ls new : List Line) (p : Part) (l : Line) → IsGround a xs → length p.base ≡ length a →
+    IsIrreducible (Contains (with_monomials xs [])) (terms_of_part a p) → Each (λ (q : Point). NoLineBelow ls (moved a p.base q.k)) p.points.items →
+    IsLineFrom a p.base p.points.items l → new ≡ ls ++ l ∷ [] → IsTakenIn (facet_order a) (terms_of_part a p) (with_monomials xs (line_members a ls))
+    (with_monomials xs (line_members a new))
 taken_part a xs ls new p l g w n h k e =
-    taken_points a p.base xs ls new (terms_of_part a p) p.points.items l g w (unchanged (with_monomials xs (line_members a ls)) (terms_of_part a p) (clear_points a p.base xs ls p.points.items n h)) (record { at = λ n v. v }) k e
+    taken_points a p.base xs ls new (terms_of_part a p) p.points.items l g w (unchanged (with_monomials xs (line_members a ls)) (terms_of_part a p)
+    (clear_points a p.base xs ls p.points.items n h)) (record { at = λ n v. v }) k e
 
 -- ---- widths
 
 -- the monomials have the variables of a point, and so have the lines
-pub marks_wide : (a : List ℤ) (xs : List Exponents) (x y : Exponents) (k : ℤ) → IsGround a xs → length x ≡ length a → y ≡ moved a x k → HaveVariables (length y) (with_monomials xs [])
+pub marks_wide : (a : List ℤ) (xs : List Exponents) (x y : Exponents) (k : ℤ) → IsGround a xs → length x ≡ length a → y ≡ moved a x k →
+    HaveVariables (length y) (with_monomials xs [])
 marks_wide a xs x y k g w e = subst (λ (n : ℕ). HaveVariables n (with_monomials xs [])) (sym (ap length e ∙ moved-length a x k ∙ w)) g.marks
 
-pub lines_wide : (a : List ℤ) (ls : List Line) (x y : Exponents) (k : ℤ) → Each (IsLineAlong a) ls → length x ≡ length a → y ≡ moved a x k → Each (λ (l : Line). length l.mark ≡ length y) ls
+pub lines_wide : (a : List ℤ) (ls : List Line) (x y : Exponents) (k : ℤ) → Each (IsLineAlong a) ls → length x ≡ length a → y ≡ moved a x k →
+    Each (λ (l : Line). length l.mark ≡ length y) ls
 lines_wide a [] x y k h w e = tt
 lines_wide a (l ∷ ls) x y k h w e = (h.0.width ∙ sym w ∙ sym (moved-length a x k) ∙ sym (ap length e), lines_wide a ls x y k h.1 w e)

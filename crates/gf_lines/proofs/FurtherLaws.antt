@@ -26,16 +26,22 @@ work_parts work kept p h =
 pub further_dropped : (work kept : List Point) (p : Point) → KeepsFurther (work ++ p ∷ []) kept work kept
 further_dropped work kept p = record { at = λ h. (let r = work_parts work kept p h in Each-++ (λ (p : Point). pos 0 <ℤ p.k) work kept r.0 r.2) }
 
-pub further_subtracted : (a : List ℤ) (ls : List Line) (work kept new : List Point) (p : Point) (j : ℕ) (l : Line) → Each (IsLineAlong a) ls → j < length ls → l ≡ get_or ls j l → IsSubtracted p l.rest.items work new → KeepsFurther (work ++ p ∷ []) kept new kept
-further_subtracted a ls work kept new p j l k w q s = record { at = λ h. (let r = work_parts work kept p h in Each-++ (λ (p : Point). pos 0 <ℤ p.k) new kept (s.above (pos 0) r.1 (contained_each (IsLineAlong a) ls k l (j, w, sym q)).further r.0) r.2) }
+pub further_subtracted : (a : List ℤ) (ls : List Line) (work kept new : List Point) (p : Point) (j : ℕ) (l : Line) → Each (IsLineAlong a) ls → j < length ls →
+    l ≡ get_or ls j l → IsSubtracted p l.rest.items work new → KeepsFurther (work ++ p ∷ []) kept new kept
+further_subtracted a ls work kept new p j l k w q s = record {
+  at = λ h. (let r = work_parts work kept p h in Each-++ (λ (p : Point). pos 0 <ℤ p.k) new kept
+      (s.above (pos 0) r.1 (contained_each (IsLineAlong a) ls k l (j, w, sym q)).further r.0) r.2);
+}
 
 pub further_kept : (work kept new : List Point) (p : Point) → new ≡ p ∷ kept → KeepsFurther (work ++ p ∷ []) kept work new
-further_kept work kept new p e = subst (KeepsFurther (work ++ p ∷ []) kept work) (sym e) (record { at = λ h. (let r = work_parts work kept p h in Each-++ (λ (p : Point). pos 0 <ℤ p.k) work (p ∷ kept) r.0 (r.1, r.2)) })
+further_kept work kept new p e = subst (KeepsFurther (work ++ p ∷ []) kept work) (sym e)
+    (record { at = λ h. (let r = work_parts work kept p h in Each-++ (λ (p : Point). pos 0 <ℤ p.k) work (p ∷ kept) r.0 (r.1, r.2)) })
 
 pub further_none : (points kept : List Point) → kept ≡ [] → KeepsFurther points [] points kept
 further_none points kept e = subst (KeepsFurther points [] points) (sym e) (record { at = λ h. h })
 
-pub further_more : (points work popped kept newer more : List Point) → work ≡ popped → KeepsFurther popped kept newer more → KeepsFurther points [] work kept → KeepsFurther points [] newer more
+pub further_more : (points work popped kept newer more : List Point) → work ≡ popped → KeepsFurther popped kept newer more → KeepsFurther points [] work kept →
+    KeepsFurther points [] newer more
 further_more points work popped kept newer more e k h = record { at = λ f. k.at (subst (λ (z : List Point). AreFurther (z ++ kept)) e (h.at f)) }
 
 pub further_done : (points work kept : List Point) → work ≡ [] → KeepsFurther points [] work kept → AreFurther points → AreFurther kept

@@ -1,6 +1,7 @@
 -- Polynomials on lines: their coefficients, their monomials, and what kinds of members they are.
 -- To cite: line_listed, line_absent, line_coefficient, line_variables, member_variables, members_variables, line_marked.
-use Rattle.std.proofs.Common.{◌≡◌, ℕ, Bool, true, false, List, [], ◌∷◌, ◌++◌, length, Contains, ℤ, pos, ◌<ℤ◌, if◌then◌else◌, arith, refl, ap, ◌∙◌, subst, inl, inr}
+use Rattle.std.proofs.Common.{◌≡◌, ℕ, Bool, true, false, List, [], ◌∷◌, ◌++◌, length, Contains, ℤ, pos, ◌<ℤ◌, if◌then◌else◌, arith, refl, ap, ◌∙◌, subst, inl}
+use Rattle.std.proofs.Common.{inr}
 use Rattle.std.proofs.lemmas.Int.{ints}
 use Rattle.gf_frac.specs.Fraction.{◌+ℚ◌, zero_ℚ, one_ℚ}
 use Rattle.gf_frac.proofs.FractionLaws.{+ℚ-zero}
@@ -34,7 +35,8 @@ each_of_points a x ps [] s = tt
 each_of_points a x ps (q ∷ qs) s = ((q, s q (Contains-here q qs), refl), each_of_points a x ps qs (λ p c. s p (Contains-there q p qs c)))
 
 -- a monomial of points is that of one of them
-pub line_listed : (a : List ℤ) (x y : Exponents) (ps : List Point) → HasMonomial (line_terms a x ps) y → (p : Point) × Contains ps p × (same y (moved a x p.k) ≡ true)
+pub line_listed : (a : List ℤ) (x y : Exponents) (ps : List Point) → HasMonomial (line_terms a x ps) y →
+    (p : Point) × Contains ps p × (same y (moved a x p.k) ≡ true)
 line_listed a x y ps h =
     let r = listed (IsOfPoint a x ps) (line_terms a x ps) y (each_of_points a x ps ps (λ p c. c)) h in
     (r.1.0, r.1.1, subst (λ (z : Exponents). same y z ≡ true) r.1.2 r.2)
@@ -49,10 +51,11 @@ untrue false h = refl
 other_point : (a : List ℤ) (x : Exponents) (j k : ℤ) → HasNonzero a → IsSpot a x j → IsSpot a x k → (j ≡ k → ⊥) → same (moved a x j) (moved a x k) ≡ false
 other_point a x j k n o p d = untrue (same (moved a x j) (moved a x k)) (λ s. d (moved_one a x j k n o p s))
 
-pub line_absent : (a : List ℤ) (x : Exponents) (k : ℤ) (ps : List Point) → HasNonzero a → IsSpot a x k → AreSpots a x ps → Each (λ (p : Point). k ≡ p.k → ⊥) ps →
-    coefficient (line_terms a x ps) (moved a x k) ≡ zero_ℚ
+pub line_absent : (a : List ℤ) (x : Exponents) (k : ℤ) (ps : List Point) → HasNonzero a → IsSpot a x k → AreSpots a x ps →
+    Each (λ (p : Point). k ≡ p.k → ⊥) ps → coefficient (line_terms a x ps) (moved a x k) ≡ zero_ℚ
 line_absent a x k [] n o h d = refl
-line_absent a x k (p ∷ ps) n o h d = elsewhere (point_term a x p) (line_terms a x ps) (moved a x k) (other_point a x k p.k n o h.0 d.0) ∙ line_absent a x k ps n o h.1 d.1
+line_absent a x k (p ∷ ps) n o h d = elsewhere (point_term a x p) (line_terms a x ps) (moved a x k) (other_point a x k p.k n o h.0 d.0) ∙
+    line_absent a x k ps n o h.1 d.1
 
 each_middle : (P : Point → Type 0) (before after : List Point) (p : Point) → Each P (before ++ p ∷ after) → P p
 each_middle P [] after p h = h.0
@@ -71,8 +74,8 @@ first_alone : (t : Term) (f : Terms) → coefficient f t.mono ≡ zero_ℚ → c
 first_alone t f h = ap (λ b. (if b then t.coef else zero_ℚ) +ℚ coefficient f t.mono) (same-refl t.mono) ∙ ap (λ z. t.coef +ℚ z) h ∙ +ℚ-zero t.coef
 
 -- the coefficient at a point whose multiple no other one has
-pub line_coefficient : (a : List ℤ) (x : Exponents) (before after : List Point) (p : Point) → HasNonzero a → AreSpots a x (before ++ p ∷ after) → AreFalling (before ++ p ∷ after) →
-    coefficient (line_terms a x (before ++ p ∷ after)) (moved a x p.k) ≡ p.coef
+pub line_coefficient : (a : List ℤ) (x : Exponents) (before after : List Point) (p : Point) → HasNonzero a → AreSpots a x (before ++ p ∷ after) →
+    AreFalling (before ++ p ∷ after) → coefficient (line_terms a x (before ++ p ∷ after)) (moved a x p.k) ≡ p.coef
 line_coefficient a x [] after p n o f = first_alone (point_term a x p) (line_terms a x after) (line_absent a x p.k after n o.0 o.1 (below_apart p.k after f.0))
 line_coefficient a x (q ∷ before) after p n o f =
     let l : p.k <ℤ q.k = each_middle (λ (r : Point). r.k <ℤ q.k) before after p f.0 in
@@ -107,7 +110,8 @@ line_marked a l n h = record {
   monic = first_alone (record { coef = one_ℚ; mono = l.mark }) (line_terms a l.mark l.rest.items) (mark_absent a l n h);
   tail = λ x m. elim (same_or_not x l.mark) [
     | inl e ↦ inl e
-    | inr e ↦ inr (lower x (line_listed a l.mark x l.rest.items (λ z. m (elsewhere (record { coef = one_ℚ; mono = l.mark }) (line_terms a l.mark l.rest.items) x e ∙ z))))
+    | inr e ↦ inr (lower x (line_listed a l.mark x l.rest.items
+        (λ z. m (elsewhere (record { coef = one_ℚ; mono = l.mark }) (line_terms a l.mark l.rest.items) x e ∙ z))))
   ];
 }
   where

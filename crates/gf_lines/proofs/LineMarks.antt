@@ -55,21 +55,25 @@ each_line P ls k l h m e = contained_each P ls h l (k, m, e)
 lines_width : (a : List ℤ) (ls : List Line) (n : ℕ) → n ≡ length a → Each (IsLineAlong a) ls → Each (λ (l : Line). length l.mark ≡ n) ls
 lines_width a ls n e h = Each-weaker (IsLineAlong a) (λ (l : Line). length l.mark ≡ n) (λ l k. k.width ∙ sym e) ls h
 
-pub line_width : (a : List ℤ) (ls : List Line) (j : ℕ) (l : Line) (y : Exponents) → Each (IsLineAlong a) ls → j < length ls → l ≡ get_or ls j l → y ≡ l.mark → Each (λ (m : Line). length m.mark ≡ length y) ls
+pub line_width : (a : List ℤ) (ls : List Line) (j : ℕ) (l : Line) (y : Exponents) → Each (IsLineAlong a) ls → j < length ls → l ≡ get_or ls j l → y ≡ l.mark →
+    Each (λ (m : Line). length m.mark ≡ length y) ls
 line_width a ls j l y h w q e = lines_width a ls (length y) (ap length e ∙ (each_line (IsLineAlong a) ls j l h w (sym q)).width) h
 
-pub mark_width : (a : List ℤ) (xs : List Exponents) (ls : List Line) (i : ℕ) (x : Exponents) → IsGround a xs → Each (IsLineAlong a) ls → i < length xs → x ≡ get_or xs i x → Each (λ (m : Line). length m.mark ≡ length x) ls
+pub mark_width : (a : List ℤ) (xs : List Exponents) (ls : List Line) (i : ℕ) (x : Exponents) → IsGround a xs → Each (IsLineAlong a) ls → i < length xs →
+    x ≡ get_or xs i x → Each (λ (m : Line). length m.mark ≡ length x) ls
 mark_width a xs ls i x g h w q = lines_width a ls (length x) (front_variables (length a) xs [] i x g.marks w q) h
 
 -- monomials and lines are monic
-pub ground_monic : (a : List ℤ) (xs : List Exponents) (ls : List Line) → HasNonzero a → Each (IsLineAlong a) ls → AreMonic (with_monomials xs (line_members a ls))
+pub ground_monic : (a : List ℤ) (xs : List Exponents) (ls : List Line) → HasNonzero a → Each (IsLineAlong a) ls →
+    AreMonic (with_monomials xs (line_members a ls))
 ground_monic a xs ls n h b c = at (joined_cases xs (line_members a ls) c.0 b (record { within = c.1; is = c.2 }))
   where
     at : AtFront xs c.0 b ⊎ AtBehind xs (line_members a ls) c.0 b → coefficient b.poly b.head ≡ one_ℚ
     at (inl f) = subst (λ (z : MarkedPolynomial). coefficient z.poly z.head ≡ one_ℚ) (sym f.member) (monomial_one f.mono)
     at (inr g) =
         let l = line_at a ls g.place b g.at in
-        subst (λ (z : MarkedPolynomial). coefficient z.poly z.head ≡ one_ℚ) (sym l.member) (line_marked a l.line n (each_line (IsLineAlong a) ls g.place l.line h l.within l.at)).monic
+        subst (λ (z : MarkedPolynomial). coefficient z.poly z.head ≡ one_ℚ) (sym l.member)
+        (line_marked a l.line n (each_line (IsLineAlong a) ls g.place l.line h l.within l.at)).monic
 
 -- ---- marks from a place on, one after another
 
@@ -81,7 +85,8 @@ pub record NoLineBetween (ls : List Line) (i j : ℕ) (x : Exponents) : Type 0 w
 pub between_none : (ls : List Line) (i : ℕ) (x : Exponents) → NoLineBetween ls i i x
 between_none ls i x = record { within = omega arith; none = λ k l g h m e d. absurd (omega (arith, g, h)) }
 
-pub between_more : (ls : List Line) (i j : ℕ) (x : Exponents) (l : Line) → j < length ls → l ≡ get_or ls j l → (Divides l.mark x → ⊥) → NoLineBetween ls i j x → NoLineBetween ls i (j + 1) x
+pub between_more : (ls : List Line) (i j : ℕ) (x : Exponents) (l : Line) → j < length ls → l ≡ get_or ls j l → (Divides l.mark x → ⊥) → NoLineBetween ls i j x →
+    NoLineBetween ls i (j + 1) x
 between_more ls i j x l w q n h = record { within = omega (arith, h.within); none = λ k m g p v e d. at k m (cases_lt k j) g p v e d }
   where
     at : (k : ℕ) (m : Line) → (k < j) ⊎ (j ≤ k) → i ≤ k → k < j + 1 → k < length ls → get_or ls k m ≡ m → Divides m.mark x → ⊥
@@ -106,8 +111,8 @@ pub record AreLeftTo (a : List ℤ) (x : Exponents) (ls : List Line) (from : ℕ
 pub left_none : (a : List ℤ) (x : Exponents) (ls : List Line) (from : ℕ) (ps : List Point) → AreLeftTo a x ls from ps 0
 left_none a x ls from ps = record { none = λ j p l w e. absurd (omega (arith, l)) }
 
-pub left_more : (a : List ℤ) (x : Exponents) (ls : List Line) (from : ℕ) (ps : List Point) (i : ℕ) (p : Point) (y : Exponents) → i < length ps → p ≡ get_or ps i p → y ≡ moved a x p.k → NoLineFrom ls from y →
-    AreLeftTo a x ls from ps i → AreLeftTo a x ls from ps (i + 1)
+pub left_more : (a : List ℤ) (x : Exponents) (ls : List Line) (from : ℕ) (ps : List Point) (i : ℕ) (p : Point) (y : Exponents) → i < length ps →
+    p ≡ get_or ps i p → y ≡ moved a x p.k → NoLineFrom ls from y → AreLeftTo a x ls from ps i → AreLeftTo a x ls from ps (i + 1)
 left_more a x ls from ps i p y w q e n h = record { none = λ j r l v f. at j r (cases_lt j i) l v f }
   where
     at : (j : ℕ) (r : Point) → (j < i) ⊎ (i ≤ j) → j < i + 1 → j < length ps → get_or ps j r ≡ r → NoLineFrom ls from (moved a x r.k)
@@ -117,8 +122,10 @@ left_more a x ls from ps i p y w q e n h = record { none = λ j r l v f. at j r 
         let s : p ≡ r = q ∙ get_or_default ps i p r w ∙ subst (λ (z : ℕ). get_or ps z r ≡ r) k f in
         subst (λ (z : Point). NoLineFrom ls from (moved a x z.k)) s (subst (NoLineFrom ls from) e n)
 
-pub left_end : (a : List ℤ) (x : Exponents) (ls : List Line) (from : ℕ) (ps : List Point) (i : ℕ) → length ps ≤ i → AreLeftTo a x ls from ps i → Each (λ (p : Point). NoLineFrom ls from (moved a x p.k)) ps
+pub left_end : (a : List ℤ) (x : Exponents) (ls : List Line) (from : ℕ) (ps : List Point) (i : ℕ) → length ps ≤ i → AreLeftTo a x ls from ps i →
+    Each (λ (p : Point). NoLineFrom ls from (moved a x p.k)) ps
 left_end a x ls from ps i l h = each_contained (λ (p : Point). NoLineFrom ls from (moved a x p.k)) ps (λ p c. h.none c.0 p (omega (arith, l, c.1)) c.1 c.2)
 
-pub moved_width : (a : List ℤ) (x : Exponents) (ls : List Line) (k : ℤ) (y : Exponents) → length x ≡ length a → Each (IsLineAlong a) ls → y ≡ moved a x k → Each (λ (m : Line). length m.mark ≡ length y) ls
+pub moved_width : (a : List ℤ) (x : Exponents) (ls : List Line) (k : ℤ) (y : Exponents) → length x ≡ length a → Each (IsLineAlong a) ls → y ≡ moved a x k →
+    Each (λ (m : Line). length m.mark ≡ length y) ls
 moved_width a x ls k y w h e = lines_width a ls (length y) (ap length e ∙ moved-length a x k ∙ w) h

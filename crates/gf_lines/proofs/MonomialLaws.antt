@@ -1,7 +1,8 @@
 -- Lists whose members at the front are monomials.
 -- To cite: monomial_single, monomial_one, joined_length, front_at, behind_at, AtFront, AtBehind, joined_cases, joined_push, behind_contained, front_contained,
 -- behind_variables, front_variables, apart_later.
-use Rattle.std.proofs.Common.{◌≡◌, ◌⊎◌, ℕ, zero, suc, ◌+◌, ◌<◌, Bool, true, false, if◌then◌else◌, List, [], ◌∷◌, ◌++◌, length, map, get_or, Contains, arith, refl, sym, ap, ◌∙◌, subst, inl, inr}
+use Rattle.std.proofs.Common.{◌≡◌, ◌⊎◌, ℕ, zero, suc, ◌+◌, ◌<◌, Bool, true, false, if◌then◌else◌, List, [], ◌∷◌, ◌++◌, length, map, get_or, Contains, arith}
+use Rattle.std.proofs.Common.{refl, sym, ap, ◌∙◌, subst, inl, inr}
 use Rattle.std.proofs.lemmas.List.{get_or_default}
 use Rattle.std.proofs.lemmas.List.Elements.{Contains-append_left, Contains-append_right}
 use Rattle.gf_frac.specs.Fraction.{one_ℚ, zero_ℚ, ◌+ℚ◌}
@@ -34,7 +35,8 @@ joined_length [] bs = omega arith
 joined_length (x ∷ xs) bs = omega (arith, joined_length xs bs)
 
 -- the monomial at a place
-pub front_at : (xs : List Exponents) (bs : List MarkedPolynomial) (i : ℕ) (x : Exponents) → i < length xs → x ≡ get_or xs i x → IsAt (with_monomials xs bs) i (monomial_member x)
+pub front_at : (xs : List Exponents) (bs : List MarkedPolynomial) (i : ℕ) (x : Exponents) → i < length xs → x ≡ get_or xs i x →
+    IsAt (with_monomials xs bs) i (monomial_member x)
 front_at [] bs i x l e = absurd (omega (arith, l))
 front_at (y ∷ xs) bs zero x l e = record { within = omega arith; is = ap monomial_member (sym e) }
 front_at (y ∷ xs) bs (suc i) x l e =
@@ -64,7 +66,8 @@ pub record AtBehind (xs : List Exponents) (bs : List MarkedPolynomial) (k : ℕ)
   pub is : k ≡ length xs + place
   pub at : IsAt bs place b
 
-pub joined_cases : (xs : List Exponents) (bs : List MarkedPolynomial) (k : ℕ) (b : MarkedPolynomial) → IsAt (with_monomials xs bs) k b → AtFront xs k b ⊎ AtBehind xs bs k b
+pub joined_cases : (xs : List Exponents) (bs : List MarkedPolynomial) (k : ℕ) (b : MarkedPolynomial) → IsAt (with_monomials xs bs) k b →
+    AtFront xs k b ⊎ AtBehind xs bs k b
 joined_cases [] bs k b h = inr (record { place = k; is = omega arith; at = h })
 joined_cases (x ∷ xs) bs zero b h = inl (record { mono = x; within = omega arith; is = refl; member = sym h.is })
 joined_cases (x ∷ xs) bs (suc k) b h = elim (joined_cases xs bs k b (record { within = omega (arith, h.within); is = h.is })) [
@@ -80,7 +83,8 @@ joined_push (x ∷ xs) bs b = ap (λ (z : List MarkedPolynomial). monomial_membe
 pub behind_contained : (xs : List Exponents) (bs : List MarkedPolynomial) (b : MarkedPolynomial) → Contains bs b → Contains (with_monomials xs bs) b
 behind_contained xs bs b c = Contains-append_right (map monomial_member xs) bs b c
 
-pub front_contained : (xs : List Exponents) (bs : List MarkedPolynomial) (b : MarkedPolynomial) → Contains (with_monomials xs []) b → Contains (with_monomials xs bs) b
+pub front_contained : (xs : List Exponents) (bs : List MarkedPolynomial) (b : MarkedPolynomial) → Contains (with_monomials xs []) b →
+    Contains (with_monomials xs bs) b
 front_contained xs bs b c = Contains-append_left (map monomial_member xs) bs b (subst (λ (z : List MarkedPolynomial). Contains z b) (nil xs) c)
   where
     nil : (xs : List Exponents) → with_monomials xs [] ≡ map monomial_member xs
@@ -95,7 +99,8 @@ behind_variables n [] bs v = v
 behind_variables n (x ∷ xs) bs v = behind_variables n xs bs v.1
 
 -- and so do the monomials
-pub front_variables : (n : ℕ) (xs : List Exponents) (bs : List MarkedPolynomial) (i : ℕ) (x : Exponents) → HaveVariables n (with_monomials xs bs) → i < length xs → x ≡ get_or xs i x → length x ≡ n
+pub front_variables : (n : ℕ) (xs : List Exponents) (bs : List MarkedPolynomial) (i : ℕ) (x : Exponents) → HaveVariables n (with_monomials xs bs) →
+    i < length xs → x ≡ get_or xs i x → length x ≡ n
 front_variables n [] bs i x v l e = absurd (omega (arith, l))
 front_variables n (y ∷ xs) bs zero x v l e = ap length e ∙ v.0.0
 front_variables n (y ∷ xs) bs (suc i) x v l e = front_variables n xs bs i x v.1 (omega (arith, l)) e
@@ -105,7 +110,8 @@ front_variables n (y ∷ xs) bs (suc i) x v l e = front_variables n xs bs i x v.
 pub apart_later : (xs : List Exponents) → AreMonomialsApart xs → AreLaterUndivided (with_monomials xs [])
 apart_later xs h = record { none = λ i j b c l p q x m d. at i j b c l (joined_cases xs [] i b p) (joined_cases xs [] j c q) x m d }
   where
-    at : (i j : ℕ) (b c : MarkedPolynomial) → i < j → AtFront xs i b ⊎ AtBehind xs [] i b → AtFront xs j c ⊎ AtBehind xs [] j c → (x : Exponents) → HasMonomial c.poly x → Divides b.head x → ⊥
+    at : (i j : ℕ) (b c : MarkedPolynomial) → i < j → AtFront xs i b ⊎ AtBehind xs [] i b → AtFront xs j c ⊎ AtBehind xs [] j c → (x : Exponents) →
+        HasMonomial c.poly x → Divides b.head x → ⊥
     at i j b c l (inr f) g x m d = absurd (omega (arith, f.at.within))
     at i j b c l (inl f) (inr g) x m d = absurd (omega (arith, g.at.within))
     at i j b c l (inl f) (inl g) x m d =

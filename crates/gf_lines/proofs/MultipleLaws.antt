@@ -1,6 +1,7 @@
 -- Whether exponents are a multiple of a vector apart, as the code tests it: an exact quotient, then entry by entry.
 -- To cite: exact, small_factor, apart_more, distance_end, apart_end, not_apart, kept, narrow_entry, apart_found.
-use Rattle.std.specs.Prelude.{◌≡◌, ◌≢◌, ◌⊎◌, ℕ, zero, suc, ◌+◌, ◌*◌, ◌<◌, ◌≤◌, ◌^◌, List, [], ◌∷◌, length, get_or, ℤ, pos, ◌+ℤ◌, ◌-ℤ◌, ◌*ℤ◌, unsigned_abs, int_div, int_rem}
+use Rattle.std.specs.Prelude.{◌≡◌, ◌≢◌, ◌⊎◌, ℕ, zero, suc, ◌+◌, ◌*◌, ◌<◌, ◌≤◌, ◌^◌, List, [], ◌∷◌, length, get_or, ℤ, pos, ◌+ℤ◌, ◌-ℤ◌, ◌*ℤ◌, unsigned_abs}
+use Rattle.std.specs.Prelude.{int_div, int_rem}
 use Rattle.std.specs.declared.option.Option.{Option}
 use Rattle.std.specs.Option.{is_some}
 use Rattle.std.proofs.Common.{true, false, Some, None, IfSome, arith, refl, sym, ap, ◌∙◌, inl, inr, to_z, of_z}
@@ -27,7 +28,8 @@ exact d a k n e =
     let r = rem_below d a (abs_positive a n) in
     let q = quot-rem d a in
     let m : (k -ℤ int_div d a) *ℤ a ≡ int_rem d a = rest (int_div d a) (int_rem d a) q in
-    let l : unsigned_abs (k -ℤ int_div d a) * unsigned_abs a < unsigned_abs a = omega (arith, sym (unsigned_abs-mul (k -ℤ int_div d a) a), ap unsigned_abs m, r) in
+    let l : unsigned_abs (k -ℤ int_div d a) * unsigned_abs a < unsigned_abs a =
+    omega (arith, sym (unsigned_abs-mul (k -ℤ int_div d a) a), ap unsigned_abs m, r) in
     let z : k -ℤ int_div d a ≡ pos 0 = abs_zero (k -ℤ int_div d a) (none_left (unsigned_abs (k -ℤ int_div d a)) (unsigned_abs a) l) in
     omega (arith, ints, z)
   where
@@ -36,7 +38,12 @@ exact d a k n e =
 
 -- and its size
 pub small_factor : (d a k : ℤ) → a ≢ pos 0 → d ≡ k *ℤ a → unsigned_abs k ≤ unsigned_abs d
-small_factor d a k n e = omega (arith, mul-le (unsigned_abs k) 1 (unsigned_abs k) (unsigned_abs a) (omega arith) (abs_positive a n), unsigned_abs-mul k a, ap unsigned_abs e)
+small_factor d a k n e = omega (
+  arith,
+  mul-le (unsigned_abs k) 1 (unsigned_abs k) (unsigned_abs a) (omega arith) (abs_positive a n),
+  unsigned_abs-mul k a,
+  ap unsigned_abs e,
+)
 
 -- ---- entry by entry
 
@@ -101,7 +108,8 @@ kept_entry : (a : List ℤ) (i : ℕ) → AreSmall a → i < length a → to_z w
 kept_entry a i h l = kept (get_or a i (pos 0)) (2 ^ 31) (omega (arith, small_entry a i h l)) (omega arith)
 
 -- as it is narrowed
-pub narrow_entry : (a : List ℤ) (i : ℕ) (z : ℤ) → AreSmall a → i < length a → z ≡ to_z w128 (of_z w128 (get_or a i (pos 0))) → to_z w64 (of_z w64 z) ≡ get_or a i (pos 0)
+pub narrow_entry : (a : List ℤ) (i : ℕ) (z : ℤ) → AreSmall a → i < length a → z ≡ to_z w128 (of_z w128 (get_or a i (pos 0))) →
+    to_z w64 (of_z w64 z) ≡ get_or a i (pos 0)
 narrow_entry a i z h l e = ap (λ (y : ℤ). to_z w64 (of_z w64 y)) (e ∙ whole) ∙ kept_entry a i h l
   where
     whole : to_z w128 (of_z w128 (get_or a i (pos 0))) ≡ get_or a i (pos 0)

@@ -31,8 +31,8 @@ pub put_other : (bs : List MarkedPolynomial) (i j : ℕ) (c d : MarkedPolynomial
 put_other bs i j c d n a = record { within = omega (arith, a.within, length-set bs i c); is = sym (get_or-set_other bs i j c d n) ∙ a.is }
 
 -- what a mark of the one list divides, one of another with the same marks does
-pub divisible_along : (ls ms : List MarkedPolynomial) → length ms ≡ length ls →
-    ((j : ℕ) (b c : MarkedPolynomial) → IsAt ls j b → IsAt ms j c → c.head ≡ b.head) → (x : Exponents) → IsDivisible (Contains ls) x → IsDivisible (Contains ms) x
+pub divisible_along : (ls ms : List MarkedPolynomial) → length ms ≡ length ls → ((j : ℕ) (b c : MarkedPolynomial) → IsAt ls j b → IsAt ms j c →
+    c.head ≡ b.head) → (x : Exponents) → IsDivisible (Contains ls) x → IsDivisible (Contains ms) x
 divisible_along ls ms e h x d =
     let j = d.contained.0 in
     let p : IsAt ls j d.member = record { within = d.contained.1; is = d.contained.2 } in

@@ -1,11 +1,14 @@
 -- Points one by one: the exponents of a point as they are worked out, and how points change as one is added, taken away, or counted anew.
--- To cite: quotient_is, AreMoved, moved_more, moved-monomial, moved_end, added_each, added_terms, point_joined, point_entered, falling_set, same_point, falling_entered, subtracted-none, subtracted_more, relative_point, relative_is, line_from.
-use Rattle.std.proofs.Common.{◌≡◌, ◌≢◌, ◌⊎◌, ℕ, zero, suc, ◌+◌, ◌<◌, ◌≤◌, ◌^◌, Bool, true, false, if◌then◌else◌, List, [], ◌∷◌, ◌++◌, length, take, drop, map, get_or, All, ℤ, pos, ◌+ℤ◌, ◌-ℤ◌, ◌*ℤ◌, ◌<ℤ◌, ◌≤ℤ◌, arith, refl, sym, ap, ◌∙◌, subst, inl, inr, add-one}
+-- To cite: quotient_is, AreMoved, moved_more, moved-monomial, moved_end, added_each, added_terms, point_joined, point_entered, falling_set, same_point,
+-- falling_entered, subtracted-none, subtracted_more, relative_point, relative_is, line_from.
+use Rattle.std.proofs.Common.{◌≡◌, ◌≢◌, ◌⊎◌, ℕ, zero, suc, ◌+◌, ◌<◌, ◌≤◌, ◌^◌, Bool, true, false, if◌then◌else◌, List, [], ◌∷◌, ◌++◌, length, take, drop, map}
+use Rattle.std.proofs.Common.{get_or, All, ℤ, pos, ◌+ℤ◌, ◌-ℤ◌, ◌*ℤ◌, ◌<ℤ◌, ◌≤ℤ◌, arith, refl, sym, ap, ◌∙◌, subst, inl, inr, add-one}
 use Rattle.std.specs.List.{insert}
 use Rattle.std.proofs.Math.ListN.{set}
 use Rattle.std.proofs.lemmas.Bool.{cases_lt}
 use Rattle.std.proofs.lemmas.Int.{ints}
-use Rattle.std.proofs.lemmas.List.{length-set, length-take-le, get_or-take, get_or-set_other, get_or_past, get_or_default, append-nil, append_assoc, map-append, take-append-drop, drop_more, set_split}
+use Rattle.std.proofs.lemmas.List.{length-set, length-take-le, get_or-take, get_or-set_other, get_or_past, get_or_default, append-nil, append_assoc, map-append}
+use Rattle.std.proofs.lemmas.List.{take-append-drop, drop_more, set_split}
 use Rattle.std.proofs.lemmas.List.Elements.{All-set, All-take}
 use Rattle.std.proofs.lemmas.Grind.{get_or-set_at}
 use Rattle.gf_frac.specs.Fraction.{Fraction, ◌+ℚ◌, ◌*ℚ◌, ◌/ℚ◌, neg_ℚ, reciprocal_ℚ, zero_ℚ, one_ℚ}
@@ -23,7 +26,8 @@ use Rattle.gf_ideal_theory.proofs.ListLaws.{each_contained, contained_each}
 use Rattle.gf_lines.specs.declared.lines.Point.{Point}
 use Rattle.gf_lines.specs.declared.lines.Line.{Line}
 use Rattle.gf_lines.specs.Along.{HasNonzero}
-use Rattle.gf_lines.specs.Lines.{moved, IsDistance, IsSpot, AreSpots, AreFalling, point_term, line_terms, line_member, IsPointAdded, IsSubtracted, IsRelative, IsLineFrom}
+use Rattle.gf_lines.specs.Lines.{moved, IsDistance, IsSpot, AreSpots, AreFalling, point_term, line_terms, line_member, IsPointAdded, IsSubtracted, IsRelative}
+use Rattle.gf_lines.specs.Lines.{IsLineFrom}
 use Rattle.gf_lines.proofs.LineLaws.{line_coefficient}
 use Rattle.gf_lines.proofs.MoveLaws.{moved-length, moved_is, on_is, moved_moved, on_sum, on_rest, moved_apart}
 
@@ -57,10 +61,14 @@ moved_more a x k all i v l b e h = record {
         ap pos (get_or-set_at all i j v 0 q (omega (arith, h.room))) ∙ e ∙ ap (λ (s : ℕ). pos (entry x s) +ℤ k *ℤ get_or a s (pos 0)) (sym q)
 
 pub moved-monomial : (a : List ℤ) (x : Exponents) (k : ℤ) (all : List ℕ) (i n : ℕ) → n ≤ ROOM → AreMoved a x k all i → IsMonomial (take n all)
-moved-monomial a x k all i n r h = record { room = omega (arith, length-take-le n all (omega (arith, h.room))); limit = All-take (λ (n : ℕ). n < 2 ^ 31) n all h.limit }
+moved-monomial a x k all i n r h = record {
+  room = omega (arith, length-take-le n all (omega (arith, h.room)));
+  limit = All-take (λ (n : ℕ). n < 2 ^ 31) n all h.limit;
+}
 
 -- all exponents are worked out
-moved_distance : (a : List ℤ) (x : Exponents) (k : ℤ) (all : List ℕ) (i : ℕ) → length x ≡ length a → length x ≤ ROOM → length x ≤ i → AreMoved a x k all i → IsDistance a (take (length x) all) x k
+moved_distance : (a : List ℤ) (x : Exponents) (k : ℤ) (all : List ℕ) (i : ℕ) → length x ≡ length a → length x ≤ ROOM → length x ≤ i → AreMoved a x k all i →
+    IsDistance a (take (length x) all) x k
 moved_distance a x k all i e r l h = λ j. place j (cases_lt j (length x))
   where
     n : length (take (length x) all) ≡ length x
@@ -91,7 +99,8 @@ each_split P [] ys h = (tt, h)
 each_split P (x ∷ xs) ys h = let r = each_split P xs ys h.1 in ((h.0, r.0), r.1)
 
 -- another point with the same multiple
-each_same : (P : ℤ → Type 0) (before after : List Point) (p q : Point) → q.k ≡ p.k → Each (λ (r : Point). P r.k) (before ++ p ∷ after) → Each (λ (r : Point). P r.k) (before ++ q ∷ after)
+each_same : (P : ℤ → Type 0) (before after : List Point) (p q : Point) → q.k ≡ p.k → Each (λ (r : Point). P r.k) (before ++ p ∷ after) →
+    Each (λ (r : Point). P r.k) (before ++ q ∷ after)
 each_same P [] after p q e h = (subst P (sym e) h.0, h.1)
 each_same P (x ∷ before) after p q e h = (h.0, each_same P before after p q e h.1)
 
@@ -103,17 +112,21 @@ each_more P (x ∷ before) after q n h = (h.0, each_more P before after q n h.1)
 -- ---- a point is added
 
 -- what holds of its multiple and the old ones holds of the new ones
-pub added_each : (P : ℤ → Type 0) (k : ℤ) (c : Fraction) (old new : List Point) → IsPointAdded k c old new → P k → Each (λ (p : Point). P p.k) old → Each (λ (p : Point). P p.k) new
+pub added_each : (P : ℤ → Type 0) (k : ℤ) (c : Fraction) (old new : List Point) → IsPointAdded k c old new → P k → Each (λ (p : Point). P p.k) old →
+    Each (λ (p : Point). P p.k) new
 added_each P k c old new (IsPointAdded.joined before after d e f) n h =
-    subst (Each (λ (p : Point). P p.k)) (sym f) (each_same P before after (record { k = k; coef = d }) (record { k = k; coef = d +ℚ c }) refl (subst (Each (λ (p : Point). P p.k)) e h))
+    subst (Each (λ (p : Point). P p.k)) (sym f) (each_same P before after (record { k = k; coef = d }) (record { k = k; coef = d +ℚ c }) refl
+    (subst (Each (λ (p : Point). P p.k)) e h))
 added_each P k c old new (IsPointAdded.entered before after e f) n h =
-    subst (Each (λ (p : Point). P p.k)) (sym f) (each_more (λ (p : Point). P p.k) before after (record { k = k; coef = c }) n (subst (Each (λ (p : Point). P p.k)) e h))
+    subst (Each (λ (p : Point). P p.k)) (sym f) (each_more (λ (p : Point). P p.k) before after (record { k = k; coef = c }) n
+    (subst (Each (λ (p : Point). P p.k)) e h))
 
 -- the coefficients of a list with one more term somewhere
 entered_same : (f g : Terms) (t : Term) → SamePolynomial (f ++ t ∷ g) ((f ++ g) ++ t ∷ [])
 entered_same f g t = λ e.
     let z = coefficient (t ∷ []) e in
-    coefficient-++ f (t ∷ g) e ∙ ap (λ w. coefficient f e +ℚ w) (coefficient-++ (t ∷ []) g e ∙ +ℚ_comm z (coefficient g e)) ∙ sym (+ℚ_assoc (coefficient f e) (coefficient g e) z)
+    coefficient-++ f (t ∷ g) e ∙ ap (λ w. coefficient f e +ℚ w) (coefficient-++ (t ∷ []) g e ∙ +ℚ_comm z (coefficient g e)) ∙
+    sym (+ℚ_assoc (coefficient f e) (coefficient g e) z)
     ∙ ap (λ w. w +ℚ z) (sym (coefficient-++ f g e)) ∙ sym (coefficient-++ (f ++ g) (t ∷ []) e)
 
 chosen_sum : (b : Bool) (c d : Fraction) → (if b then c +ℚ d else zero_ℚ) ≡ (if b then c else zero_ℚ) +ℚ (if b then d else zero_ℚ)
@@ -121,7 +134,8 @@ chosen_sum true c d = refl
 chosen_sum false c d = sym (+ℚ-zero zero_ℚ)
 
 -- a coefficient that is a sum, in two terms
-joined_terms : (x : Exponents) (c d : Fraction) (g : Terms) → SamePolynomial (record { coef = d +ℚ c; mono = x } ∷ g) (record { coef = d; mono = x } ∷ record { coef = c; mono = x } ∷ g)
+joined_terms : (x : Exponents) (c d : Fraction) (g : Terms) →
+    SamePolynomial (record { coef = d +ℚ c; mono = x } ∷ g) (record { coef = d; mono = x } ∷ record { coef = c; mono = x } ∷ g)
 joined_terms x c d g = λ e. ap (λ z. z +ℚ coefficient g e) (chosen_sum (same e x) d c) ∙ +ℚ_assoc _ _ _
 
 front_same : (f g h : Terms) → SamePolynomial g h → SamePolynomial (f ++ g) (f ++ h)
@@ -154,15 +168,18 @@ added_terms k c old new a x (IsPointAdded.entered before after e f) = λ y.
     ∙ ap (λ z. coefficient (line_terms a x z ++ t ∷ []) y) (sym e)
 
 -- the coefficient is added to that of the point at place i
-pub point_joined : (k : ℤ) (c : Fraction) (old : List Point) (i : ℕ) (p q : Point) → i < length old → p ≡ get_or old i p → p.k ≡ k → q.k ≡ k → q.coef ≡ p.coef +ℚ c →
-    IsPointAdded k c old (set old i q)
+pub point_joined : (k : ℤ) (c : Fraction) (old : List Point) (i : ℕ) (p q : Point) → i < length old → p ≡ get_or old i p → p.k ≡ k → q.k ≡ k →
+    q.coef ≡ p.coef +ℚ c → IsPointAdded k c old (set old i q)
 point_joined k c old i p q l e f g h = IsPointAdded.joined (take i old) (drop (i + 1) old) p.coef
-    (sym (take-append-drop i old) ∙ ap (λ z. take i old ++ z) (drop_more old i p l ∙ ap (λ (z : Point). z ∷ drop (i + 1) old) (sym e ∙ ap (λ (z : ℤ). record { k = z; coef = p.coef }) f)))
-    (set_split old i q l ∙ ap (λ n. take i old ++ q ∷ drop n old) (sym (add-one i)) ∙ ap (λ (z : ℤ). take i old ++ record { k = z; coef = q.coef } ∷ drop (i + 1) old) g ∙ ap (λ (z : Fraction). take i old ++ record { k = k; coef = z } ∷ drop (i + 1) old) h)
+    (sym (take-append-drop i old) ∙ ap (λ z. take i old ++ z) (drop_more old i p l ∙ ap (λ (z : Point). z ∷ drop (i + 1) old)
+    (sym e ∙ ap (λ (z : ℤ). record { k = z; coef = p.coef }) f)))
+    (set_split old i q l ∙ ap (λ n. take i old ++ q ∷ drop n old) (sym (add-one i)) ∙ ap (λ (z : ℤ). take i old ++ record { k = z; coef = q.coef } ∷
+    drop (i + 1) old) g ∙ ap (λ (z : Fraction). take i old ++ record { k = k; coef = z } ∷ drop (i + 1) old) h)
 
 pub point_entered : (k : ℤ) (c : Fraction) (old : List Point) (i : ℕ) (q : Point) → q.k ≡ k → q.coef ≡ c → IsPointAdded k c old (insert old i q)
 point_entered k c old i q g h = IsPointAdded.entered (take i old) (drop i old) (sym (take-append-drop i old))
-    (ap (λ (z : ℤ). take i old ++ record { k = z; coef = q.coef } ∷ drop i old) g ∙ ap (λ (z : Fraction). take i old ++ record { k = k; coef = z } ∷ drop i old) h)
+    (ap (λ (z : ℤ). take i old ++ record { k = z; coef = q.coef } ∷ drop i old) g ∙ ap (λ (z : Fraction). take i old ++ record { k = k; coef = z } ∷ drop i old)
+    h)
 
 each_set : (P : ℤ → Type 0) (ps : List Point) (i : ℕ) (q : Point) → P q.k → Each (λ (r : Point). P r.k) ps → Each (λ (r : Point). P r.k) (set ps i q)
 each_set P [] i q n h = tt
@@ -182,7 +199,8 @@ falling_set (r ∷ ps) (suc i) p q l e g f = (
 )
 
 -- q is below the first point, where it is below the last one before its place
-below_first : (r : Point) (ps : List Point) (i : ℕ) (q : Point) → i ≤ length ps → ((j : ℕ) (p : Point) → j + 1 ≡ suc i → p ≡ get_or (r ∷ ps) j p → q.k <ℤ p.k) → AreFalling (r ∷ ps) → q.k <ℤ r.k
+below_first : (r : Point) (ps : List Point) (i : ℕ) (q : Point) → i ≤ length ps → ((j : ℕ) (p : Point) → j + 1 ≡ suc i → p ≡ get_or (r ∷ ps) j p → q.k <ℤ p.k) →
+    AreFalling (r ∷ ps) → q.k <ℤ r.k
 below_first r ps zero q l b f = b 0 r refl refl
 below_first r ps (suc i) q l b f =
     let p = get_or ps i r in
@@ -197,7 +215,8 @@ pub falling_insert : (ps : List Point) (i : ℕ) (q : Point) → i ≤ length ps
 falling_insert ps zero q l b d f = (each_contained (λ (p : Point). p.k <ℤ q.k) ps (λ p c. b c.0 p (omega arith) c.1 (sym c.2)), f)
 falling_insert [] (suc i) q l b d f = absurd (omega arith)
 falling_insert (r ∷ ps) (suc i) q l b d f = (
-  each_more (λ (s : Point). s.k <ℤ r.k) (take i ps) (drop i ps) q (below_first r ps i q (omega arith) d f) (subst (Each (λ (s : Point). s.k <ℤ r.k)) (sym (take-append-drop i ps)) f.0),
+  each_more (λ (s : Point). s.k <ℤ r.k) (take i ps) (drop i ps) q (below_first r ps i q (omega arith) d f)
+      (subst (Each (λ (s : Point). s.k <ℤ r.k)) (sym (take-append-drop i ps)) f.0),
   falling_insert ps i q (omega arith) (λ j p m n e. b (suc j) p (omega arith) (omega arith) e) (λ j p m e. d (suc j) p (omega arith) e) f.1,
 )
 
@@ -233,8 +252,8 @@ above_sum : (j k l : ℤ) → j <ℤ k → pos 0 <ℤ l → j <ℤ (k +ℤ l)
 above_sum j k l h n = omega (arith, ints, h, n)
 
 -- one more
-pub subtracted_more : (p q : Point) (qs old work new : List Point) → IsSubtracted p qs old work → IsPointAdded (p.k +ℤ q.k) (neg_ℚ (p.coef *ℚ q.coef)) work new →
-    (AreFalling work → AreFalling new) → IsSubtracted p (qs ++ q ∷ []) old new
+pub subtracted_more : (p q : Point) (qs old work new : List Point) → IsSubtracted p qs old work →
+    IsPointAdded (p.k +ℤ q.k) (neg_ℚ (p.coef *ℚ q.coef)) work new → (AreFalling work → AreFalling new) → IsSubtracted p (qs ++ q ∷ []) old new
 subtracted_more p q qs old work new s d f = record {
   terms = λ a x o n. terms a x o (each_split (λ (r : Point). IsSpot a (moved a x p.k) r.k) qs (q ∷ []) n);
   on = λ a x o n h.
@@ -255,9 +274,11 @@ subtracted_more p q qs old work new s d f = record {
         let g = times c [] (line_terms a y qs) in
         let t : Term = record { coef = neg_ℚ (p.coef *ℚ q.coef); mono = moved a x (p.k +ℤ q.k) } in
         let u : times_term c [] (point_term a y q) ≡ t =
-        ap (λ (z : Fraction). record { coef = z; mono = moved a y q.k }) (neg_ℚ-*ℚ p.coef q.coef) ∙ ap (λ (z : Exponents). record { coef = neg_ℚ (p.coef *ℚ q.coef); mono = z }) (moved_moved a x p.k q.k o) in
+        ap (λ (z : Fraction). record { coef = z; mono = moved a y q.k }) (neg_ℚ-*ℚ p.coef q.coef) ∙
+        ap (λ (z : Exponents). record { coef = neg_ℚ (p.coef *ℚ q.coef); mono = z }) (moved_moved a x p.k q.k o) in
         added_terms (p.k +ℤ q.k) (neg_ℚ (p.coef *ℚ q.coef)) work new a x d e
-        ∙ coefficient-++ (line_terms a x work) (t ∷ []) e ∙ ap (λ z. z +ℚ coefficient (t ∷ []) e) (s.terms a x o n.0 e) ∙ sym (coefficient-++ (b ++ g) (t ∷ []) e)
+        ∙ coefficient-++ (line_terms a x work) (t ∷ []) e ∙ ap (λ z. z +ℚ coefficient (t ∷ []) e) (s.terms a x o n.0 e) ∙
+        sym (coefficient-++ (b ++ g) (t ∷ []) e)
         ∙ ap (λ z. coefficient z e) (append_assoc b g (t ∷ []))
         ∙ ap (λ (z : Term). coefficient (b ++ (g ++ z ∷ [])) e) (sym u)
         ∙ ap (λ z. coefficient (b ++ z) e) (sym (times-++ c [] (line_terms a y qs) (point_term a y q ∷ [])))
@@ -272,11 +293,13 @@ relative_point first p = record { k = p.k -ℤ first.k; coef = p.coef /ℚ first
 pub relative_is : (first p q : Point) → IsRelative first p q → q ≡ relative_point first p
 relative_is first p q h = ap (λ (z : ℤ). record { k = z; coef = q.coef }) h.k ∙ ap (λ (z : Fraction). record { k = p.k -ℤ first.k; coef = z }) h.coef
 
-relative_on : (a : List ℤ) (x : Exponents) (first : Point) (qs : List Point) → IsSpot a x first.k → AreSpots a x qs → AreSpots a (moved a x first.k) (map (relative_point first) qs)
+relative_on : (a : List ℤ) (x : Exponents) (first : Point) (qs : List Point) → IsSpot a x first.k → AreSpots a x qs →
+    AreSpots a (moved a x first.k) (map (relative_point first) qs)
 relative_on a x first [] o h = tt
 relative_on a x first (q ∷ qs) o h = (on_rest a x first.k q.k o h.0, relative_on a x first qs o h.1)
 
-relative_each : (first : Point) (P Q : ℤ → Type 0) → ((k : ℤ) → P k → Q (k -ℤ first.k)) → (qs : List Point) → Each (λ (q : Point). P q.k) qs → Each (λ (q : Point). Q q.k) (map (relative_point first) qs)
+relative_each : (first : Point) (P Q : ℤ → Type 0) → ((k : ℤ) → P k → Q (k -ℤ first.k)) → (qs : List Point) → Each (λ (q : Point). P q.k) qs →
+    Each (λ (q : Point). Q q.k) (map (relative_point first) qs)
 relative_each first P Q t [] h = tt
 relative_each first P Q t (q ∷ qs) h = (t q.k h.0, relative_each first P Q t qs h.1)
 
@@ -318,30 +341,34 @@ relative_terms a x first (q ∷ qs) n o =
 
 -- so is the line, and the points
 line_times : (a : List ℤ) (x : Exponents) (qs : List Point) (first : Point) (l : Line) → IsSpot a x first.k → first.coef ≢ zero_ℚ → l.mark ≡ moved a x first.k →
-    l.rest.items ≡ map (relative_point first) qs → (y : Exponents) → first.coef *ℚ coefficient (line_member a l).poly y ≡ coefficient (line_terms a x (qs ++ first ∷ [])) y
+    l.rest.items ≡ map (relative_point first) qs → (y : Exponents) → first.coef *ℚ coefficient (line_member a l).poly y ≡
+    coefficient (line_terms a x (qs ++ first ∷ [])) y
 line_times a x qs first l o n m r y =
     let t = point_term a x first in
     let f = line_terms a x qs in
     sym (coefficient-times first.coef [] (line_member a l).poly y)
     ∙ ap (λ (z : Exponents). coefficient (times first.coef [] (record { coef = one_ℚ; mono = z } ∷ line_terms a z l.rest.items)) y) m
     ∙ ap (λ (z : List Point). coefficient (times first.coef [] (record { coef = one_ℚ; mono = moved a x first.k } ∷ line_terms a (moved a x first.k) z)) y) r
-    ∙ ap (λ (z : Fraction). coefficient (record { coef = z; mono = moved a x first.k } ∷ times first.coef [] (line_terms a (moved a x first.k) (map (relative_point first) qs))) y) (*ℚ-one first.coef)
+    ∙ ap (λ (z : Fraction). coefficient (record { coef = z; mono = moved a x first.k } ∷ times first.coef
+    [] (line_terms a (moved a x first.k) (map (relative_point first) qs))) y) (*ℚ-one first.coef)
     ∙ ap (λ (z : Terms). coefficient (t ∷ z) y) (relative_terms a x first qs n o)
     ∙ ap (λ (z : Terms). coefficient (t ∷ z) y) (sym (append-nil f))
     ∙ sym (turned f t y)
     ∙ ap (λ (z : Terms). coefficient z y) (sym (map-append (point_term a x) qs (first ∷ [])))
   where
     turned : (f : Terms) (t : Term) → SamePolynomial (f ++ t ∷ []) (t ∷ (f ++ []))
-    turned f t = λ e. coefficient-++ f (t ∷ []) e ∙ +ℚ_comm (coefficient f e) (coefficient (t ∷ []) e) ∙ sym (coefficient-++ (t ∷ []) f e) ∙ ap (λ z. coefficient (t ∷ z) e) (sym (append-nil f))
+    turned f t = λ e. coefficient-++ f (t ∷ []) e ∙ +ℚ_comm (coefficient f e) (coefficient (t ∷ []) e) ∙ sym (coefficient-++ (t ∷ []) f e) ∙
+        ap (λ z. coefficient (t ∷ z) e) (sym (append-nil f))
 
 -- the line of points
-pub line_from : (a : List ℤ) (x : Exponents) (ps qs : List Point) (first : Point) (l : Line) → ps ≡ qs ++ first ∷ [] → HasNonzero a → length x ≡ length a → AreSpots a x ps → AreFalling ps → first.coef ≢ zero_ℚ →
-    l.mark ≡ moved a x first.k → l.rest.items ≡ map (relative_point first) qs → IsLineFrom a x ps l
+pub line_from : (a : List ℤ) (x : Exponents) (ps qs : List Point) (first : Point) (l : Line) → ps ≡ qs ++ first ∷ [] → HasNonzero a → length x ≡ length a →
+    AreSpots a x ps → AreFalling ps → first.coef ≢ zero_ℚ → l.mark ≡ moved a x first.k → l.rest.items ≡ map (relative_point first) qs → IsLineFrom a x ps l
 line_from a x ps qs first l e h w o f n m r = subst (λ (z : List Point). IsLineFrom a x z l) (sym e) (record {
   line = record {
     width = ap length m ∙ moved-length a x first.k ∙ w;
     on = subst (λ (z : Exponents). AreSpots a z l.rest.items) (sym m) (subst (AreSpots a (moved a x first.k)) (sym r) (relative_on a x first qs s.1.0 s.0));
-    further = subst (Each (λ (p : Point). pos 0 <ℤ p.k)) (sym r) (relative_each first (λ (k : ℤ). first.k <ℤ k) (λ (k : ℤ). pos 0 <ℤ k) (λ k. above_first first.k k) qs g.1);
+    further = subst (Each (λ (p : Point). pos 0 <ℤ p.k)) (sym r)
+        (relative_each first (λ (k : ℤ). first.k <ℤ k) (λ (k : ℤ). pos 0 <ℤ k) (λ k. above_first first.k k) qs g.1);
     falling = subst AreFalling (sym r) (relative_falling first qs g.0);
   };
   monic = record {

@@ -1,7 +1,8 @@
 -- The parts along a vector, as they are kept: one member after another.
 -- To cite: AreTermsAlone, passed_alone, passed_alone_more, alone_end, split_none, split_more, split_end, mark_added, part_added, parts_none, parts_more,
 -- pushed, at_kept, at_last, split_size, split_alone.
-use Rattle.std.proofs.Common.{◌≡◌, ◌⊎◌, ℕ, ◌+◌, ◌<◌, ◌≤◌, true, false, eqb, List, [], ◌∷◌, ◌++◌, length, take, get_or, ℤ, Option, None, Some, IfSome, arith, refl, sym, ap, ◌∙◌, subst, inl, inr}
+use Rattle.std.proofs.Common.{◌≡◌, ◌⊎◌, ℕ, ◌+◌, ◌<◌, ◌≤◌, true, false, eqb, List, [], ◌∷◌, ◌++◌, length, take, get_or, ℤ, Option, None, Some, IfSome, arith}
+use Rattle.std.proofs.Common.{refl, sym, ap, ◌∙◌, subst, inl, inr}
 use Rattle.std.proofs.lemmas.Bool.{cases_eq, cases_lt, ne_eqb}
 use Rattle.std.proofs.lemmas.List.{take_more, take_all, length-take-le, length-append, map_push, get_or_append_left, get_or_push}
 use Rattle.gf_exponents_theory.specs.Exponents.{Exponents, same}
@@ -31,15 +32,16 @@ IsTermAlone a h t = (same t.mono h ≡ true) ⊎ (AreMultipleApart a t.mono h �
 abbrev pub AreTermsAlone : List ℤ → Exponents → ℕ → Terms → Type 0
 AreTermsAlone a h k f = Each (IsTermAlone a h) (take k f)
 
-pub passed_alone : (a : List ℤ) (h : Exponents) (b : MarkedPolynomial) (k m : ℕ) (f : Terms) (t : Term) → h ≡ b.head → f ≡ b.poly → k < length f → t ≡ get_or f k t → head_of b.poly m ≡ b.head →
-    (eqb k m ≡ false → AreMultipleApart a t.mono h → ⊥) → IsTermAlone a b.head t
+pub passed_alone : (a : List ℤ) (h : Exponents) (b : MarkedPolynomial) (k m : ℕ) (f : Terms) (t : Term) → h ≡ b.head → f ≡ b.poly → k < length f →
+    t ≡ get_or f k t → head_of b.poly m ≡ b.head → (eqb k m ≡ false → AreMultipleApart a t.mono h → ⊥) → IsTermAlone a b.head t
 passed_alone a h b k m f t eh q l e p n = at (cases_eq k m)
   where
     at : (k ≡ m) ⊎ (k ≡ m → ⊥) → IsTermAlone a b.head t
     at (inl r) = inl (same_of t.mono b.head (sym (head_at f k t l e) ∙ ap (λ (z : Terms). head_of z k) q ∙ ap (head_of b.poly) r ∙ p))
     at (inr r) = inr (λ s. n (ne_eqb k m r) (subst (AreMultipleApart a t.mono) (sym eh) s))
 
-pub passed_alone_more : (a : List ℤ) (h : Exponents) (k : ℕ) (f : Terms) (t : Term) → k < length f → t ≡ get_or f k t → IsTermAlone a h t → AreTermsAlone a h k f → AreTermsAlone a h (k + 1) f
+pub passed_alone_more : (a : List ℤ) (h : Exponents) (k : ℕ) (f : Terms) (t : Term) → k < length f → t ≡ get_or f k t → IsTermAlone a h t →
+    AreTermsAlone a h k f → AreTermsAlone a h (k + 1) f
 passed_alone_more a h k f t l e p c = subst (Each (IsTermAlone a h)) (sym (take_more f k t l ∙ ap (λ (z : Term). take k f ++ z ∷ []) (sym e)))
     (Each-++ (IsTermAlone a h) (take k f) (t ∷ []) c (p, tt))
 
@@ -58,70 +60,80 @@ alone_end a b k f z q n h x m s = at (listed (IsTermAlone a b.head) b.poly x all
 
 -- ---- the members, one after another
 
-pub split_none : (a : List ℤ) (places : List ℕ) (xs : List Exponents) (ps : List Part) → places ≡ [] → xs ≡ [] → ps ≡ [] → AreSplit a [] places xs (terms_of_parts a ps)
+pub split_none : (a : List ℤ) (places : List ℕ) (xs : List Exponents) (ps : List Part) → places ≡ [] → xs ≡ [] → ps ≡ [] →
+    AreSplit a [] places xs (terms_of_parts a ps)
 split_none a places xs ps p q r =
     subst (λ (z : List ℕ). AreSplit a [] z xs (terms_of_parts a ps)) (sym p)
     (subst (λ (z : List Exponents). AreSplit a [] [] z (terms_of_parts a ps)) (sym q)
     (subst (λ (z : List Part). AreSplit a [] [] [] (terms_of_parts a z)) (sym r) AreSplit.none))
 
-pub split_more : (a : List ℤ) (bs : List MarkedPolynomial) (i : ℕ) (b : MarkedPolynomial) (old new : Split) → i < length bs → b ≡ get_or bs i b → IsSplitOn a i b old new →
-    AreSplit a (take i bs) old.places.items old.marks.items (terms_of_parts a old.list.items) → AreSplit a (take (i + 1) bs) new.places.items new.marks.items (terms_of_parts a new.list.items)
-split_more a bs i b old new l q s h = subst (λ (z : List MarkedPolynomial). AreSplit a z new.places.items new.marks.items (terms_of_parts a new.list.items)) (sym (take_more bs i b l ∙ ap (λ (z : MarkedPolynomial). take i bs ++ z ∷ []) (sym q))) (at s)
+pub split_more : (a : List ℤ) (bs : List MarkedPolynomial) (i : ℕ) (b : MarkedPolynomial) (old new : Split) → i < length bs → b ≡ get_or bs i b →
+    IsSplitOn a i b old new → AreSplit a (take i bs) old.places.items old.marks.items (terms_of_parts a old.list.items) →
+    AreSplit a (take (i + 1) bs) new.places.items new.marks.items (terms_of_parts a new.list.items)
+split_more a bs i b old new l q s h = subst (λ (z : List MarkedPolynomial). AreSplit a z new.places.items new.marks.items (terms_of_parts a new.list.items))
+    (sym (take_more bs i b l ∙ ap (λ (z : MarkedPolynomial). take i bs ++ z ∷ []) (sym q))) (at s)
   where
     size : length (take i bs) ≡ i
     size = length-take-le i bs (omega arith)
 
     at : IsSplitOn a i b old new → AreSplit a (take i bs ++ b ∷ []) new.places.items new.marks.items (terms_of_parts a new.list.items)
     at (IsSplitOn.alone o ep ex ef) =
-        subst (λ (z : List ℕ). AreSplit a (take i bs ++ b ∷ []) z new.marks.items (terms_of_parts a new.list.items)) (ap (λ (k : ℕ). old.places.items ++ k ∷ []) size ∙ sym ep)
-        (subst (λ (z : List Exponents). AreSplit a (take i bs ++ b ∷ []) (old.places.items ++ length (take i bs) ∷ []) z (terms_of_parts a new.list.items)) (sym ex)
-        (subst (λ (z : List Part). AreSplit a (take i bs ++ b ∷ []) (old.places.items ++ length (take i bs) ∷ []) (old.marks.items ++ b.head ∷ []) (terms_of_parts a z)) (sym ef)
+        subst (λ (z : List ℕ). AreSplit a (take i bs ++ b ∷ []) z new.marks.items (terms_of_parts a new.list.items))
+        (ap (λ (k : ℕ). old.places.items ++ k ∷ []) size ∙ sym ep)
+        (subst (λ (z : List Exponents). AreSplit a (take i bs ++ b ∷ []) (old.places.items ++ length (take i bs) ∷ []) z (terms_of_parts a new.list.items))
+        (sym ex)
+        (subst (λ (z : List Part). AreSplit a (take i bs ++ b ∷ []) (old.places.items ++ length (take i bs) ∷ []) (old.marks.items ++ b.head ∷
+        []) (terms_of_parts a z)) (sym ef)
         (AreSplit.alone (take i bs) old.places.items old.marks.items (terms_of_parts a old.list.items) b h o)))
     at (IsSplitOn.part p pi pb w t on falling ep ex ef) =
         subst (λ (z : List ℕ). AreSplit a (take i bs ++ b ∷ []) z new.marks.items (terms_of_parts a new.list.items)) (sym ep)
         (subst (λ (z : List Exponents). AreSplit a (take i bs ++ b ∷ []) old.places.items z (terms_of_parts a new.list.items)) (sym ex)
-        (subst (λ (z : List Terms). AreSplit a (take i bs ++ b ∷ []) old.places.items old.marks.items z) (sym (ap (terms_of_parts a) ef ∙ map_push (terms_of_part a) old.list.items p))
+        (subst (λ (z : List Terms). AreSplit a (take i bs ++ b ∷ []) old.places.items old.marks.items z)
+        (sym (ap (terms_of_parts a) ef ∙ map_push (terms_of_part a) old.list.items p))
         (AreSplit.part (take i bs) old.places.items old.marks.items (terms_of_parts a old.list.items) b (terms_of_part a p) h t)))
 
 -- all of them
-pub split_end : (a : List ℤ) (bs : List MarkedPolynomial) (i : ℕ) (s : Split) → length bs ≤ i → AreSplit a (take i bs) s.places.items s.marks.items (terms_of_parts a s.list.items) →
-    AreSplit a bs s.places.items s.marks.items (terms_of_parts a s.list.items)
+pub split_end : (a : List ℤ) (bs : List MarkedPolynomial) (i : ℕ) (s : Split) → length bs ≤ i →
+    AreSplit a (take i bs) s.places.items s.marks.items (terms_of_parts a s.list.items) → AreSplit a bs s.places.items s.marks.items
+    (terms_of_parts a s.list.items)
 split_end a bs i s l h = subst (λ (z : List MarkedPolynomial). AreSplit a z s.places.items s.marks.items (terms_of_parts a s.list.items)) (take_all i bs l) h
 
 -- a place and a mark are added, or a part, if there is memory
 pub mark_added : (a : List ℤ) (i : ℕ) (b : MarkedPolynomial) (old new : Split) (h : Exponents) (r : Option (Unit {0})) → IsAlone a b → h ≡ b.head →
-    IfSome r (λ _. new.places.items ≡ old.places.items ++ i ∷ []) → IfSome r (λ _. new.marks.items ≡ old.marks.items ++ h ∷ []) → IfSome r (λ _. new.list.items ≡ old.list.items) →
-    IfSome r (λ _. IsSplitOn a i b old new)
+    IfSome r (λ _. new.places.items ≡ old.places.items ++ i ∷ []) → IfSome r (λ _. new.marks.items ≡ old.marks.items ++ h ∷ []) →
+    IfSome r (λ _. new.list.items ≡ old.list.items) → IfSome r (λ _. IsSplitOn a i b old new)
 mark_added a i b old new h None o e p m l = tt
 mark_added a i b old new h (Some x) o e p m l = IsSplitOn.alone o p (m ∙ ap (λ (z : Exponents). old.marks.items ++ z ∷ []) e) l
 
-pub part_added : (a : List ℤ) (i : ℕ) (b : MarkedPolynomial) (old new : Split) (q : Part) (r : Option (Unit {0})) → q.place ≡ i → q.base ≡ b.head → length q.base ≡ length a →
-    IsPartOf a b (line_terms a b.head q.points.items) → AreSpots a b.head q.points.items → AreFalling q.points.items →
-    IfSome r (λ _. new.places.items ≡ old.places.items) → IfSome r (λ _. new.marks.items ≡ old.marks.items) → IfSome r (λ _. new.list.items ≡ old.list.items ++ q ∷ []) →
-    IfSome r (λ _. IsSplitOn a i b old new)
+pub part_added : (a : List ℤ) (i : ℕ) (b : MarkedPolynomial) (old new : Split) (q : Part) (r : Option (Unit {0})) → q.place ≡ i → q.base ≡ b.head →
+    length q.base ≡ length a → IsPartOf a b (line_terms a b.head q.points.items) → AreSpots a b.head q.points.items → AreFalling q.points.items →
+    IfSome r (λ _. new.places.items ≡ old.places.items) → IfSome r (λ _. new.marks.items ≡ old.marks.items) →
+    IfSome r (λ _. new.list.items ≡ old.list.items ++ q ∷ []) → IfSome r (λ _. IsSplitOn a i b old new)
 part_added a i b old new q None ei eb w t on falling p m l = tt
 part_added a i b old new q (Some x) ei eb w t on falling p m l = IsSplitOn.part q ei eb w
-    (subst (λ (z : Exponents). IsPartOf a b (line_terms a z q.points.items)) (sym eb) t) (subst (λ (z : Exponents). AreSpots a z q.points.items) (sym eb) on) falling p m l
+    (subst (λ (z : Exponents). IsPartOf a b (line_terms a z q.points.items)) (sym eb) t) (subst (λ (z : Exponents). AreSpots a z q.points.items) (sym eb) on)
+    falling p m l
 
 -- each part is of the member at its place
 pub parts_none : (a : List ℤ) (bs : List MarkedPolynomial) (ps : List Part) → ps ≡ [] → ArePartsOnLines a bs ps
 parts_none a bs ps e = subst (ArePartsOnLines a bs) (sym e) tt
 
-pub parts_more : (a : List ℤ) (bs : List MarkedPolynomial) (i : ℕ) (b : MarkedPolynomial) (old new : Split) → i < length bs → b ≡ get_or bs i b → IsSplitOn a i b old new →
-    ArePartsOnLines a bs old.list.items → ArePartsOnLines a bs new.list.items
+pub parts_more : (a : List ℤ) (bs : List MarkedPolynomial) (i : ℕ) (b : MarkedPolynomial) (old new : Split) → i < length bs → b ≡ get_or bs i b →
+    IsSplitOn a i b old new → ArePartsOnLines a bs old.list.items → ArePartsOnLines a bs new.list.items
 parts_more a bs i b old new l q (IsSplitOn.alone o ep ex ef) h = subst (ArePartsOnLines a bs) (sym ef) h
-parts_more a bs i b old new l q (IsSplitOn.part p pi pb w t on falling ep ex ef) h = subst (ArePartsOnLines a bs) (sym ef) (Each-++ (IsPartOnLine a bs) old.list.items (p ∷ []) h (
-  record {
-    member = b;
-    at = subst (λ (k : ℕ). IsAt bs k b) (sym pi) (record { within = l; is = sym q });
-    base = pb;
-    width = w;
-    part = t;
-    on = on;
-    falling = falling;
-  },
-  tt,
-))
+parts_more a bs i b old new l q (IsSplitOn.part p pi pb w t on falling ep ex ef) h =
+    subst (ArePartsOnLines a bs) (sym ef) (Each-++ (IsPartOnLine a bs) old.list.items (p ∷ []) h (
+      record {
+        member = b;
+        at = subst (λ (k : ℕ). IsAt bs k b) (sym pi) (record { within = l; is = sym q });
+        base = pb;
+        width = w;
+        part = t;
+        on = on;
+        falling = falling;
+      },
+      tt,
+    ))
 
 -- ---- what stands at a place
 
@@ -136,24 +148,27 @@ at_kept bs b c i h = record { within = omega (arith, h.within, pushed bs b); is 
 pub at_last : (bs : List MarkedPolynomial) (b : MarkedPolynomial) → IsAt (bs ++ b ∷ []) (length bs) b
 at_last bs b = record { within = omega (arith, pushed bs b); is = get_or_push bs b b (length bs) refl }
 
-pub split_size : (a : List ℤ) (bs : List MarkedPolynomial) (places : List ℕ) (xs : List Exponents) (fs : List Terms) → AreSplit a bs places xs fs → length xs ≡ length places
+pub split_size : (a : List ℤ) (bs : List MarkedPolynomial) (places : List ℕ) (xs : List Exponents) (fs : List Terms) → AreSplit a bs places xs fs →
+    length xs ≡ length places
 split_size a bs places xs fs AreSplit.none = refl
-split_size a bs places xs fs (AreSplit.alone cs ps ys gs b h o) = pushed ys b.head ∙ ap (λ (k : ℕ). k + 1) (split_size a cs ps ys gs h) ∙ sym (pushed ps (length cs))
+split_size a bs places xs fs (AreSplit.alone cs ps ys gs b h o) =
+    pushed ys b.head ∙ ap (λ (k : ℕ). k + 1) (split_size a cs ps ys gs h) ∙ sym (pushed ps (length cs))
 split_size a bs places xs fs (AreSplit.part cs ps ys gs b f h p) = split_size a cs ps ys gs h
 
 alone_kept : (a : List ℤ) (bs : List MarkedPolynomial) (b : MarkedPolynomial) (p : ℕ) (x : Exponents) → IsAloneAt a bs p x → IsAloneAt a (bs ++ b ∷ []) p x
 alone_kept a bs b p x h = record { member = h.member; at = at_kept bs b h.member p h.at; head = h.head; alone = h.alone }
 
 -- the members at the places have the marks
-pub split_alone : (a : List ℤ) (bs : List MarkedPolynomial) (places : List ℕ) (xs : List Exponents) (fs : List Terms) → AreSplit a bs places xs fs → (i : ℕ) → i < length places →
-    IsAloneAt a bs (get_or places i 0) (get_or xs i [])
+pub split_alone : (a : List ℤ) (bs : List MarkedPolynomial) (places : List ℕ) (xs : List Exponents) (fs : List Terms) → AreSplit a bs places xs fs → (i : ℕ) →
+    i < length places → IsAloneAt a bs (get_or places i 0) (get_or xs i [])
 split_alone a bs places xs fs AreSplit.none i l = absurd (omega (arith, l))
 split_alone a bs places xs fs (AreSplit.alone cs ps ys gs b h o) i l = at (cases_lt i (length ps)) (λ m. split_alone a cs ps ys gs h i m)
   where
     size : length ys ≡ length ps
     size = split_size a cs ps ys gs h
 
-    at : (i < length ps) ⊎ (length ps ≤ i) → (i < length ps → IsAloneAt a cs (get_or ps i 0) (get_or ys i [])) → IsAloneAt a (cs ++ b ∷ []) (get_or (ps ++ length cs ∷ []) i 0) (get_or (ys ++ b.head ∷ []) i [])
+    at : (i < length ps) ⊎ (length ps ≤ i) → (i < length ps → IsAloneAt a cs (get_or ps i 0) (get_or ys i [])) →
+        IsAloneAt a (cs ++ b ∷ []) (get_or (ps ++ length cs ∷ []) i 0) (get_or (ys ++ b.head ∷ []) i [])
     at (inl m) r =
         subst (λ (k : ℕ). IsAloneAt a (cs ++ b ∷ []) k (get_or (ys ++ b.head ∷ []) i [])) (sym (get_or_append_left ps (length cs ∷ []) 0 i m))
         (subst (IsAloneAt a (cs ++ b ∷ []) (get_or ps i 0)) (sym (get_or_append_left ys (b.head ∷ []) [] i (omega (arith, m, size))))

@@ -35,5 +35,6 @@ pub data AreSplit (a : List ℤ) : List MarkedPolynomial → List ℕ → List E
 pub data IsSplitOn (a : List ℤ) (i : ℕ) (b : MarkedPolynomial) (old new : Split) : Type 0 where
   alone : IsAlone a b → new.places.items ≡ old.places.items ++ i ∷ [] → new.marks.items ≡ old.marks.items ++ b.head ∷ [] →
       new.list.items ≡ old.list.items → IsSplitOn a i b old new
-  part : (p : Part) → p.place ≡ i → p.base ≡ b.head → length p.base ≡ length a → IsPartOf a b (terms_of_part a p) → AreSpots a p.base p.points.items → AreFalling p.points.items →
-      new.places.items ≡ old.places.items → new.marks.items ≡ old.marks.items → new.list.items ≡ old.list.items ++ p ∷ [] → IsSplitOn a i b old new
+  part : (p : Part) → p.place ≡ i → p.base ≡ b.head → length p.base ≡ length a → IsPartOf a b (terms_of_part a p) → AreSpots a p.base p.points.items →
+      AreFalling p.points.items → new.places.items ≡ old.places.items → new.marks.items ≡ old.marks.items → new.list.items ≡ old.list.items ++ p ∷ [] →
+      IsSplitOn a i b old new

@@ -6,7 +6,8 @@ ghost use Rattle.gf_lines.specs.Splits.{AreSplit, IsSplitOn, IsAlone};
 ghost use Rattle.gf_ideal_theory.specs.OrderTable.{AreMultipleApart};
 ghost use Rattle.gf_poly.specs.Marking.{HaveVariables};
 ghost use Rattle.gf_poly.specs.Polynomial.{HasVariables};
-ghost use Rattle.std.specs.Prelude.{IfNone, IfOk, IfSome, IsTrue, [], false, get_or, length, map, pos, true, unsigned_abs, ℤ, ◌*ℤ◌, ◌++◌, ◌-ℤ◌, ◌<◌, ◌==◌, ◌^◌, ◌∷◌, ◌≡◌, ◌≢◌, ◌≤◌};
+ghost use Rattle.std.specs.Prelude.{IfNone, IfOk, IfSome, IsTrue, [], false, get_or, length, map, pos, true, unsigned_abs, ℤ, ◌*ℤ◌, ◌++◌, ◌-ℤ◌, ◌<◌, ◌==◌, ◌^◌};
+ghost use Rattle.std.specs.Prelude.{◌∷◌, ◌≡◌, ◌≢◌, ◌≤◌};
 
 use crate::SpareLists;
 use crate::lines::{Part, Point, add_point};

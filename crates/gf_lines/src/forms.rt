@@ -2,7 +2,8 @@
 
 ghost use Rattle.gf_division.specs.Remainders.{IsRemainder};
 ghost use Rattle.gf_lines.specs.Along.{AreSmall};
-ghost use Rattle.gf_lines.specs.Lines.{AreFalling, AreLinesOf, AreSpots, HasLineBelow, IsGround, IsLineAlong, IsMonomialFor, IsPartOnLine, KeepsFurther, KeepsWork, NoLineBelow, NoneDividesTo, facet_order, line_members, line_terms, moved, terms_of_part};
+ghost use Rattle.gf_lines.specs.Lines.{AreFalling, AreLinesOf, AreSpots, HasLineBelow, IsGround, IsLineAlong, IsMonomialFor, IsPartOnLine, KeepsFurther};
+ghost use Rattle.gf_lines.specs.Lines.{KeepsWork, NoLineBelow, NoneDividesTo, facet_order, line_members, line_terms, moved, terms_of_part};
 ghost use Rattle.gf_lines.specs.Monomials.{with_monomials};
 ghost use Rattle.gf_lines.specs.Forms.{HasLineFrom, NoLineFrom, HasCover, IsTakenIn};
 ghost use Rattle.gf_ideal_theory.specs.Reduction.{IsDivisible, IsIrreducible};
@@ -109,7 +110,9 @@ fn work_off(
     requires ground { IsGround ground.now.normal.now ground.now.marks.now }
     requires base { length base.now ≡ length ground.now.normal.now }
     requires lines { Each (IsLineAlong ground.now.normal.now) lines.now }
-    ensures worked { IfSome result (λ _. KeepsWork ground.now.normal.now base.now (with_monomials ground.now.marks.now (line_members ground.now.normal.now lines.now)) (work.old.items ++ p ∷ []) kept.old.items work.new.items kept.new.items) }
+    ensures worked { IfSome result (λ _. KeepsWork ground.now.normal.now base.now
+        (with_monomials ground.now.marks.now (line_members ground.now.normal.now lines.now)) (work.old.items ++ p ∷ []) kept.old.items work.new.items
+        kept.new.items) }
     ensures further { IfSome result (λ _. KeepsFurther (work.old.items ++ p ∷ []) kept.old.items work.new.items kept.new.items) }
 {
     if p.coef.is_zero() {
@@ -141,7 +144,8 @@ pub fn remainder(
     requires lines { Each (IsLineAlong ground.now.normal.now) lines.now }
     requires on { AreSpots ground.now.normal.now base.now points.items }
     requires falling { AreFalling points.items }
-    ensures value { IfSome result (λ r. IsRemainder (with_monomials ground.now.marks.now (line_members ground.now.normal.now lines.now)) (line_terms ground.now.normal.now base.now points.items) (line_terms ground.now.normal.now base.now r.items)) }
+    ensures value { IfSome result (λ r. IsRemainder (with_monomials ground.now.marks.now (line_members ground.now.normal.now lines.now))
+        (line_terms ground.now.normal.now base.now points.items) (line_terms ground.now.normal.now base.now r.items)) }
     ensures on { IfSome result (λ r. AreSpots ground.now.normal.now base.now r.items) }
     ensures falling { IfSome result (λ r. AreFalling r.items) }
     ensures further { IfSome result (λ r. Each (λ (q : Point). pos 0 <ℤ q.k) points.items → Each (λ (q : Point). pos 0 <ℤ q.k) r.items) }
@@ -182,7 +186,9 @@ pub fn take_in(
     requires lines { AreLinesOf ground.now.normal.now ground.now.by.now lines.old.items }
     requires on { AreSpots ground.now.normal.now base.now points.items }
     requires falling { AreFalling points.items }
-    ensures taken { IfSome result (λ _. IsTakenIn (facet_order ground.now.normal.now) (line_terms ground.now.normal.now base.now points.items) (with_monomials ground.now.marks.now (line_members ground.now.normal.now lines.old.items)) (with_monomials ground.now.marks.now (line_members ground.now.normal.now lines.new.items))) }
+    ensures taken { IfSome result (λ _. IsTakenIn (facet_order ground.now.normal.now) (line_terms ground.now.normal.now base.now points.items)
+        (with_monomials ground.now.marks.now (line_members ground.now.normal.now lines.old.items))
+        (with_monomials ground.now.marks.now (line_members ground.now.normal.now lines.new.items))) }
     ensures lines { IfSome result (λ _. AreLinesOf ground.now.normal.now ground.now.by.now lines.new.items) }
 {
     let left = remainder(alloc, ground, base, points, lines)?;
@@ -200,7 +206,9 @@ pub fn take_part(alloc: Global, ground: &Ground, part: Part, lines: &mut Vec<Lin
     requires lines { AreLinesOf ground.now.normal.now ground.now.by.now lines.old.items }
     requires part { IsPartOnLine ground.now.normal.now ground.now.by.now part }
     requires clear { IsIrreducible (Contains (with_monomials ground.now.marks.now [])) (terms_of_part ground.now.normal.now part) }
-    ensures taken { IfSome result (λ _. IsTakenIn (facet_order ground.now.normal.now) (terms_of_part ground.now.normal.now part) (with_monomials ground.now.marks.now (line_members ground.now.normal.now lines.old.items)) (with_monomials ground.now.marks.now (line_members ground.now.normal.now lines.new.items))) }
+    ensures taken { IfSome result (λ _. IsTakenIn (facet_order ground.now.normal.now) (terms_of_part ground.now.normal.now part)
+        (with_monomials ground.now.marks.now (line_members ground.now.normal.now lines.old.items))
+        (with_monomials ground.now.marks.now (line_members ground.now.normal.now lines.new.items))) }
     ensures lines { IfSome result (λ _. AreLinesOf ground.now.normal.now ground.now.by.now lines.new.items) }
 {
     if are_left(alloc, ground.normal, &part.base, &part.points, lines, 0) {

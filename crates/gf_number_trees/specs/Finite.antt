@@ -51,5 +51,7 @@ number_among (suc n) x p = elim (cases_order x (suc n)) [
 
 -- what is below a number can be listed
 pub numbers_finite : (limit top : ℕ) → IsNumber limit top → IsFinite {N = ℕ} {L = ℕ} (λ a b. a < b) (IsHalf limit) top (length (down_to_one limit))
-numbers_finite limit top node = finite_tree (IsHalf limit) (IsNumber limit) (λ v c u h n. (numbers_nodes limit v c u h).0) (λ v c u h n. (numbers_nodes limit v c u h).1) (λ v. v) (λ v c u n h. numbers_fall limit v c u h) (climbs limit) (λ a b. a < b) numbers_strict (numbers_tree limit)
+numbers_finite limit top node = finite_tree (IsHalf limit) (IsNumber limit) (λ v c u h n. (numbers_nodes limit v c u h).0)
+    (λ v c u h n. (numbers_nodes limit v c u h).1) (λ v. v) (λ v c u n h. numbers_fall limit v c u h) (climbs limit) (λ a b. a < b) numbers_strict
+    (numbers_tree limit)
     (down_to_one limit) (number_among limit) (among_number limit) (λ a b n r m s. root_is_one limit a n r ∙ sym (root_is_one limit b m s)) top node

@@ -1,7 +1,8 @@
 //! The tree of the numbers up to a limit.
 ghost use Rattle.std.specs.Prelude.{◌≡◌, ◌<◌, length, IfOk, IfErr, OnErr};
 ghost use Rattle.gf_reverse_search.specs.Tree.{RisesBy, HasLabels, IsChildOf, IsParentOf};
-ghost use Rattle.gf_number_trees.specs.Numbers.{IsNumber, IsHalf, IsChosen, IsOutOfMemory, Refuses, memory_refuses, numbers_strict, numbers_tree, numbers_nodes};
+ghost use Rattle.gf_number_trees.specs.Numbers.{IsNumber, IsHalf, IsChosen, IsOutOfMemory, Refuses, memory_refuses, numbers_strict, numbers_tree};
+ghost use Rattle.gf_number_trees.specs.Numbers.{numbers_nodes};
 ghost use Rattle.gf_number_trees.specs.Finite.{down_to_one, numbers_fall, numbers_finite};
 ghost use Rattle.gf_number_trees.specs.declared.numbers.NumberError.TheVariants.{Memory, Chosen};
 ghost use Rattle.std.proofs.Common.{refl, rules};

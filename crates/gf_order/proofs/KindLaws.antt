@@ -24,13 +24,18 @@ facet-entries n k o w v e h = sym (length-losses w) ∙ kept n k (Facet w) o v e
 
 -- ---- levels
 
-pub weighted-level : (k : Kind) (o : MonomialOrder) (w v : List ℤ) (x : Exponents) → order_of k ≡ o → k ≡ Weighted w → IsKind k → v ≡ w → whole_weight v x ≡ level_of o x
-weighted-level k o w v x e q h s = ap (λ (u : List ℤ). whole_weight u x) s ∙ sym (natural-weight w x (subst IsKind q h).1) ∙ ap (λ (p : MonomialOrder). level_of p x) (sym (ap order_of q) ∙ e)
+pub weighted-level : (k : Kind) (o : MonomialOrder) (w v : List ℤ) (x : Exponents) → order_of k ≡ o → k ≡ Weighted w → IsKind k → v ≡ w →
+    whole_weight v x ≡ level_of o x
+weighted-level k o w v x e q h s = ap (λ (u : List ℤ). whole_weight u x) s ∙ sym (natural-weight w x (subst IsKind q h).1) ∙
+    ap (λ (p : MonomialOrder). level_of p x) (sym (ap order_of q) ∙ e)
 
-pub weighted_revlex-level : (k : Kind) (o : MonomialOrder) (w v : List ℤ) (x : Exponents) → order_of k ≡ o → k ≡ WeightedRevlex w → IsKind k → v ≡ w → whole_weight v x ≡ level_of o x
-weighted_revlex-level k o w v x e q h s = ap (λ (u : List ℤ). whole_weight u x) s ∙ sym (natural-weight w x (subst IsKind q h).1) ∙ ap (λ (p : MonomialOrder). level_of p x) (sym (ap order_of q) ∙ e)
+pub weighted_revlex-level : (k : Kind) (o : MonomialOrder) (w v : List ℤ) (x : Exponents) → order_of k ≡ o → k ≡ WeightedRevlex w → IsKind k → v ≡ w →
+    whole_weight v x ≡ level_of o x
+weighted_revlex-level k o w v x e q h s = ap (λ (u : List ℤ). whole_weight u x) s ∙ sym (natural-weight w x (subst IsKind q h).1) ∙
+    ap (λ (p : MonomialOrder). level_of p x) (sym (ap order_of q) ∙ e)
 
-pub facet-level : (k : Kind) (o : MonomialOrder) (w v : List ℤ) (x : Exponents) → order_of k ≡ o → k ≡ Facet w → v ≡ w → pos 0 -ℤ whole_weight v x ≡ level_of o x
+pub facet-level : (k : Kind) (o : MonomialOrder) (w v : List ℤ) (x : Exponents) → order_of k ≡ o → k ≡ Facet w → v ≡ w →
+    pos 0 -ℤ whole_weight v x ≡ level_of o x
 facet-level k o w v x e q s = ap (λ (u : List ℤ). pos 0 -ℤ whole_weight u x) s ∙ turned ∙ ap (λ (p : MonomialOrder). level_of p x) (sym (ap order_of q) ∙ e)
   where
     turned : pos 0 -ℤ whole_weight w x ≡ pos (weight (losses w) x) -ℤ pos (weight (gains w) x)

@@ -14,6 +14,15 @@ pub Added-more : (w : List ℤ) (x y : Exponents) (i : ℕ) (sum part next : ℤ
     part ≡ get_or w i (pos 0) *ℤ (pos (get_or x i 0) -ℤ pos (get_or y i 0)) → unsigned_abs part ≤ 2 ^ 95 → next ≡ sum +ℤ part →
     Added w x y i sum → Added w x y (i + 1) next
 Added-more w x y i sum part next h ex ey p b n s = record {
-  value = omega (arith, ints, s.value, p, n, *ℤ--ℤ (get_or w i (pos 0)) (pos (get_or x i 0)) (pos (get_or y i 0)), weight-drop w x i h ex, weight-drop w y i h ey);
+  value = omega (
+    arith,
+    ints,
+    s.value,
+    p,
+    n,
+    *ℤ--ℤ (get_or w i (pos 0)) (pos (get_or x i 0)) (pos (get_or y i 0)),
+    weight-drop w x i h ex,
+    weight-drop w y i h ey,
+  );
   bound = omega (arith, ints, s.bound, b, n);
 }

@@ -37,12 +37,14 @@ copied_front bytes into copied at count e fits =
     rw (take_at copied (drop count into) count len, e, ← drop-drop count at bytes) (sym (take-append-drop count (drop at bytes)))
 
 -- nothing is copied only where nothing is left or there is no room
-pub nothing_left : (bytes : List ℕ) (at count room most : ℕ) → 1 ≤ most → 0 < room → at ≤ length bytes → count ≡ min (min room most) (length bytes - at) → count ≡ 0
+pub nothing_left : (bytes : List ℕ) (at count room most : ℕ) → 1 ≤ most → 0 < room → at ≤ length bytes → count ≡ min (min room most) (length bytes - at) →
+    count ≡ 0
     → drop (at + count) bytes ≡ []
 nothing_left bytes at count room most m r within e none = drop_all (at + count) bytes (omega arith)
 
 -- what was copied to the front of a buffer from behind a place of bytes, and what is left of them
-pub taken_front : (bytes into : List ℕ) (at count : ℕ) → take count into ≡ take count (take (length bytes - at) (drop at bytes)) → drop at bytes ≡ take count into ++ drop (at + count) bytes
+pub taken_front : (bytes into : List ℕ) (at count : ℕ) → take count into ≡ take count (take (length bytes - at) (drop at bytes)) →
+    drop at bytes ≡ take count into ++ drop (at + count) bytes
 taken_front bytes into at count e =
     let all : take (length bytes - at) (drop at bytes) ≡ drop at bytes = take_all (length bytes - at) (drop at bytes) (omega (arith, length-drop at bytes)) in
     rw (e, all, ← drop-drop count at bytes) (sym (take-append-drop count (drop at bytes)))

@@ -1,6 +1,7 @@
 //! The files of the system: the edge to std's files.
 //!
-//! What a file holds isn't told; what is left of an opened one is what std's own contracts tell of it. A file is closed where its end is found: one that has the
+//! What a file holds isn't told; what is left of an opened one is what std's own contracts tell of it. A file is closed where its end is found: one that has
+//! the
 //! number of a standard stream, since that stream was closed, isn't taken for it later.
 ghost use Rattle.std.specs.Prelude.{◌≡◌, [], Some, None, IsNone};
 ghost use Rattle.gf_outside.specs.Moved.{left_of};

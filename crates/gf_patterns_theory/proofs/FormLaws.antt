@@ -21,7 +21,8 @@ weight_dot : (w : List ℤ) (x : Exponents) → whole_weight w x ≡ dot (map po
 weight_dot [] [] = refl
 weight_dot [] (a ∷ x) = refl
 weight_dot (b ∷ w) [] = refl
-weight_dot (b ∷ w) (a ∷ x) = ap (λ z. b *ℤ pos a +ℤ z) (weight_dot w x) ∙ same (dv b ⊗ dv (pos a) ⊕ dv (dot (map pos x) w)) (dv (pos a) ⊗ dv b ⊕ dv (dot (map pos x) w)) (omega arith)
+weight_dot (b ∷ w) (a ∷ x) = ap (λ z. b *ℤ pos a +ℤ z) (weight_dot w x) ∙ same (dv b ⊗ dv (pos a) ⊕ dv (dot (map pos x) w))
+    (dv (pos a) ⊗ dv b ⊕ dv (dot (map pos x) w)) (omega arith)
 
 nonzero_in : (n : ℕ) (f : Terms) (t : Term) → HasVariables n f → IsDescending f → Contains f t → coefficient f t.mono ≢ zero_ℚ
 nonzero_in n f t v d (i, l, e) z =
@@ -49,7 +50,11 @@ highest_greatest n w f t v d k = (
 )
 
 not_less : (x y : ℤ) → (x <ℤ y → ⊥) → y ≤ℤ x
-not_less x y h = elim (sign_of (x -ℤ y)) [ negative g ↦ absurd (h (omega (arith, ints, g))) | none g ↦ omega (arith, ints, g) | positive g ↦ omega (arith, ints, g) ]
+not_less x y h = elim (sign_of (x -ℤ y)) [
+  | negative g ↦ absurd (h (omega (arith, ints, g)))
+  | none g ↦ omega (arith, ints, g)
+  | positive g ↦ omega (arith, ints, g)
+]
 
 -- a term of f is in the pattern at w exactly where the initial form has it
 pub pattern_form : (n : ℕ) (w : List ℤ) (f h : Terms) (t : Term) → HasVariables n f → IsDescending f → IsInitialForm w f h → Contains f t →

@@ -58,10 +58,14 @@ used (m ∷ ms) (t ∷ P) e a (inr s) =
       row = r.row;
       rest = t ∷ r.rest;
       listed = in_tail t P r.row r.listed;
-      cover = λ x k. elim (in_cons t P x k) [ inl q ↦ inr (subst (Contains (t ∷ r.rest)) (sym q) (Contains-here t r.rest)) | inr i ↦ elim (r.cover x i) [ inl q ↦ inl q | inr j ↦ inr (in_tail t r.rest x j) ] ];
+      cover = λ x k. elim (in_cons t P x k) [
+        | inl q ↦ inr (subst (Contains (t ∷ r.rest)) (sym q) (Contains-here t r.rest))
+        | inr i ↦ elim (r.cover x i) [ inl q ↦ inl q | inr j ↦ inr (in_tail t r.rest x j) ]
+      ];
       from = λ x k. elim (in_cons t r.rest x k) [ inl q ↦ subst (Contains (t ∷ P)) (sym q) (Contains-here t P) | inr i ↦ in_tail t P x (r.from x i) ];
       shorter = let l = r.shorter in omega (arith, l);
-      zero_there = λ v f z. r.zero_there v (up_tail t P v f) (let p : pos 0 ≤ℤ (m *ℤ dot t v) = 0≤-*ℤ m (dot t v) (a m (Contains-here m ms)) (f t (Contains-here t P)) in omega (arith, ints, p, z));
+      zero_there = λ v f z. r.zero_there v (up_tail t P v f) (let p : pos 0 ≤ℤ (m *ℤ dot t v) = 0≤-*ℤ m (dot t v) (a m (Contains-here m ms))
+          (f t (Contains-here t P)) in omega (arith, ints, p, z));
     }
 
 -- P the rows that may be positive, Z those that are zero on the cone
@@ -89,8 +93,12 @@ try_rows n c P Z g q = elim (g.one n P Z q.wide_p q.wide_z) [
         v,
         record {
           width = s.1.width;
-          inside = is_in c v (λ h ch. elim (q.all h ch) [ inl i ↦ let u = up h i in omega (arith, ints, u) | inr i ↦ let u = zero_z h i in omega (arith, ints, u) ]) (λ h ch. zero_z h (q.eqs h ch));
-          positive = all_by (λ h. (pos 0 <ℤ dot h v) ⊎ ((x : List ℤ) → length x ≡ n → IsInCone c x → dot h x ≡ pos 0)) c.inequalities (λ h ch. elim (q.all h ch) [ inl i ↦ inl (up h i) | inr i ↦ inr (λ x lx ix. q.flat h x i lx ix) ]);
+          inside = is_in c v (λ h ch. elim (q.all h ch) [
+            | inl i ↦ let u = up h i in omega (arith, ints, u)
+            | inr i ↦ let u = zero_z h i in omega (arith, ints, u)
+          ]) (λ h ch. zero_z h (q.eqs h ch));
+          positive = all_by (λ h. (pos 0 <ℤ dot h v) ⊎ ((x : List ℤ) → length x ≡ n → IsInCone c x → dot h x ≡ pos 0)) c.inequalities
+              (λ h ch. elim (q.all h ch) [ inl i ↦ inl (up h i) | inr i ↦ inr (λ x lx ix. q.flat h x i lx ix) ]);
         },
       )
   | inr r ↦
@@ -110,9 +118,15 @@ try_rows n c P Z g q = elim (g.one n P Z q.wide_p q.wide_z) [
         shorter = u.shorter;
         tried = record {
           wide_p = all_by (λ t. length t ≡ n) u.rest (λ t i. wide t (u.from t i));
-          wide_z = all_by (λ t. length t ≡ n) (u.row ∷ Z) (λ t i. elim (in_cons u.row Z t i) [ inl e ↦ ap length e ∙ wide u.row u.listed | inr j ↦ All-contains (λ t. length t ≡ n) Z t q.wide_z j ]);
+          wide_z = all_by (λ t. length t ≡ n) (u.row ∷ Z) (λ t i. elim (in_cons u.row Z t i) [
+            | inl e ↦ ap length e ∙ wide u.row u.listed
+            | inr j ↦ All-contains (λ t. length t ≡ n) Z t q.wide_z j
+          ]);
           of_c = λ t i. q.of_c t (u.from t i);
-          all = λ t i. elim (q.all t i) [ inr a ↦ inr (in_tail u.row Z t a) | inl a ↦ elim (u.cover t a) [ inl e ↦ inr (subst (Contains (u.row ∷ Z)) (sym e) (Contains-here u.row Z)) | inr b ↦ inl b ] ];
+          all = λ t i. elim (q.all t i) [
+            | inr a ↦ inr (in_tail u.row Z t a)
+            | inl a ↦ elim (u.cover t a) [ inl e ↦ inr (subst (Contains (u.row ∷ Z)) (sym e) (Contains-here u.row Z)) | inr b ↦ inl b ]
+          ];
           eqs = λ t i. in_tail u.row Z t (q.eqs t i);
           flat = λ t v i lv iv. elim (in_cons u.row Z t i) [ inl e ↦ ap (λ z. dot z v) e ∙ row_flat v lv iv | inr a ↦ q.flat t v a lv iv ];
         };
@@ -121,7 +135,10 @@ try_rows n c P Z g q = elim (g.one n P Z q.wide_p q.wide_z) [
 
 inner_by : (k n : ℕ) (c : Rows) (P Z : List (List ℤ)) → GordansAlternative → length P ≤ k → IsTried n c P Z → (v : List ℤ) × IsInterior n c v
 inner_by zero n c P Z g l q = elim (try_rows n c P Z g q) [ inl r ↦ r | inr s ↦ let e = s.shorter in absurd (omega (arith, e, l)) ]
-inner_by (suc k) n c P Z g l q = elim (try_rows n c P Z g q) [ inl r ↦ r | inr s ↦ inner_by k n c s.next s.zeros_next g (let e = s.shorter in omega (arith, e, l)) s.tried ]
+inner_by (suc k) n c P Z g l q = elim (try_rows n c P Z g q) [
+  | inl r ↦ r
+  | inr s ↦ inner_by k n c s.next s.zeros_next g (let e = s.shorter in omega (arith, e, l)) s.tried
+]
 
 -- each cone has an interior vector
 pub inner : (n : ℕ) (c : Rows) → GordansAlternative → AreRows n c.inequalities → AreRows n c.equations → (v : List ℤ) × IsInterior n c v

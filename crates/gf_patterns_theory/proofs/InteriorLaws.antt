@@ -60,7 +60,8 @@ interior_relative n c w i = record {
               | inl p ↦ let a = b.above h ch in let t = times_up k (dot h w) b.up p in omega (arith, ints, e, a, t)
               | inr z ↦ let a = zero_product k (dot h w) (z w i.width i.inside) in let t = z u lu iu in omega (arith, ints, e, a, t)
             ])
-            (λ h ch. let e = dot_beyond n k h w u i.width lu in let a = zero_product k (dot h w) (zero_in c w h i.inside ch) in let t = zero_in c u h iu ch in omega (arith, ints, e, a, t)),
+            (λ h ch. let e = dot_beyond n k h w u i.width lu in let a = zero_product k (dot h w) (zero_in c w h i.inside ch) in let t = zero_in c u h iu ch in
+            omega (arith, ints, e, a, t)),
       );
 }
 

@@ -62,24 +62,43 @@ pub record IsParted (left_rows right_rows rows : List (List ℤ)) : Type 0 where
   pub of_right : (t : List ℤ) → Contains right t → Contains right_rows t × Contains rows t
   pub all : (t : List ℤ) → Contains rows t → Contains left t ⊎ Contains right t
 
-parted : (left_rows right_rows rows : List (List ℤ)) → ((t : List ℤ) → Contains rows t → Contains (left_rows ++ right_rows) t) → IsParted left_rows right_rows rows
-parted left_rows right_rows [] f = record { left = []; right = []; of_left = λ t k. absurd (none_in t k); of_right = λ t k. absurd (none_in t k); all = λ t k. absurd (none_in t k) }
+parted : (left_rows right_rows rows : List (List ℤ)) → ((t : List ℤ) → Contains rows t → Contains (left_rows ++ right_rows) t) →
+    IsParted left_rows right_rows rows
+parted left_rows right_rows [] f = record {
+  left = [];
+  right = [];
+  of_left = λ t k. absurd (none_in t k);
+  of_right = λ t k. absurd (none_in t k);
+  all = λ t k. absurd (none_in t k);
+}
 parted left_rows right_rows (r ∷ rows) f =
     let p = parted left_rows right_rows rows (λ t k. f t (in_tail r rows t k)) in
     elim (Contains-append_cases left_rows right_rows r (f r (Contains-here r rows))) [
       | inl a ↦ record {
         left = r ∷ p.left;
         right = p.right;
-        of_left = λ t k. elim (in_cons r p.left t k) [ inl e ↦ (subst (Contains left_rows) (sym e) a, subst (Contains (r ∷ rows)) (sym e) (Contains-here r rows)) | inr i ↦ ((p.of_left t i).0, in_tail r rows t (p.of_left t i).1) ];
+        of_left = λ t k. elim (in_cons r p.left t k) [
+          | inl e ↦ (subst (Contains left_rows) (sym e) a, subst (Contains (r ∷ rows)) (sym e) (Contains-here r rows))
+          | inr i ↦ ((p.of_left t i).0, in_tail r rows t (p.of_left t i).1)
+        ];
         of_right = λ t k. ((p.of_right t k).0, in_tail r rows t (p.of_right t k).1);
-        all = λ t k. elim (in_cons r rows t k) [ inl e ↦ inl (subst (Contains (r ∷ p.left)) (sym e) (Contains-here r p.left)) | inr i ↦ elim (p.all t i) [ inl u ↦ inl (in_tail r p.left t u) | inr u ↦ inr u ] ];
+        all = λ t k. elim (in_cons r rows t k) [
+          | inl e ↦ inl (subst (Contains (r ∷ p.left)) (sym e) (Contains-here r p.left))
+          | inr i ↦ elim (p.all t i) [ inl u ↦ inl (in_tail r p.left t u) | inr u ↦ inr u ]
+        ];
       }
       | inr b ↦ record {
         left = p.left;
         right = r ∷ p.right;
         of_left = λ t k. ((p.of_left t k).0, in_tail r rows t (p.of_left t k).1);
-        of_right = λ t k. elim (in_cons r p.right t k) [ inl e ↦ (subst (Contains right_rows) (sym e) b, subst (Contains (r ∷ rows)) (sym e) (Contains-here r rows)) | inr i ↦ ((p.of_right t i).0, in_tail r rows t (p.of_right t i).1) ];
-        all = λ t k. elim (in_cons r rows t k) [ inl e ↦ inr (subst (Contains (r ∷ p.right)) (sym e) (Contains-here r p.right)) | inr i ↦ elim (p.all t i) [ inl u ↦ inl u | inr u ↦ inr (in_tail r p.right t u) ] ];
+        of_right = λ t k. elim (in_cons r p.right t k) [
+          | inl e ↦ (subst (Contains right_rows) (sym e) b, subst (Contains (r ∷ rows)) (sym e) (Contains-here r rows))
+          | inr i ↦ ((p.of_right t i).0, in_tail r rows t (p.of_right t i).1)
+        ];
+        all = λ t k. elim (in_cons r rows t k) [
+          | inl e ↦ inr (subst (Contains (r ∷ p.right)) (sym e) (Contains-here r p.right))
+          | inr i ↦ elim (p.all t i) [ inl u ↦ inl u | inr u ↦ inr (in_tail r p.right t u) ]
+        ];
       }
     ]
 
@@ -103,10 +122,12 @@ face_of_meet n c d f k =
       same = λ x l. (
         (λ s.
             let u = (k.1.1 x l).0 s in let m = of_part (meet c d) zs x u in let z = flat_in (meet c d) zs x u in
-            both_in (part c p.left) (part d p.right) x (part_in c p.left x (left_in c d x m) (λ t i. z t (p.of_left t i).1)) (part_in d p.right x (right_in c d x m) (λ t i. z t (p.of_right t i).1))),
+            both_in (part c p.left) (part d p.right) x (part_in c p.left x (left_in c d x m) (λ t i. z t (p.of_left t i).1))
+            (part_in d p.right x (right_in c d x m) (λ t i. z t (p.of_right t i).1))),
         (λ s.
             let u = left_in (part c p.left) (part d p.right) x s in let v = right_in (part c p.left) (part d p.right) x s in
-            (k.1.1 x l).1 (part_in (meet c d) zs x (both_in c d x (of_part c p.left x u) (of_part d p.right x v)) (λ t i. elim (p.all t i) [ inl a ↦ flat_in c p.left x u t a | inr b ↦ flat_in d p.right x v t b ]))),
+            (k.1.1 x l).1 (part_in (meet c d) zs x (both_in c d x (of_part c p.left x u) (of_part d p.right x v))
+            (λ t i. elim (p.all t i) [ inl a ↦ flat_in c p.left x u t a | inr b ↦ flat_in d p.right x v t b ]))),
       );
     }
 

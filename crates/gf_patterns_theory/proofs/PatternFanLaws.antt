@@ -30,13 +30,15 @@ use Rattle.gf_duality_theory.proofs.EchelonUnique.{no_widths}
 pub interiors : (n : ℕ) (cones : List Rows) → GordansAlternative → HaveEntries n cones → HaveInteriors n cones
 interiors n cones g w f k =
     let c : Rows = k.cone in let zs : List (List ℤ) = k.face.0 in let wc = w c k.listed in
-    let wz : AreRows n zs = all_by (λ t. length t ≡ n) zs (λ t i. All-contains (λ t. length t ≡ n) c.inequalities t wc.0 (All-contains (Contains c.inequalities) zs t k.face.1.0 i)) in
+    let wz : AreRows n zs = all_by (λ t. length t ≡ n) zs (λ t i. All-contains (λ t. length t ≡ n) c.inequalities t wc.0
+    (All-contains (Contains c.inequalities) zs t k.face.1.0 i)) in
     let r = inner n (part c zs) g wc.0 (All-append (λ t. length t ≡ n) c.equations zs wc.1 wz) in
     (r.0, relative_same n (part c zs) f r.0 (same_turned n f (part c zs) k.face.1.1) (interior_relative n (part c zs) r.0 r.1))
 
 -- rows that are differences of points
 rows_wide : (n : ℕ) (A S : List (List ℤ)) (a : List ℤ) (c : Rows) → IsRowsOf n A S a c → AreRows n c.inequalities
-rows_wide n A S a c r = all_by (λ t. length t ≡ n) c.inequalities (λ h k. let o = r.each h k in ap length o.1.1 ∙ minus_long n a o.0 (r.wide a (r.inside a r.first)) (r.wide o.0 o.1.0))
+rows_wide n A S a c r = all_by (λ t. length t ≡ n) c.inequalities (λ h k. let o = r.each h k in
+    ap length o.1.1 ∙ minus_long n a o.0 (r.wide a (r.inside a r.first)) (r.wide o.0 o.1.0))
 
 -- the rows of the cone of one point have n entries
 pub single_wide : (n : ℕ) (A : List (List ℤ)) (i : ℕ) → AreRows n A → i < length A → AreRows n (single_rows A i).inequalities
@@ -45,27 +47,42 @@ single_wide n A i w l = rows_wide n A (point_at A i ∷ []) (point_at A i) (sing
 single_width : (n : ℕ) (A : List (List ℤ)) (cones : List Rows) → AreRows n A → AreVertexCones n A cones → HaveEntries n cones
 single_width n A cones w s c k =
     let p = s.each c k in
-    subst (λ z. AreRows n z.inequalities × AreRows n z.equations) (sym p.1.1) (rows_wide n A (point_at A p.0 ∷ []) (point_at A p.0) (single_rows A p.0) (single_is n A p.0 w p.1.0), no_widths n)
+    subst (λ z. AreRows n z.inequalities × AreRows n z.equations) (sym p.1.1) (
+      rows_wide n A (point_at A p.0 ∷ []) (point_at A p.0) (single_rows A p.0)
+          (single_is n A p.0 w p.1.0),
+      no_widths n,
+    )
 
 pair_width : (n : ℕ) (A : List (List ℤ)) (cones : List Rows) → AreRows n A → AreVertexPairCones n A cones → HaveEntries n cones
 pair_width n A cones w s c k =
     let p = s.each c k in let a : List ℤ = point_at A p.0 in let b : List ℤ = point_at A p.1 in
     let is = pair_is n A p.0 p.1 w p.2.0 p.2.1 in
-    let one : AreRows n (vector_difference a b ∷ []) = all_by (λ t. length t ≡ n) (vector_difference a b ∷ []) (λ t i. elim (in_cons (vector_difference a b) [] t i) [
+    let one : AreRows n (vector_difference a b ∷ []) =
+    all_by (λ t. length t ≡ n) (vector_difference a b ∷ []) (λ t i. elim (in_cons (vector_difference a b) [] t i) [
       | inl e ↦ ap length e ∙ minus_long n a b (is.wide a (is.inside a is.first)) (is.wide b (is.inside b (in_tail a (b ∷ []) b (Contains-here b []))))
       | inr j ↦ absurd (none_in t j)
     ]) in
     subst (λ z. AreRows n z.inequalities × AreRows n z.equations) (sym p.2.2) (rows_wide n A (a ∷ b ∷ []) a (pair_rows A p.0 p.1) is, one)
 
 -- the hypersurface of one polynomial
-pub hypersurface_list : (n : ℕ) (A : List (List ℤ)) (cones : List Rows) → GordansAlternative → AreRows n A → AllPairs (λ x y. x ≢ y) A → AreVertexPairCones n A cones → IsPrevarietyList n (A ∷ []) cones
+pub hypersurface_list : (n : ℕ) (A : List (List ℤ)) (cones : List Rows) → GordansAlternative → AreRows n A → AllPairs (λ x y. x ≢ y) A →
+    AreVertexPairCones n A cones → IsPrevarietyList n (A ∷ []) cones
 hypersurface_list n A cones g w different s =
-    let wide = pair_width n A cones w s in record { width = wide; fan = pairs_fan n A cones w s; patterns = pairs_hypersurface n A cones w different s (interiors n cones g wide) }
+    let wide = pair_width n A cones w s in record {
+      width = wide;
+      fan = pairs_fan n A cones w s;
+      patterns = pairs_hypersurface n A cones w different s (interiors n cones g wide);
+    }
 
 -- the Minkowski fan of one polynomial
-pub minkowski_list : (n : ℕ) (A : List (List ℤ)) (b : List ℤ) (cones : List Rows) → GordansAlternative → AreRows n A → Contains A b → AreVertexCones n A cones → IsMinkowskiList n (A ∷ []) cones
+pub minkowski_list : (n : ℕ) (A : List (List ℤ)) (b : List ℤ) (cones : List Rows) → GordansAlternative → AreRows n A → Contains A b → AreVertexCones n A cones →
+    IsMinkowskiList n (A ∷ []) cones
 minkowski_list n A b cones g w kb s =
-    let wide = single_width n A cones w s in record { width = wide; fan = singles_fan n A cones w s; patterns = singles_minkowski n A b cones w kb s (interiors n cones g wide) }
+    let wide = single_width n A cones w s in record {
+      width = wide;
+      fan = singles_fan n A cones w s;
+      patterns = singles_minkowski n A b cones w kb s (interiors n cones g wide);
+    }
 
 -- all cones of single points, and of pairs, are such lists
 pub all_singles : (n : ℕ) (A : List (List ℤ)) (cones : List Rows) → AreSingleCones A cones → AreVertexCones n A cones
@@ -77,11 +94,13 @@ all_pairs n A cones s = record { each = s.each; every = λ i j l lj v u. s.every
 -- of no polynomial both are the whole space
 pub whole_list : (Admitted : List (List (List ℤ)) → List ℤ → Type 0) (n : ℕ) → ((w : List ℤ) → Admitted [] w) → IsFanOfPatterns Admitted n [] (whole_space ∷ [])
 whole_list Admitted n ad =
-    let only : (c : Rows) → Contains (whole_space ∷ []) c → c ≡ whole_space = λ c k. elim (in_cons whole_space [] c k) [ inl e ↦ e | inr i ↦ absurd (none_in c i) ] in
+    let only : (c : Rows) → Contains (whole_space ∷ []) c → c ≡ whole_space =
+    λ c k. elim (in_cons whole_space [] c k) [ inl e ↦ e | inr i ↦ absurd (none_in c i) ] in
     let all_in : (x : List ℤ) → IsInCone whole_space x = λ x. is_in whole_space x (λ h k. absurd (none_in h k)) (λ h k. absurd (none_in h k)) in
     record {
       width = λ c k. subst (λ z. AreRows n z.inequalities × AreRows n z.equations) (sym (only c k)) (no_widths n, no_widths n);
-      fan = fan_of n (whole_space ∷ []) (λ c d k l. subst (λ z. MeetInFaces n z d) (sym (only c k)) (subst (λ z. MeetInFaces n whole_space z) (sym (only d l)) (meets_self n whole_space)));
+      fan = fan_of n (whole_space ∷ []) (λ c d k l. subst (λ z. MeetInFaces n z d) (sym (only c k)) (subst (λ z. MeetInFaces n whole_space z) (sym (only d l))
+          (meets_self n whole_space)));
       patterns = record {
         each = λ f k.
             let c = only k.cone k.listed in let face : IsFaceOf n f whole_space = subst (IsFaceOf n f) c k.face in let zs : List (List ℤ) = face.0 in
@@ -91,10 +110,21 @@ whole_list Admitted n ad =
               admitted = ad (zeros n);
               closed = λ u lu. (
                 (λ i A ka. absurd (none_in A ka)),
-                (λ z. (face.1.1 u lu).1 (is_in (part whole_space zs) u (λ h kh. absurd (none_in h kh)) (λ h kh. absurd (none_in h (All-contains (Contains whole_space.inequalities) zs h face.1.0 kh))))),
+                (λ z. (face.1.1 u lu).1 (is_in (part whole_space zs) u (λ h kh. absurd (none_in h kh))
+                    (λ h kh. absurd (none_in h (All-contains (Contains whole_space.inequalities) zs h face.1.0 kh))))),
               );
             };
-        every = λ w lw h. (whole_space, (record { cone = whole_space; listed = Contains-here whole_space []; face = own_face n whole_space }, λ u lu. (λ i A ka. absurd (none_in A ka), λ z. all_in u)));
+        every = λ w lw h. (
+          whole_space,
+          (
+            record {
+              cone = whole_space;
+              listed = Contains-here whole_space [];
+              face = own_face n whole_space;
+            },
+            λ u lu. (λ i A ka. absurd (none_in A ka), λ z. all_in u),
+          ),
+        );
       };
     }
 
@@ -116,7 +146,8 @@ others_differ A i x li different k e =
     ]
 
 -- a point is a vertex where the rows of its cone have a vector on which each is positive
-pub vertex_solvable : (n : ℕ) (A : List (List ℤ)) (i : ℕ) → AreRows n A → AllPairs (λ x y. x ≢ y) A → i < length A → IsVertex n A (point_at A i) ↔ IsSolvable n (single_rows A i).inequalities []
+pub vertex_solvable : (n : ℕ) (A : List (List ℤ)) (i : ℕ) → AreRows n A → AllPairs (λ x y. x ≢ y) A → i < length A →
+    IsVertex n A (point_at A i) ↔ IsSolvable n (single_rows A i).inequalities []
 vertex_solvable n A i w different li =
     let a : List ℤ = point_at A i in let rest : List (List ℤ) = remove A i in let hs : List (List ℤ) = (single_rows A i).inequalities in
     let is = single_is n A i w li in let ka = is.inside a is.first in (

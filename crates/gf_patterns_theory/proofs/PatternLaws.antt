@@ -28,7 +28,13 @@ level A u a s h k = let f = h.highest s k.listed in let g = k.highest a h.listed
 -- the greater of two values decides a highest point
 pub highest_of : (A : List (List ℤ)) (u b : List ℤ) → Contains A b → (s : List ℤ) × IsHighest A u s
 highest_of [] u b c = absurd (none_in b c)
-highest_of (a ∷ []) u b c = (a, record { listed = Contains-here a []; highest = λ x k. elim (in_cons a [] x k) [ inl e ↦ let q = ap (λ z. dot z u) e in omega (arith, ints, q) | inr i ↦ absurd (none_in x i) ] })
+highest_of (a ∷ []) u b c = (
+  a,
+  record {
+    listed = Contains-here a [];
+    highest = λ x k. elim (in_cons a [] x k) [ inl e ↦ let q = ap (λ z. dot z u) e in omega (arith, ints, q) | inr i ↦ absurd (none_in x i) ];
+  },
+)
 highest_of (a ∷ d ∷ A) u b c =
     let r = highest_of (d ∷ A) u d (Contains-here d A) in let s : List ℤ = r.0 in let h = r.1 in
     let low : dot a u ≤ℤ dot s u → (t : List ℤ) × IsHighest (a ∷ d ∷ A) u t = λ l. (
@@ -43,7 +49,10 @@ highest_of (a ∷ d ∷ A) u b c =
         a,
         record {
           listed = Contains-here a (d ∷ A);
-          highest = λ x k. elim (in_cons a (d ∷ A) x k) [ inl e ↦ let q = ap (λ z. dot z u) e in omega (arith, ints, q) | inr i ↦ let l = h.highest x i in omega (arith, ints, g, l) ];
+          highest = λ x k. elim (in_cons a (d ∷ A) x k) [
+            | inl e ↦ let q = ap (λ z. dot z u) e in omega (arith, ints, q)
+            | inr i ↦ let l = h.highest x i in omega (arith, ints, g, l)
+          ];
         },
       )
       | none g ↦ low (omega (arith, ints, g))
@@ -51,7 +60,8 @@ highest_of (a ∷ d ∷ A) u b c =
     ]
 
 -- where a is highest all over the cone, its vectors keep the pattern of a vector of the relative interior
-pub relative_keeps : (n : ℕ) (A : List (List ℤ)) (f : Rows) (a w u : List ℤ) → ((x : List ℤ) → length x ≡ n → IsInCone f x → IsHighest A x a) → IsRelativeInterior n f w → length u ≡ n → IsInCone f u → ContainsPattern A w u
+pub relative_keeps : (n : ℕ) (A : List (List ℤ)) (f : Rows) (a w u : List ℤ) → ((x : List ℤ) → length x ≡ n → IsInCone f x → IsHighest A x a) →
+    IsRelativeInterior n f w → length u ≡ n → IsInCone f u → ContainsPattern A w u
 relative_keeps n A f a w u top i lu iu s h =
     let r = i.past u lu iu in let k : ℤ = r.0 in
     let one : dot s w ≡ dot a w = level A w a s (top w i.width i.inside) h in
@@ -63,7 +73,8 @@ relative_keeps n A f a w u top i lu iu s h =
     as_high A u a s (top u lu iu) h.listed (omega (arith, ints, two, three, p, q, four))
 
 -- where f is the closed cone of v, it is that of each vector of its relative interior
-pub relative_closed : (n : ℕ) (As : List (List (List ℤ))) (f : Rows) (v w : List ℤ) → HavePoints As → length v ≡ n → IsClosedCone n As v f → IsRelativeInterior n f w → IsClosedCone n As w f
+pub relative_closed : (n : ℕ) (As : List (List (List ℤ))) (f : Rows) (v w : List ℤ) → HavePoints As → length v ≡ n → IsClosedCone n As v f →
+    IsRelativeInterior n f w → IsClosedCone n As w f
 relative_closed n As f v w some lv cl i u lu = (
   (λ iu A k.
       let b = some A k in let t = highest_of A v b.0 b.1 in
@@ -85,8 +96,14 @@ bound_of_all (B ∷ As) u =
     record {
       bound = b.bound +ℤ r.bound;
       up = omega (arith, ints, p, q);
-      above = λ A h k l. elim (in_cons B As A k) [ inl e ↦ let g = b.above h (subst (λ z. Contains z h) e l) in omega (arith, ints, g, q) | inr i ↦ let g = r.above A h i l in omega (arith, ints, g, p) ];
-      below = λ A h k l. elim (in_cons B As A k) [ inl e ↦ let g = b.below h (subst (λ z. Contains z h) e l) in omega (arith, ints, g, q) | inr i ↦ let g = r.below A h i l in omega (arith, ints, g, p) ];
+      above = λ A h k l. elim (in_cons B As A k) [
+        | inl e ↦ let g = b.above h (subst (λ z. Contains z h) e l) in omega (arith, ints, g, q)
+        | inr i ↦ let g = r.above A h i l in omega (arith, ints, g, p)
+      ];
+      below = λ A h k l. elim (in_cons B As A k) [
+        | inl e ↦ let g = b.below h (subst (λ z. Contains z h) e l) in omega (arith, ints, g, q)
+        | inr i ↦ let g = r.below A h i l in omega (arith, ints, g, p)
+      ];
     }
 
 -- each vector is in the relative interior of its own closed cone
@@ -113,7 +130,8 @@ own_relative n As f w lw cl = record {
                     omega (arith, ints, p, q, l, t)
                 | positive z ↦
                     let t = times_up m (dot s w -ℤ dot g w) (omega (arith, ints, bu)) z in
-                    let d : m *ℤ (dot s w -ℤ dot g w) ≡ m *ℤ dot s w -ℤ m *ℤ dot g w = same (dv m ⊗ (dv (dot s w) ⊖ dv (dot g w))) (dv m ⊗ dv (dot s w) ⊖ dv m ⊗ dv (dot g w)) (omega arith) in
+                    let d : m *ℤ (dot s w -ℤ dot g w) ≡ m *ℤ dot s w -ℤ m *ℤ dot g w =
+                    same (dv m ⊗ (dv (dot s w) ⊖ dv (dot g w))) (dv m ⊗ dv (dot s w) ⊖ dv m ⊗ dv (dot g w)) (omega arith) in
                     let up_s = b.above A s k h.listed in let low_g = b.below A g k cg in
                     omega (arith, ints, p, q, t, d, up_s, low_g)
               ];
@@ -126,8 +144,8 @@ pub closed_same : (n : ℕ) (As : List (List (List ℤ))) (f g : Rows) (w : List
 closed_same n As f g w a b u lu = (λ i. (b u lu).1 ((a u lu).0 i), λ i. (a u lu).1 ((b u lu).0 i))
 
 -- each vector that is admitted is in the relative interior of exactly one cone, the closed cone of its own pattern
-pub own_alone : (Admitted : List (List (List ℤ)) → List ℤ → Type 0) (n : ℕ) (As : List (List (List ℤ))) (cones : List Rows) (w : List ℤ) → ArePatternCones Admitted n As cones → HavePoints As → length w ≡ n → Admitted As w →
-    (f : Rows) × (IsClosedCone n As w f × IsAloneAround n cones w f)
+pub own_alone : (Admitted : List (List (List ℤ)) → List ℤ → Type 0) (n : ℕ) (As : List (List (List ℤ))) (cones : List Rows) (w : List ℤ) →
+    ArePatternCones Admitted n As cones → HavePoints As → length w ≡ n → Admitted As w → (f : Rows) × (IsClosedCone n As w f × IsAloneAround n cones w f)
 own_alone Admitted n As cones w p some lw ad =
     let r = p.every w lw ad in let f : Rows = r.0 in (
       f,
@@ -160,8 +178,9 @@ on_prevariety = record {
 }
 
 -- the common refinement of the fans of two lists of polynomials is the fan of both together
-pub refined_patterns : (Admitted : List (List (List ℤ)) → List ℤ → Type 0) (n : ℕ) (As Bs : List (List (List ℤ))) (cs ds es : List Rows) → IsAdmission Admitted → HavePoints As → HavePoints Bs →
-    ArePatternCones Admitted n As cs → ArePatternCones Admitted n Bs ds → IsCommonRefinement n cs ds es → HaveInteriors n es → ArePatternCones Admitted n (As ++ Bs) es
+pub refined_patterns : (Admitted : List (List (List ℤ)) → List ℤ → Type 0) (n : ℕ) (As Bs : List (List (List ℤ))) (cs ds es : List Rows) →
+    IsAdmission Admitted → HavePoints As → HavePoints Bs → ArePatternCones Admitted n As cs → ArePatternCones Admitted n Bs ds → IsCommonRefinement n cs ds es →
+    HaveInteriors n es → ArePatternCones Admitted n (As ++ Bs) es
 refined_patterns Admitted n As Bs cs ds es ad some_a some_b p q r inner = record {
   each = λ f c.
       let m = (r f).0 c in let i = inner f c in let w : List ℤ = i.0 in let lw = i.1.width in
@@ -176,11 +195,15 @@ refined_patterns Admitted n As Bs cs ds es ad some_a some_b p q r inner = record
         admitted = ad.both As Bs w (ad.kept As a.vector w a.admitted keep_a) (ad.kept Bs b.vector w b.admitted keep_b);
         closed = λ u lu. (
           (λ iu A k.
-              let at_a : (x : List ℤ) → length x ≡ n → IsInCone f x → ContainsPatterns As a.vector x = λ x lx ix. (a.closed x lx).0 (left_in m.first m.second x ((m.same x lx).0 ix)) in
-              let at_b : (x : List ℤ) → length x ≡ n → IsInCone f x → ContainsPatterns Bs b.vector x = λ x lx ix. (b.closed x lx).0 (right_in m.first m.second x ((m.same x lx).0 ix)) in
+              let at_a : (x : List ℤ) → length x ≡ n → IsInCone f x → ContainsPatterns As a.vector x =
+              λ x lx ix. (a.closed x lx).0 (left_in m.first m.second x ((m.same x lx).0 ix)) in
+              let at_b : (x : List ℤ) → length x ≡ n → IsInCone f x → ContainsPatterns Bs b.vector x =
+              λ x lx ix. (b.closed x lx).0 (right_in m.first m.second x ((m.same x lx).0 ix)) in
               elim (Contains-append_cases As Bs A k) [
-                | inl ka ↦ let s = some_a A ka in let t = highest_of A a.vector s.0 s.1 in relative_keeps n A f t.0 w u (λ x lx ix. at_a x lx ix A ka t.0 t.1) i.1 lu iu
-                | inr kb ↦ let s = some_b A kb in let t = highest_of A b.vector s.0 s.1 in relative_keeps n A f t.0 w u (λ x lx ix. at_b x lx ix A kb t.0 t.1) i.1 lu iu
+                | inl ka ↦ let s = some_a A ka in let t = highest_of A a.vector s.0 s.1 in relative_keeps n A f t.0 w u (λ x lx ix. at_a x lx ix A ka t.0 t.1)
+                    i.1 lu iu
+                | inr kb ↦ let s = some_b A kb in let t = highest_of A b.vector s.0 s.1 in relative_keeps n A f t.0 w u (λ x lx ix. at_b x lx ix A kb t.0 t.1)
+                    i.1 lu iu
               ]),
           (λ g.
               (m.same u lu).1 (both_in m.first m.second u
@@ -195,8 +218,12 @@ refined_patterns Admitted n As Bs cs ds es ad some_a some_b p q r inner = record
         (
           (r f).1 (record { first = a.0; second = b.0; of_first = a.1.0; of_second = b.1.0; same = same_refl n f }),
           λ u lu. (
-            (λ iu A k. elim (Contains-append_cases As Bs A k) [ inl ka ↦ (a.1.1 u lu).0 (left_in a.0 b.0 u iu) A ka | inr kb ↦ (b.1.1 u lu).0 (right_in a.0 b.0 u iu) A kb ]),
-            (λ g. both_in a.0 b.0 u ((a.1.1 u lu).1 (λ A k. g A (Contains-append_left As Bs A k))) ((b.1.1 u lu).1 (λ A k. g A (Contains-append_right As Bs A k)))),
+            (λ iu A k. elim (Contains-append_cases As Bs A k) [
+              | inl ka ↦ (a.1.1 u lu).0 (left_in a.0 b.0 u iu) A ka
+              | inr kb ↦ (b.1.1 u lu).0 (right_in a.0 b.0 u iu) A kb
+            ]),
+            (λ g. both_in a.0 b.0 u ((a.1.1 u lu).1 (λ A k. g A (Contains-append_left As Bs A k)))
+                ((b.1.1 u lu).1 (λ A k. g A (Contains-append_right As Bs A k)))),
           ),
         ),
       );

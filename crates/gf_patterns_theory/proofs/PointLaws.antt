@@ -67,7 +67,8 @@ pub points_distinct : (f : Terms) → IsDescending f → AllPairs (λ x y. x ≢
 points_distinct [] d = λ i j z l m. absurd (omega (arith, m))
 points_distinct (t ∷ f) d = AllPairs-cons (λ (x : List ℤ) (y : List ℤ). x ≢ y) (map pos t.mono) (points f)
     (all_by (λ y. map pos t.mono ≢ y) (points f) (λ y k e. let r = of_points f y k in
-    never_greater t.mono (subst (λ z. deglex t.mono z ≡ Greater) (sym (from_pos t.mono r.0.mono (e ∙ r.1.1))) (IsAbove-contains t.mono f r.0 d.1 r.1.0)))) (points_distinct f d.2)
+    never_greater t.mono (subst (λ z. deglex t.mono z ≡ Greater) (sym (from_pos t.mono r.0.mono (e ∙ r.1.1))) (IsAbove-contains t.mono f r.0 d.1 r.1.0))))
+    (points_distinct f d.2)
 
 -- ---- lists of polynomials
 
@@ -80,4 +81,5 @@ of_sets (f ∷ set) A k = elim (in_cons (points f) (map points set) A k) [
 ]
 
 pub have_points : (set : List Terms) → All (λ f. f ≢ []) set → HavePoints (map points set)
-have_points set h A k = let r = of_sets set A k in subst (λ z. (b : List ℤ) × Contains z b) (sym r.1.1) (some_point r.0 (All-contains (λ f. f ≢ []) set r.0 h r.1.0))
+have_points set h A k = let r = of_sets set A k in subst (λ z. (b : List ℤ) × Contains z b) (sym r.1.1)
+    (some_point r.0 (All-contains (λ f. f ≢ []) set r.0 h r.1.0))

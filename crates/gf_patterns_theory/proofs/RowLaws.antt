@@ -42,11 +42,13 @@ pub record IsRowsOf (n : ℕ) (A S : List (List ℤ)) (a : List ℤ) (c : Rows) 
   pub every : (g : List ℤ) → Contains A g → Contains S g ⊎ Contains c.inequalities (vector_difference a g)
 
 -- what the row of a point gives
-pub row_value : (n : ℕ) (A S : List (List ℤ)) (a : List ℤ) (c : Rows) (g u : List ℤ) → IsRowsOf n A S a c → Contains A g → dot (vector_difference a g) u ≡ dot a u -ℤ dot g u
+pub row_value : (n : ℕ) (A S : List (List ℤ)) (a : List ℤ) (c : Rows) (g u : List ℤ) → IsRowsOf n A S a c → Contains A g →
+    dot (vector_difference a g) u ≡ dot a u -ℤ dot g u
 row_value n A S a c g u r k = dot_minus a g u (r.wide a (r.inside a r.first) ∙ sym (r.wide g k))
 
 -- each member of S is highest on the cone
-pub top : (n : ℕ) (A S : List (List ℤ)) (a : List ℤ) (c : Rows) (s u : List ℤ) → IsRowsOf n A S a c → Contains S s → length u ≡ n → IsInCone c u → IsHighest A u s
+pub top : (n : ℕ) (A S : List (List ℤ)) (a : List ℤ) (c : Rows) (s u : List ℤ) → IsRowsOf n A S a c → Contains S s → length u ≡ n → IsInCone c u →
+    IsHighest A u s
 top n A S a c s u r k lu iu = record { listed = r.inside s k; highest = λ b cb. (r.same_as u lu).0 iu s b k cb }
 
 -- the rows of some points that are not members
@@ -56,7 +58,8 @@ record IsRowsAt (A S : List (List ℤ)) (a : List ℤ) (c : Rows) (P : List ℤ 
   of : (h : List ℤ) → Contains rows h → (t : List ℤ) × (Contains T t × P t × (h ≡ vector_difference a t))
   all : (t : List ℤ) → Contains T t → P t → Contains S t ⊎ Contains rows (vector_difference a t)
 
-rows_at : (A S : List (List ℤ)) (a : List ℤ) (c : Rows) (P : List ℤ → Type 0) (T : List (List ℤ)) → ((t : List ℤ) → Contains T t → P t ⊎ (P t → ⊥)) → ((t : List ℤ) → Contains T t → Contains S t ⊎ Contains c.inequalities (vector_difference a t)) → IsRowsAt A S a c P T
+rows_at : (A S : List (List ℤ)) (a : List ℤ) (c : Rows) (P : List ℤ → Type 0) (T : List (List ℤ)) → ((t : List ℤ) → Contains T t → P t ⊎ (P t → ⊥)) →
+    ((t : List ℤ) → Contains T t → Contains S t ⊎ Contains c.inequalities (vector_difference a t)) → IsRowsAt A S a c P T
 rows_at A S a c P [] dec f = record { rows = []; listed = λ h k. absurd (none_in h k); of = λ h k. absurd (none_in h k); all = λ t k p. absurd (none_in t k) }
 rows_at A S a c P (t ∷ T) dec f =
     let r = rows_at A S a c P T (λ x k. dec x (in_tail t T x k)) (λ x k. f x (in_tail t T x k)) in
@@ -73,9 +76,13 @@ rows_at A S a c P (t ∷ T) dec f =
         | inr i ↦ record {
           rows = vector_difference a t ∷ r.rows;
           listed = λ h k. elim (in_cons (vector_difference a t) r.rows h k) [ inl e ↦ subst (Contains c.inequalities) (sym e) i | inr j ↦ r.listed h j ];
-          of = λ h k. elim (in_cons (vector_difference a t) r.rows h k) [ inl e ↦ (t, (Contains-here t T, given, e)) | inr j ↦ let o = r.of h j in (o.0, (in_tail t T o.0 o.1.0, o.1.1, o.1.2)) ];
+          of = λ h k. elim (in_cons (vector_difference a t) r.rows h k) [
+            | inl e ↦ (t, (Contains-here t T, given, e))
+            | inr j ↦ let o = r.of h j in (o.0, (in_tail t T o.0 o.1.0, o.1.1, o.1.2))
+          ];
           all = λ x k p. elim (in_cons t T x k) [
-            | inl e ↦ inr (subst (λ z. Contains (vector_difference a t ∷ r.rows) (vector_difference a z)) (sym e) (Contains-here (vector_difference a t) r.rows))
+            | inl e ↦ inr (subst (λ z. Contains (vector_difference a t ∷ r.rows) (vector_difference a z)) (sym e)
+                (Contains-here (vector_difference a t) r.rows))
             | inr j ↦ elim (r.all x j p) [ inl u ↦ inl u | inr u ↦ inr (in_tail (vector_difference a t) r.rows (vector_difference a x) u) ]
           ];
         }
@@ -105,7 +112,8 @@ rows_face n A S T a b c d p q =
               let low = has a g p.first cg in
               elim (z.all t ct tt) [
                 | inl s ↦ has t g s cg
-                | inr y ↦ let e = row_value n A S a c t u p (q.inside t ct) in let zero_t = flat_in c z.rows u i (vector_difference a t) y in omega (arith, ints, low, e, zero_t)
+                | inr y ↦ let e = row_value n A S a c t u p (q.inside t ct) in let zero_t =
+                    flat_in c z.rows u i (vector_difference a t) y in omega (arith, ints, low, e, zero_t)
               ]))),
         ),
       ),
@@ -118,22 +126,26 @@ pub one_list : (A B : List (List ℤ)) → Contains (A ∷ []) B → B ≡ A
 one_list A B k = elim (in_cons A [] B k) [ inl e ↦ e | inr i ↦ absurd (none_in B i) ]
 
 -- what keeps the pattern of w is in c, and zero where w is
-kept_in : (n : ℕ) (A S : List (List ℤ)) (a w u : List ℤ) (c : Rows) → IsRowsOf n A S a c → length u ≡ n → ((s : List ℤ) → Contains S s → IsHighest A w s) → ContainsPattern A w u → IsInCone c u
+kept_in : (n : ℕ) (A S : List (List ℤ)) (a w u : List ℤ) (c : Rows) → IsRowsOf n A S a c → length u ≡ n → ((s : List ℤ) → Contains S s → IsHighest A w s) →
+    ContainsPattern A w u → IsInCone c u
 kept_in n A S a w u c r lu hw k = (r.same_as u lu).1 (λ s b cs. (k s (hw s cs)).highest b)
 
-kept_zero : (n : ℕ) (A S : List (List ℤ)) (a w u g : List ℤ) (c : Rows) → IsRowsOf n A S a c → IsHighest A w a → Contains A g → dot g w ≡ dot a w → ContainsPattern A w u → dot (vector_difference a g) u ≡ pos 0
+kept_zero : (n : ℕ) (A S : List (List ℤ)) (a w u g : List ℤ) (c : Rows) → IsRowsOf n A S a c → IsHighest A w a → Contains A g → dot g w ≡ dot a w →
+    ContainsPattern A w u → dot (vector_difference a g) u ≡ pos 0
 kept_zero n A S a w u g c r hw cg e k =
     let v = row_value n A S a c g u r cg in
     let l = level A u a g (k a hw) (k g (as_high A w a g hw cg e)) in
     omega (arith, ints, v, l)
 
 -- a face of the cone is the closed cone of each vector of its relative interior
-pub face_closed : (n : ℕ) (A S : List (List ℤ)) (a w : List ℤ) (c f : Rows) → IsRowsOf n A S a c → IsFaceOf n f c → IsRelativeInterior n f w → IsClosedCone n (A ∷ []) w f
+pub face_closed : (n : ℕ) (A S : List (List ℤ)) (a w : List ℤ) (c f : Rows) → IsRowsOf n A S a c → IsFaceOf n f c → IsRelativeInterior n f w →
+    IsClosedCone n (A ∷ []) w f
 face_closed n A S a w c f r (zs, (listed, e)) i u lu =
     let of_c : (x : List ℤ) → length x ≡ n → IsInCone f x → IsInCone c x = λ x lx ix. of_part c zs x ((e x lx).0 ix) in
     let lw : length w ≡ n = i.width in
     let cw : IsInCone c w = of_c w lw i.inside in (
-      (λ iu B k. subst (λ z. ContainsPattern z w u) (sym (one_list A B k)) (relative_keeps n A f a w u (λ x lx ix. top n A S a c a x r r.first lx (of_c x lx ix)) i lu iu)),
+      (λ iu B k. subst (λ z. ContainsPattern z w u) (sym (one_list A B k))
+          (relative_keeps n A f a w u (λ x lx ix. top n A S a c a x r r.first lx (of_c x lx ix)) i lu iu)),
       (λ g.
           let k = g A (Contains-here A []) in
           (e u lu).1 (part_in c zs u (kept_in n A S a w u c r lu (λ s cs. top n A S a c s w r cs lw cw) k) (λ h ch.
@@ -144,7 +156,8 @@ face_closed n A S a w c f r (zs, (listed, e)) i u lu =
     )
 
 -- the closed cone of a pattern with all of S is a face of the cone of S
-pub closed_face : (n : ℕ) (A S : List (List ℤ)) (a w : List ℤ) (c : Rows) → IsRowsOf n A S a c → ((s : List ℤ) → Contains S s → IsHighest A w s) → (f : Rows) × (IsFaceOf n f c × IsClosedCone n (A ∷ []) w f)
+pub closed_face : (n : ℕ) (A S : List (List ℤ)) (a w : List ℤ) (c : Rows) → IsRowsOf n A S a c → ((s : List ℤ) → Contains S s → IsHighest A w s) →
+    (f : Rows) × (IsFaceOf n f c × IsClosedCone n (A ∷ []) w f)
 closed_face n A S a w c r hw =
     let z = rows_at A S a c (λ t. dot t w ≡ dot a w) A (λ t k. equal_or_not (dot t w) (dot a w)) r.every in
     let f : Rows = part c z.rows in (
@@ -156,7 +169,8 @@ closed_face n A S a w c r hw =
               let cu = of_part c z.rows u iu in
               elim (z.all s hs.listed (level A w a s (hw a r.first) hs)) [
                 | inl cs ↦ top n A S a c s u r cs lu cu
-                | inr y ↦ let v = row_value n A S a c s u r hs.listed in let t = flat_in c z.rows u iu (vector_difference a s) y in as_high A u a s (top n A S a c a u r r.first lu cu) hs.listed (omega (arith, ints, v, t))
+                | inr y ↦ let v = row_value n A S a c s u r hs.listed in let t =
+                    flat_in c z.rows u iu (vector_difference a s) y in as_high A u a s (top n A S a c a u r r.first lu cu) hs.listed (omega (arith, ints, v, t))
               ])),
           (λ g.
               let k = g A (Contains-here A []) in

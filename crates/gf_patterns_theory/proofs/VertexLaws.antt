@@ -49,7 +49,8 @@ narrow n A w y lw ly =
         | none g ↦ omega (arith, ints, g)
         | positive g ↦
             let v = times_up m (dot t w -ℤ dot s w) (omega (arith, ints, bu)) g in
-            let d : m *ℤ (dot t w -ℤ dot s w) ≡ m *ℤ dot t w -ℤ m *ℤ dot s w = same (dv m ⊗ (dv (dot t w) ⊖ dv (dot s w))) (dv m ⊗ dv (dot t w) ⊖ dv m ⊗ dv (dot s w)) (omega arith) in
+            let d : m *ℤ (dot t w -ℤ dot s w) ≡ m *ℤ dot t w -ℤ m *ℤ dot s w =
+            same (dv m ⊗ (dv (dot t w) ⊖ dv (dot s w))) (dv m ⊗ dv (dot t w) ⊖ dv m ⊗ dv (dot s w)) (omega arith) in
             let up_t = b.above t k in let low_s = b.below s h.listed in let z = high s t h k in
             absurd (omega (arith, ints, v, d, up_t, low_s, z))
       ];
@@ -66,8 +67,10 @@ narrow n A w y lw ly =
     )
 
 -- a member of the pattern that is told apart from t, or each of these points that is a member is t
-other : (n : ℕ) (A B : List (List ℤ)) (a t w : List ℤ) → ((x : List ℤ) → Contains A x → length x ≡ n) → length t ≡ n → ((x : List ℤ) → Contains B x → Contains A x) → IsHighest A w a →
-    ((s : List ℤ) × (IsHighest A w s × (dot s (vector_difference t s) <ℤ dot t (vector_difference t s)))) ⊎ ((s : List ℤ) → Contains B s → IsHighest A w s → s ≡ t)
+other : (n : ℕ) (A B : List (List ℤ)) (a t w : List ℤ) → ((x : List ℤ) → Contains A x → length x ≡ n) → length t ≡ n →
+    ((x : List ℤ) → Contains B x → Contains A x) → IsHighest A w a →
+    ((s : List ℤ) × (IsHighest A w s × (dot s (vector_difference t s) <ℤ dot t (vector_difference t s)))) ⊎ ((s : List ℤ) → Contains B s → IsHighest A w s →
+    s ≡ t)
 other n A [] a t w wide lt inside h = inr (λ s k hs. absurd (none_in s k))
 other n A (x ∷ B) a t w wide lt inside h =
     let kx : Contains A x = inside x (Contains-here x B) in
@@ -83,7 +86,8 @@ other n A (x ∷ B) a t w wide lt inside h =
     ]
 
 -- each pattern has a vertex: T has all its members
-vertex_among : (n : ℕ) (A T : List (List ℤ)) (w b : List ℤ) → ((x : List ℤ) → Contains A x → length x ≡ n) → length w ≡ n → ((x : List ℤ) → Contains T x → Contains A x) → ((s : List ℤ) → IsHighest A w s → Contains T s) → Contains A b →
+vertex_among : (n : ℕ) (A T : List (List ℤ)) (w b : List ℤ) → ((x : List ℤ) → Contains A x → length x ≡ n) → length w ≡ n →
+    ((x : List ℤ) → Contains T x → Contains A x) → ((s : List ℤ) → IsHighest A w s → Contains T s) → Contains A b →
     (a : List ℤ) × (IsHighest A w a × IsVertex n A a)
 vertex_among n A [] w b wide lw inside all kb = let h = highest_of A w b kb in absurd (none_in h.0 (all h.0 h.1))
 vertex_among n A (t ∷ T) w b wide lw inside all kb =
@@ -132,7 +136,8 @@ vertex_among n A (t ∷ T) w b wide lw inside all kb =
       | positive g ↦ absurd (omega (arith, ints, g, l))
     ]
 
-pub vertex_of : (n : ℕ) (A : List (List ℤ)) (w b : List ℤ) → ((x : List ℤ) → Contains A x → length x ≡ n) → length w ≡ n → Contains A b → (a : List ℤ) × (IsHighest A w a × IsVertex n A a)
+pub vertex_of : (n : ℕ) (A : List (List ℤ)) (w b : List ℤ) → ((x : List ℤ) → Contains A x → length x ≡ n) → length w ≡ n → Contains A b →
+    (a : List ℤ) × (IsHighest A w a × IsVertex n A a)
 vertex_of n A w b wide lw kb = vertex_among n A A w b wide lw (λ x k. k) (λ s h. h.listed) kb
 
 -- two vertices in one pattern
@@ -145,14 +150,16 @@ pub record HasTwoVertices (n : ℕ) (A : List (List ℤ)) (w : List ℤ) : Type 
   pub first_vertex : IsVertex n A one
   pub second_vertex : IsVertex n A two
 
-pub two_vertices : (n : ℕ) (A : List (List ℤ)) (w : List ℤ) → ((x : List ℤ) → Contains A x → length x ≡ n) → length w ≡ n → IsOnHypersurface A w → HasTwoVertices n A w
+pub two_vertices : (n : ℕ) (A : List (List ℤ)) (w : List ℤ) → ((x : List ℤ) → Contains A x → length x ≡ n) → length w ≡ n → IsOnHypersurface A w →
+    HasTwoVertices n A w
 two_vertices n A w wide lw on =
     let a : List ℤ = on.one in let b : List ℤ = on.two in let la = wide a on.first.listed in let lb = wide b on.second.listed in
     let y : List ℤ = vector_difference a b in let z : List ℤ = vector_difference b a in
     let p = narrow n A w y lw (minus_long n a b la lb) in let q = narrow n A w z lw (minus_long n b a lb la) in
     let k = vertex_of n A p.0 a wide p.1.wide on.first.listed in let l = vertex_of n A q.0 a wide q.1.wide on.first.listed in
     let turned : (x : List ℤ) → dot x z ≡ pos 0 -ℤ dot x y = λ x.
-    let e = dot_minus a b x (la ∙ sym lb) in let f = dot_minus b a x (lb ∙ sym la) in let g = dot_comm x y in let h = dot_comm x z in omega (arith, ints, e, f, g, h) in
+    let e = dot_minus a b x (la ∙ sym lb) in let f = dot_minus b a x (lb ∙ sym la) in let g = dot_comm x y in let h =
+    dot_comm x z in omega (arith, ints, e, f, g, h) in
     let low_k = p.1.low k.0 b k.1.0 on.second in let low_l = q.1.low l.0 a l.1.0 on.first in
     let tl = turned l.0 in let ta = turned a in
     record {

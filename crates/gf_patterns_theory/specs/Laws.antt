@@ -43,9 +43,12 @@ pub record FacesOfFacesAreFaces : Type 0 where
 -- cones and those of them that hold the others have the same faces, and what the faces are follows from these alone
 pub record MaximalConesSuffice : Type 0 where
   pub covered : (n : ℕ) (cs ms : List Rows) → HaveEntries n cs → HaveEntries n ms → IsCoveredBy n cs ms → HaveSameFaces n cs ms
-  pub prevariety : (n : ℕ) (As : List (List (List ℤ))) (cs ds : List Rows) → HaveSameFaces n cs ds → ArePatternCones IsOnPrevariety n As cs → ArePatternCones IsOnPrevariety n As ds
-  pub minkowski : (n : ℕ) (As : List (List (List ℤ))) (cs ds : List Rows) → HaveSameFaces n cs ds → ArePatternCones IsAnywhere n As cs → ArePatternCones IsAnywhere n As ds
-  pub refinement : (n : ℕ) (cs ks ds ls es ms : List Rows) → HaveSameFaces n cs ks → HaveSameFaces n ds ls → HaveSameFaces n es ms → IsCommonRefinement n cs ds es → IsCommonRefinement n ks ls ms
+  pub prevariety : (n : ℕ) (As : List (List (List ℤ))) (cs ds : List Rows) → HaveSameFaces n cs ds → ArePatternCones IsOnPrevariety n As cs →
+      ArePatternCones IsOnPrevariety n As ds
+  pub minkowski : (n : ℕ) (As : List (List (List ℤ))) (cs ds : List Rows) → HaveSameFaces n cs ds → ArePatternCones IsAnywhere n As cs →
+      ArePatternCones IsAnywhere n As ds
+  pub refinement : (n : ℕ) (cs ks ds ls es ms : List Rows) → HaveSameFaces n cs ks → HaveSameFaces n ds ls → HaveSameFaces n es ms →
+      IsCommonRefinement n cs ds es → IsCommonRefinement n ks ls ms
 
 -- the pattern of a polynomial at a vector is that of the terms of its initial form
 abbrev pub PatternsAreOfInitialForms : Type 0
@@ -55,29 +58,35 @@ PatternsAreOfInitialForms = (n : ℕ) (w : List ℤ) (f h : Terms) (t : Term) �
 -- the cones of single points are the Minkowski fan of one polynomial, those of pairs its hypersurface; of no polynomial
 -- both are the whole space
 pub record PatternsHaveCones : Type 0 where
-  pub singles : (n : ℕ) (A : List (List ℤ)) (b : List ℤ) (cones : List Rows) → AreRows n A → Contains A b → AreSingleCones A cones → IsMinkowskiList n (A ∷ []) cones
-  pub pairs : (n : ℕ) (A : List (List ℤ)) (cones : List Rows) → AreRows n A → AllPairs (λ x y. x ≢ y) A → ArePairCones A cones → IsPrevarietyList n (A ∷ []) cones
+  pub singles : (n : ℕ) (A : List (List ℤ)) (b : List ℤ) (cones : List Rows) → AreRows n A → Contains A b → AreSingleCones A cones →
+      IsMinkowskiList n (A ∷ []) cones
+  pub pairs : (n : ℕ) (A : List (List ℤ)) (cones : List Rows) → AreRows n A → AllPairs (λ x y. x ≢ y) A → ArePairCones A cones →
+      IsPrevarietyList n (A ∷ []) cones
   pub prevariety : (n : ℕ) → IsPrevarietyList n [] (whole_space ∷ [])
   pub minkowski : (n : ℕ) → IsMinkowskiList n [] (whole_space ∷ [])
 
 -- the cones of the vertices alone, and of the pairs of vertices, will do; and a point is one where the rows of its cone have a
 -- vector on which each is positive
 pub record VerticesSuffice : Type 0 where
-  pub singles : (n : ℕ) (A : List (List ℤ)) (b : List ℤ) (cones : List Rows) → AreRows n A → Contains A b → AreVertexCones n A cones → IsMinkowskiList n (A ∷ []) cones
-  pub pairs : (n : ℕ) (A : List (List ℤ)) (cones : List Rows) → AreRows n A → AllPairs (λ x y. x ≢ y) A → AreVertexPairCones n A cones → IsPrevarietyList n (A ∷ []) cones
-  pub vertex : (n : ℕ) (A : List (List ℤ)) (i : ℕ) → AreRows n A → AllPairs (λ x y. x ≢ y) A → i < length A → IsVertex n A (point_at A i) ↔ IsSolvable n (single_rows A i).inequalities []
+  pub singles : (n : ℕ) (A : List (List ℤ)) (b : List ℤ) (cones : List Rows) → AreRows n A → Contains A b → AreVertexCones n A cones →
+      IsMinkowskiList n (A ∷ []) cones
+  pub pairs : (n : ℕ) (A : List (List ℤ)) (cones : List Rows) → AreRows n A → AllPairs (λ x y. x ≢ y) A → AreVertexPairCones n A cones →
+      IsPrevarietyList n (A ∷ []) cones
+  pub vertex : (n : ℕ) (A : List (List ℤ)) (i : ℕ) → AreRows n A → AllPairs (λ x y. x ≢ y) A → i < length A →
+      IsVertex n A (point_at A i) ↔ IsSolvable n (single_rows A i).inequalities []
 
 -- the common refinement of the fans of two lists of polynomials is the fan of both together
 pub record PatternsAreRefined : Type 0 where
   pub prevariety : (n : ℕ) (As Bs : List (List (List ℤ))) (cs ds es : List Rows) → HavePoints As → HavePoints Bs → HaveEntries n es →
-      ArePatternCones IsOnPrevariety n As cs → ArePatternCones IsOnPrevariety n Bs ds → IsCommonRefinement n cs ds es → ArePatternCones IsOnPrevariety n (As ++ Bs) es
+      ArePatternCones IsOnPrevariety n As cs → ArePatternCones IsOnPrevariety n Bs ds → IsCommonRefinement n cs ds es →
+      ArePatternCones IsOnPrevariety n (As ++ Bs) es
   pub minkowski : (n : ℕ) (As Bs : List (List (List ℤ))) (cs ds es : List Rows) → HavePoints As → HavePoints Bs → HaveEntries n es →
       ArePatternCones IsAnywhere n As cs → ArePatternCones IsAnywhere n Bs ds → IsCommonRefinement n cs ds es → ArePatternCones IsAnywhere n (As ++ Bs) es
 
 -- each vector of the prevariety is in the relative interior of exactly one of its cones, the closed cone of its own pattern; and
 -- so is each vector whatever of the Minkowski fan
 pub record VectorsAreInOneCone : Type 0 where
-  pub prevariety : (n : ℕ) (As : List (List (List ℤ))) (cones : List Rows) (w : List ℤ) → ArePatternCones IsOnPrevariety n As cones → HavePoints As → length w ≡ n → IsOnPrevariety As w →
-      (f : Rows) × (IsClosedCone n As w f × IsAloneAround n cones w f)
+  pub prevariety : (n : ℕ) (As : List (List (List ℤ))) (cones : List Rows) (w : List ℤ) → ArePatternCones IsOnPrevariety n As cones → HavePoints As →
+      length w ≡ n → IsOnPrevariety As w → (f : Rows) × (IsClosedCone n As w f × IsAloneAround n cones w f)
   pub minkowski : (n : ℕ) (As : List (List (List ℤ))) (cones : List Rows) (w : List ℤ) → ArePatternCones IsAnywhere n As cones → HavePoints As → length w ≡ n →
       (f : Rows) × (IsClosedCone n As w f × IsAloneAround n cones w f)

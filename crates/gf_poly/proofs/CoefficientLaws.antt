@@ -48,7 +48,8 @@ coefficient-head n t f h a =
     ∙ ap (λ z. t.coef +ℚ z) (coefficient-above n f t.mono h.1 h.0 a) ∙ +ℚ-zero t.coef
 
 -- below the head
-pub coefficient-skip : (n : ℕ) (t : Term) (f : Terms) (e : Exponents) → HasVariables n (t ∷ f) → length e ≡ n → deglex t.mono e ≡ Greater → coefficient (t ∷ f) e ≡ coefficient f e
+pub coefficient-skip : (n : ℕ) (t : Term) (f : Terms) (e : Exponents) → HasVariables n (t ∷ f) → length e ≡ n → deglex t.mono e ≡ Greater →
+    coefficient (t ∷ f) e ≡ coefficient f e
 coefficient-skip n t f e h l g =
     ap (λ b. (if b then t.coef else zero_ℚ) +ℚ coefficient f e) (apart_above e t.mono (l ∙ sym h.0) g) ∙ zero-+ℚ _
 
@@ -82,7 +83,8 @@ pub record Finding (f : Terms) (e : Exponents) (fs : Terms) : Type 0 where
 pub head_at : (f : Terms) (i : ℕ) (t : Term) → i < length f → t ≡ get_or f i t → drop i f ≡ t ∷ drop (i + 1) f
 head_at f i t h is = drop_more f i t h ∙ ap (λ (x : Term). x ∷ drop (i + 1) f) (sym is)
 
-pub skipped_at : (f : Terms) (e : Exponents) (i : ℕ) (t : Term) → i < length f → t ≡ get_or f i t → deglex t.mono e ≡ Greater → Finding f e (drop i f) → Finding f e (drop (i + 1) f)
+pub skipped_at : (f : Terms) (e : Exponents) (i : ℕ) (t : Term) → i < length f → t ≡ get_or f i t → deglex t.mono e ≡ Greater → Finding f e (drop i f) →
+    Finding f e (drop (i + 1) f)
 skipped_at f e i t h is g m =
     let n : Finding f e (t ∷ drop (i + 1) f) = subst (Finding f e) (head_at f i t h is) m in
     record {
@@ -91,21 +93,25 @@ skipped_at f e i t h is g m =
       variables = n.variables.1;
     }
 
-pub found_at : (f : Terms) (e : Exponents) (i : ℕ) (t : Term) → i < length f → t ≡ get_or f i t → deglex t.mono e ≡ Equal → Finding f e (drop i f) → t.coef ≡ coefficient f e
+pub found_at : (f : Terms) (e : Exponents) (i : ℕ) (t : Term) → i < length f → t ≡ get_or f i t → deglex t.mono e ≡ Equal → Finding f e (drop i f) →
+    t.coef ≡ coefficient f e
 found_at f e i t h is g m =
     let n : Finding f e (t ∷ drop (i + 1) f) = subst (Finding f e) (head_at f i t h is) m in
     sym (coefficient-head (length e) t (drop (i + 1) f) n.variables n.descending.1)
     ∙ ap (coefficient (t ∷ drop (i + 1) f)) (equal_same t.mono e g) ∙ n.coefficient_left
 
-pub passed_at : (f : Terms) (e : Exponents) (i : ℕ) (t : Term) → i < length f → t ≡ get_or f i t → deglex t.mono e ≡ Less → Finding f e (drop i f) → zero_ℚ ≡ coefficient f e
+pub passed_at : (f : Terms) (e : Exponents) (i : ℕ) (t : Term) → i < length f → t ≡ get_or f i t → deglex t.mono e ≡ Less → Finding f e (drop i f) →
+    zero_ℚ ≡ coefficient f e
 passed_at f e i t h is g m =
     let n : Finding f e (t ∷ drop (i + 1) f) = subst (Finding f e) (head_at f i t h is) m in
     let above : deglex e t.mono ≡ Greater = less_greater t.mono e g in
-    sym (coefficient-above (length e) (t ∷ drop (i + 1) f) e n.variables refl (above, IsAbove-from e t.mono (drop (i + 1) f) above n.descending.1)) ∙ n.coefficient_left
+    sym (coefficient-above (length e) (t ∷ drop (i + 1) f) e n.variables refl (above, IsAbove-from e t.mono (drop (i + 1) f) above n.descending.1)) ∙
+    n.coefficient_left
 
 -- ---- one list for one polynomial
 -- a head above another's doesn't vanish there
-no_greater : (n : ℕ) (s t : Term) (f g : Terms) → HasVariables n (s ∷ f) → HasVariables n (t ∷ g) → IsDescending (s ∷ f) → IsDescending (t ∷ g) → SamePolynomial (s ∷ f) (t ∷ g) → deglex s.mono t.mono ≡ Greater → ⊥
+no_greater : (n : ℕ) (s t : Term) (f g : Terms) → HasVariables n (s ∷ f) → HasVariables n (t ∷ g) → IsDescending (s ∷ f) → IsDescending (t ∷ g) →
+    SamePolynomial (s ∷ f) (t ∷ g) → deglex s.mono t.mono ≡ Greater → ⊥
 no_greater n s t f g h k d b p o =
     d.0 (sym (coefficient-head n s f h d.1) ∙ p s.mono ∙ coefficient-above n (t ∷ g) s.mono k h.0 (o, IsAbove-from s.mono t.mono g o b.1))
 
@@ -113,7 +119,8 @@ no_more : (n : ℕ) (t : Term) (g : Terms) → HasVariables n (t ∷ g) → IsDe
 no_more n t g k b p = b.0 (sym (coefficient-head n t g k b.1) ∙ sym (p t.mono))
 
 -- the rests are the same, where the heads are
-same_rests : (n : ℕ) (s : Term) (f g : Terms) → HasVariables n (s ∷ f) → HasVariables n (s ∷ g) → IsDescending (s ∷ f) → IsDescending (s ∷ g) → SamePolynomial (s ∷ f) (s ∷ g) → SamePolynomial f g
+same_rests : (n : ℕ) (s : Term) (f g : Terms) → HasVariables n (s ∷ f) → HasVariables n (s ∷ g) → IsDescending (s ∷ f) → IsDescending (s ∷ g) →
+    SamePolynomial (s ∷ f) (s ∷ g) → SamePolynomial f g
 same_rests n s f g h k d b p e = cancel (if same e s.mono then s.coef else zero_ℚ) (coefficient f e) (coefficient g e) (p e)
   where
     undo : (c x : Fraction) → neg_ℚ c +ℚ (c +ℚ x) ≡ x
@@ -123,7 +130,8 @@ same_rests n s f g h k d b p e = cancel (if same e s.mono then s.coef else zero_
     cancel c x y q = sym (undo c x) ∙ ap (λ z. neg_ℚ c +ℚ z) q ∙ undo c y
 
 -- the heads are the same, where neither monomial is greater
-same_heads : (n : ℕ) (s t : Term) (f g : Terms) → HasVariables n (s ∷ f) → HasVariables n (t ∷ g) → IsDescending (s ∷ f) → IsDescending (t ∷ g) → SamePolynomial (s ∷ f) (t ∷ g) → s.mono ≡ t.mono → s ≡ t
+same_heads : (n : ℕ) (s t : Term) (f g : Terms) → HasVariables n (s ∷ f) → HasVariables n (t ∷ g) → IsDescending (s ∷ f) → IsDescending (t ∷ g) →
+    SamePolynomial (s ∷ f) (t ∷ g) → s.mono ≡ t.mono → s ≡ t
 same_heads n s t f g h k d b p m =
     let c : s.coef ≡ t.coef = sym (coefficient-head n s f h d.1) ∙ p s.mono ∙ ap (coefficient (t ∷ g)) m ∙ coefficient-head n t g k b.1 in
     λ q. record { coef = c q; mono = m q }
@@ -142,7 +150,8 @@ descending_unique n (s ∷ f) (t ∷ g) h k d b p = at (deglex s.mono t.mono) re
         let p' : SamePolynomial (s ∷ f) (s ∷ g) = subst (λ (z : Term). SamePolynomial (s ∷ f) (z ∷ g)) (sym e) p in
         ap (λ (z : Term). z ∷ f) e ∙ ap (λ (z : Terms). t ∷ z) (rests g k.1 b.2 (same_rests n s f g h k' d b' p'))
 
-    at : (o : Ordering) → deglex s.mono t.mono ≡ o → ((y : Terms) → HasVariables n y → IsDescending y → SamePolynomial f y → f ≡ y) → ◌≡◌ {A = Terms} (s ∷ f) (t ∷ g)
+    at : (o : Ordering) → deglex s.mono t.mono ≡ o → ((y : Terms) → HasVariables n y → IsDescending y → SamePolynomial f y → f ≡ y) →
+        ◌≡◌ {A = Terms} (s ∷ f) (t ∷ g)
     at Greater o rests = absurd (no_greater n s t f g h k d b p o)
     at Less o rests = absurd (no_greater n t s g f k h b d (λ e. sym (p e)) (less_greater s.mono t.mono o))
     at Equal o rests = whole (same_heads n s t f g h k d b p (equal_same s.mono t.mono o)) rests

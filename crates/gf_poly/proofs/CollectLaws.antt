@@ -1,5 +1,6 @@
 -- Sums of like terms, in a list in order.
--- To cite: short_fits, like-short, descending_fits, Collecting-start, run_at, next_at, ended, sum_at_end, fits_at_end, sum_overflow_at, cause_along, fits_along.
+-- To cite: short_fits, like-short, descending_fits, Collecting-start, run_at, next_at, ended, sum_at_end, fits_at_end, sum_overflow_at, cause_along,
+-- fits_along.
 use Rattle.std.specs.Prelude.{◌≡◌, ℕ, ◌+◌, ◌<◌, ◌≤◌, ◌==◌, Bool, true, false, cond, if◌then◌else◌, [], ◌∷◌, ◌++◌, length}
 use Rattle.std.specs.Ordering.{is_lt, is_eq, ordering_reverse}
 use Rattle.std.specs.declared.cmp.Ordering.{Ordering}
@@ -19,7 +20,8 @@ use Rattle.gf_poly.specs.declared.error.PolyError.{PolyError}
 use Rattle.gf_poly.specs.declared.error.PolyError.TheVariants as errors
 use Rattle.gf_poly.specs.Polynomial.{Terms, coefficient, SamePolynomial, IsAbove, IsDescending, HasVariables, KeepsVariables}
 use Rattle.gf_poly.specs.Sums.{PushesNonzero}
-use Rattle.gf_poly.specs.Collecting.{like, sum_of_coefficients, SumsFit, SumsFitFrom, LikeSumsFit, IsLikeSumOverflow, IsLikeSumCause, IsNotBelow, IsOrdered, HasLikeTerms}
+use Rattle.gf_poly.specs.Collecting.{like, sum_of_coefficients, SumsFit, SumsFitFrom, LikeSumsFit, IsLikeSumOverflow, IsLikeSumCause, IsNotBelow, IsOrdered}
+use Rattle.gf_poly.specs.Collecting.{HasLikeTerms}
 use Rattle.gf_poly.proofs.PolynomialLaws.{coefficient-++}
 use Rattle.gf_poly.proofs.DescendingLaws.{deglex-total, greater_trans, less_greater, never_greater, equal_same, AllAbove, IsDescending-push, HasVariables-push}
 use Rattle.gf_poly.proofs.CoefficientLaws.{head_at}
@@ -83,7 +85,8 @@ total-push (s ∷ f) t = ap (λ z. s.coef +ℚ z) (total-push f t) ∙ sym (+ℚ
 
 SumsFitFrom-push : (c : Fraction) (f : Terms) (t : Term) → SumsFitFrom c f → FitsAdd (c +ℚ sum_of_coefficients f) t.coef → SumsFitFrom c (f ++ t ∷ [])
 SumsFitFrom-push c [] t h w = (subst (λ z. FitsAdd z t.coef) (+ℚ-zero c) w, tt)
-SumsFitFrom-push c (s ∷ f) t h w = (h.0, SumsFitFrom-push (c +ℚ s.coef) f t h.1 (subst (λ z. FitsAdd z t.coef) (sym (+ℚ_assoc c s.coef (sum_of_coefficients f))) w))
+SumsFitFrom-push c (s ∷ f) t h w =
+    (h.0, SumsFitFrom-push (c +ℚ s.coef) f t h.1 (subst (λ z. FitsAdd z t.coef) (sym (+ℚ_assoc c s.coef (sum_of_coefficients f))) w))
 
 SumsFit-push : (f : Terms) (t : Term) → 0 < length f → SumsFit f → FitsAdd (sum_of_coefficients f) t.coef → SumsFit (f ++ t ∷ [])
 SumsFit-push [] t l h w = absurd (omega arith)
@@ -138,11 +141,13 @@ AllAbove-same : (out : Terms) (s t : Term) → s.mono ≡ t.mono → AllAbove ou
 AllAbove-same [] s t e h = tt
 AllAbove-same (w ∷ out) s t e h = ((ap (deglex w.mono) (sym e) ∙ h.0.0, tt), AllAbove-same out s t e h.1)
 
-pub Collecting-run : (f out : Terms) (x : Exponents) (c d : Fraction) (t : Term) (fs : Terms) → deglex x t.mono ≡ Equal → FitsAdd c t.coef → d ≡ c +ℚ t.coef → Collecting f out x c (t ∷ fs) → Collecting f out x d fs
+pub Collecting-run : (f out : Terms) (x : Exponents) (c d : Fraction) (t : Term) (fs : Terms) → deglex x t.mono ≡ Equal → FitsAdd c t.coef → d ≡ c +ℚ t.coef →
+    Collecting f out x c (t ∷ fs) → Collecting f out x d fs
 Collecting-run f out x c d t fs o w value m =
     let e : x ≡ t.mono = equal_same x t.mono o in
     record {
-      sum = λ y. ap (λ z. coefficient out y +ℚ (z +ℚ coefficient fs y)) (ap (λ z. if same y x then z else zero_ℚ) value ∙ chosen_sum (same y x) c t.coef ∙ ap (λ z. (if same y x then c else zero_ℚ) +ℚ (if same y z then t.coef else zero_ℚ)) e)
+      sum = λ y. ap (λ z. coefficient out y +ℚ (z +ℚ coefficient fs y)) (ap (λ z. if same y x then z else zero_ℚ) value ∙ chosen_sum (same y x) c t.coef ∙
+          ap (λ z. (if same y x then c else zero_ℚ) +ℚ (if same y z then t.coef else zero_ℚ)) e)
           ∙ ap (λ z. coefficient out y +ℚ z) (+ℚ_assoc _ _ _) ∙ m.sum y;
       descending = m.descending;
       above = AllAbove-same out (record { coef = c; mono = x }) (record { coef = d; mono = x }) refl m.above;
@@ -159,19 +164,25 @@ Collecting-run f out x c d t fs o w value m =
     }
 
 -- ---- the sum at x is pushed
-pushed_coefficient : (out new : Terms) (c : Fraction) (x : Exponents) (e : Exponents) → PushesNonzero out new (record { coef = c; mono = x }) → coefficient new e ≡ coefficient out e +ℚ (if same e x then c else zero_ℚ)
-pushed_coefficient out new c x e (inl p) = ap (λ z. coefficient z e) p.1 ∙ sym (ap (λ z. coefficient out e +ℚ z) (ap (λ z. if same e x then z else zero_ℚ) p.0 ∙ none (same e x)) ∙ +ℚ-zero _)
+pushed_coefficient : (out new : Terms) (c : Fraction) (x : Exponents) (e : Exponents) → PushesNonzero out new (record { coef = c; mono = x }) →
+    coefficient new e ≡ coefficient out e +ℚ (if same e x then c else zero_ℚ)
+pushed_coefficient out new c x e (inl p) =
+    ap (λ z. coefficient z e) p.1 ∙ sym (ap (λ z. coefficient out e +ℚ z) (ap (λ z. if same e x then z else zero_ℚ) p.0 ∙ none (same e x)) ∙ +ℚ-zero _)
   where
     none : (b : Bool) → (if b then zero_ℚ else zero_ℚ) ≡ zero_ℚ
     none true = refl
     none false = refl
-pushed_coefficient out new c x e (inr p) = ap (λ z. coefficient z e) p.1 ∙ coefficient-++ out (record { coef = c; mono = x } ∷ []) e ∙ ap (λ z. coefficient out e +ℚ z) (+ℚ-zero _)
+pushed_coefficient out new c x e (inr p) = ap (λ z. coefficient z e) p.1 ∙ coefficient-++ out (record { coef = c; mono = x } ∷ []) e ∙
+    ap (λ z. coefficient out e +ℚ z) (+ℚ-zero _)
 
-pushed_descending : (out new : Terms) (c : Fraction) (x : Exponents) → PushesNonzero out new (record { coef = c; mono = x }) → IsDescending out → AllAbove out (record { coef = c; mono = x } ∷ []) → IsDescending new
+pushed_descending : (out new : Terms) (c : Fraction) (x : Exponents) → PushesNonzero out new (record { coef = c; mono = x }) → IsDescending out →
+    AllAbove out (record { coef = c; mono = x } ∷ []) → IsDescending new
 pushed_descending out new c x (inl p) d a = subst IsDescending (sym p.1) d
-pushed_descending out new c x (inr p) d a = let t : Term = record { coef = c; mono = x } in subst IsDescending (sym p.1) (IsDescending-push out t t [] d a refl p.0)
+pushed_descending out new c x (inr p) d a = let t : Term = record { coef = c; mono = x } in
+    subst IsDescending (sym p.1) (IsDescending-push out t t [] d a refl p.0)
 
-above_lower : (out : Terms) (c d : Fraction) (x y : Exponents) → deglex x y ≡ Greater → AllAbove out (record { coef = c; mono = x } ∷ []) → AllAbove out (record { coef = d; mono = y } ∷ [])
+above_lower : (out : Terms) (c d : Fraction) (x y : Exponents) → deglex x y ≡ Greater → AllAbove out (record { coef = c; mono = x } ∷ []) →
+    AllAbove out (record { coef = d; mono = y } ∷ [])
 above_lower [] c d x y g a = tt
 above_lower (w ∷ out) c d x y g a = ((greater_trans w.mono x y a.0.0 g, tt), above_lower out c d x y g a.1)
 
@@ -179,24 +190,30 @@ above_push : (out : Terms) (s t : Term) → AllAbove out (t ∷ []) → deglex s
 above_push [] s t a g = ((g, tt), tt)
 above_push (w ∷ out) s t a g = (a.0, above_push out s t a.1 g)
 
-pushed_above : (out new : Terms) (c d : Fraction) (x y : Exponents) → PushesNonzero out new (record { coef = c; mono = x }) → deglex x y ≡ Greater → AllAbove out (record { coef = c; mono = x } ∷ []) → AllAbove new (record { coef = d; mono = y } ∷ [])
+pushed_above : (out new : Terms) (c d : Fraction) (x y : Exponents) → PushesNonzero out new (record { coef = c; mono = x }) → deglex x y ≡ Greater →
+    AllAbove out (record { coef = c; mono = x } ∷ []) → AllAbove new (record { coef = d; mono = y } ∷ [])
 pushed_above out new c d x y (inl p) g a = subst (λ z. AllAbove z (record { coef = d; mono = y } ∷ [])) (sym p.1) (above_lower out c d x y g a)
-pushed_above out new c d x y (inr p) g a = subst (λ z. AllAbove z (record { coef = d; mono = y } ∷ [])) (sym p.1) (above_push out (record { coef = c; mono = x }) (record { coef = d; mono = y }) (above_lower out c d x y g a) g)
+pushed_above out new c d x y (inr p) g a = subst (λ z. AllAbove z (record { coef = d; mono = y } ∷ [])) (sym p.1)
+    (above_push out (record { coef = c; mono = x }) (record { coef = d; mono = y }) (above_lower out c d x y g a) g)
 
-pushed_variables : (n : ℕ) (out new : Terms) (c : Fraction) (x : Exponents) → PushesNonzero out new (record { coef = c; mono = x }) → HasVariables n out → length x ≡ n → HasVariables n new
+pushed_variables : (n : ℕ) (out new : Terms) (c : Fraction) (x : Exponents) → PushesNonzero out new (record { coef = c; mono = x }) → HasVariables n out →
+    length x ≡ n → HasVariables n new
 pushed_variables n out new c x (inl p) h l = subst (HasVariables n) (sym p.1) h
 pushed_variables n out new c x (inr p) h l = subst (HasVariables n) (sym p.1) (HasVariables-push n out (record { coef = c; mono = x }) h l)
 
 -- sums at monomials down to x fit, where fs is below x
-fits_down_to : (f out : Terms) (x : Exponents) (c : Fraction) (fs : Terms) → IsAbove x fs → Collecting f out x c fs → (y : Exponents) → IsAbove y fs → SumsFit (like y f)
+fits_down_to : (f out : Terms) (x : Exponents) (c : Fraction) (fs : Terms) → IsAbove x fs → Collecting f out x c fs → (y : Exponents) → IsAbove y fs →
+    SumsFit (like y f)
 fits_down_to f out x c fs a m y b = at (deglex y x) refl
   where
     at : (o : Ordering) → deglex y x ≡ o → SumsFit (like y f)
     at Greater o = m.fit_above y o
-    at Equal o = subst (λ z. SumsFit (like z f)) (sym (equal_same y x o)) (subst SumsFit (sym (m.like_here ∙ ap (λ (z : Terms). m.run ++ z) (like-none x fs a) ∙ append-nil m.run)) m.fit_here)
+    at Equal o = subst (λ z. SumsFit (like z f)) (sym (equal_same y x o))
+        (subst SumsFit (sym (m.like_here ∙ ap (λ (z : Terms). m.run ++ z) (like-none x fs a) ∙ append-nil m.run)) m.fit_here)
     at Less o = subst SumsFit (sym (m.like_below y (less_greater y x o) ∙ like-none y fs b)) tt
 
-pub Collecting-next : (f out new : Terms) (x : Exponents) (c : Fraction) (t : Term) (fs : Terms) → deglex x t.mono ≡ Greater → PushesNonzero out new (record { coef = c; mono = x }) → Collecting f out x c (t ∷ fs) → Collecting f new t.mono t.coef fs
+pub Collecting-next : (f out new : Terms) (x : Exponents) (c : Fraction) (t : Term) (fs : Terms) → deglex x t.mono ≡ Greater →
+    PushesNonzero out new (record { coef = c; mono = x }) → Collecting f out x c (t ∷ fs) → Collecting f new t.mono t.coef fs
 Collecting-next f out new x c t fs o p m = record {
   sum = λ e. ap (λ z. z +ℚ ((if same e t.mono then t.coef else zero_ℚ) +ℚ coefficient fs e)) (pushed_coefficient out new c x e p) ∙ +ℚ_assoc _ _ _ ∙ m.sum e;
   descending = pushed_descending out new c x p m.descending m.above;
@@ -218,17 +235,21 @@ Collecting-next f out new x c t fs o p m = record {
 pub nonempty_by_test : (n : ℕ) → false ≡ (n == 0) → 0 < n
 nonempty_by_test n h = grind (arith, nat_tests)
 
-pub start_at : (f out : Terms) (x : Exponents) (t : Term) → 0 < length f → t ≡ get_or f 0 t → x ≡ t.mono → out ≡ [] → IsOrdered f → Collecting f out x t.coef (drop 1 f)
+pub start_at : (f out : Terms) (x : Exponents) (t : Term) → 0 < length f → t ≡ get_or f 0 t → x ≡ t.mono → out ≡ [] → IsOrdered f →
+    Collecting f out x t.coef (drop 1 f)
 start_at [] out x t h is e n o = absurd (omega arith)
 start_at (s ∷ f) out x t h is e n o =
     subst (λ (z : Term). Collecting (s ∷ f) out x z.coef f) (sym is)
     (subst (λ (z : Terms). Collecting (s ∷ f) z x s.coef f) (sym n) (Collecting-start f s x o (e ∙ ap (λ (z : Term). z.mono) is)))
 
-pub run_at : (f out : Terms) (x : Exponents) (c d : Fraction) (i : ℕ) (t : Term) → i < length f → t ≡ get_or f i t → deglex x t.mono ≡ Equal → FitsAdd c t.coef → d ≡ c +ℚ t.coef → Collecting f out x c (drop i f) → Collecting f out x d (drop (i + 1) f)
+pub run_at : (f out : Terms) (x : Exponents) (c d : Fraction) (i : ℕ) (t : Term) → i < length f → t ≡ get_or f i t → deglex x t.mono ≡ Equal →
+    FitsAdd c t.coef → d ≡ c +ℚ t.coef → Collecting f out x c (drop i f) → Collecting f out x d (drop (i + 1) f)
 run_at f out x c d i t h is o w value m = Collecting-run f out x c d t (drop (i + 1) f) o w value (subst (Collecting f out x c) (head_at f i t h is) m)
 
-pub next_at : (f out new : Terms) (x y : Exponents) (c : Fraction) (i : ℕ) (t : Term) → i < length f → t ≡ get_or f i t → (deglex x t.mono ≡ Equal → ⊥) → PushesNonzero out new (record { coef = c; mono = x }) → y ≡ t.mono → Collecting f out x c (drop i f) → Collecting f new y t.coef (drop (i + 1) f)
-next_at f out new x y c i t h is o p e m = subst (λ z. Collecting f new z t.coef (drop (i + 1) f)) (sym e) (Collecting-next f out new x c t (drop (i + 1) f) (at (deglex x t.mono) refl) p n)
+pub next_at : (f out new : Terms) (x y : Exponents) (c : Fraction) (i : ℕ) (t : Term) → i < length f → t ≡ get_or f i t → (deglex x t.mono ≡ Equal → ⊥) →
+    PushesNonzero out new (record { coef = c; mono = x }) → y ≡ t.mono → Collecting f out x c (drop i f) → Collecting f new y t.coef (drop (i + 1) f)
+next_at f out new x y c i t h is o p e m = subst (λ z. Collecting f new z t.coef (drop (i + 1) f)) (sym e)
+    (Collecting-next f out new x c t (drop (i + 1) f) (at (deglex x t.mono) refl) p n)
   where
     n : Collecting f out x c (t ∷ drop (i + 1) f)
     n = subst (Collecting f out x c) (head_at f i t h is) m
@@ -242,20 +263,24 @@ next_at f out new x y c i t h is o p e m = subst (λ z. Collecting f new z t.coe
 pub ended : (f out : Terms) (x : Exponents) (c : Fraction) (i : ℕ) → length f ≤ i → Collecting f out x c (drop i f) → Collecting f out x c []
 ended f out x c i h m = subst (Collecting f out x c) (drop_all i f h) m
 
-pub sum_at_end : (f out new : Terms) (x : Exponents) (c : Fraction) → PushesNonzero out new (record { coef = c; mono = x }) → Collecting f out x c [] → SamePolynomial new f
+pub sum_at_end : (f out new : Terms) (x : Exponents) (c : Fraction) → PushesNonzero out new (record { coef = c; mono = x }) → Collecting f out x c [] →
+    SamePolynomial new f
 sum_at_end f out new x c p m e = pushed_coefficient out new c x e p ∙ ap (λ z. coefficient out e +ℚ z) (sym (+ℚ-zero _)) ∙ m.sum e
 
-pub descending_at_end : (f out new : Terms) (x : Exponents) (c : Fraction) → PushesNonzero out new (record { coef = c; mono = x }) → Collecting f out x c [] → IsDescending new
+pub descending_at_end : (f out new : Terms) (x : Exponents) (c : Fraction) → PushesNonzero out new (record { coef = c; mono = x }) → Collecting f out x c [] →
+    IsDescending new
 descending_at_end f out new x c p m = pushed_descending out new c x p m.descending m.above
 
-pub variables_at_end : (f out new : Terms) (x : Exponents) (c : Fraction) → PushesNonzero out new (record { coef = c; mono = x }) → Collecting f out x c [] → KeepsVariables f new
+pub variables_at_end : (f out new : Terms) (x : Exponents) (c : Fraction) → PushesNonzero out new (record { coef = c; mono = x }) → Collecting f out x c [] →
+    KeepsVariables f new
 variables_at_end f out new x c p m = record { at = λ n h. let v = m.variables n h in pushed_variables n out new c x p v.0 v.1 }
 
 pub fits_at_end : (f out : Terms) (x : Exponents) (c : Fraction) → Collecting f out x c [] → LikeSumsFit f
 fits_at_end f out x c m = record { at = λ y. fits_down_to f out x c [] tt m y tt }
 
 -- ---- a sum that leaves the range
-pub sum_overflow_at : (f out : Terms) (x : Exponents) (c : Fraction) (i : ℕ) (t : Term) (o : Overflow) → i < length f → t ≡ get_or f i t → deglex x t.mono ≡ Equal → o ≡ record { op = Add; left = c; right = t.coef } → ¬ (FitsAdd c t.coef) → Collecting f out x c (drop i f) → IsLikeSumOverflow f o
+pub sum_overflow_at : (f out : Terms) (x : Exponents) (c : Fraction) (i : ℕ) (t : Term) (o : Overflow) → i < length f → t ≡ get_or f i t →
+    deglex x t.mono ≡ Equal → o ≡ record { op = Add; left = c; right = t.coef } → ¬ (FitsAdd c t.coef) → Collecting f out x c (drop i f) → IsLikeSumOverflow f o
 sum_overflow_at f out x c i t o h is q e n l =
     let m : Collecting f out x c (t ∷ drop (i + 1) f) = subst (Collecting f out x c) (head_at f i t h is) l in
     subst (IsLikeSumOverflow f) (sym e) (record {

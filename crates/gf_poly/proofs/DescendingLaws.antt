@@ -79,7 +79,8 @@ AllAbove-push [] t f h a = (a, tt)
 AllAbove-push (s ∷ out) t f h a = (h.0, AllAbove-push out t f h.1 a)
 
 -- a term with the monomial of the next one fits after out
-pub IsDescending-push : (out : Terms) (t u : Term) (f : Terms) → IsDescending out → AllAbove out (t ∷ f) → u.mono ≡ t.mono → u.coef ≢ zero_ℚ → IsDescending (out ++ u ∷ [])
+pub IsDescending-push : (out : Terms) (t u : Term) (f : Terms) → IsDescending out → AllAbove out (t ∷ f) → u.mono ≡ t.mono → u.coef ≢ zero_ℚ →
+    IsDescending (out ++ u ∷ [])
 IsDescending-push [] t u f d h e n = (n, tt, tt)
 IsDescending-push (s ∷ out) t u f d h e n = (d.0, IsAbove-push s.mono out u d.1 (ap (deglex s.mono) e ∙ h.0.0), IsDescending-push out t u f d.2 h.1 e n)
 

@@ -1,7 +1,8 @@
 -- The terms of one weight, and the initial form as the loop builds it.
 -- To cite: Heaviest, Heaviest-start, heavier_at, as_heavy_at, lighter_at, initial_form_at, descending_at, variables_at,
 -- initial_form_unique. The rest are steps.
-use Rattle.std.specs.Prelude.{◌≡◌, ◌≢◌, ◌⊎◌, ℕ, suc, ◌+◌, ◌^◌, ◌<◌, ◌≤◌, Bool, true, false, if◌then◌else◌, List, [], ◌∷◌, ◌++◌, length, take, get_or, Contains, ℤ, negsuc, ◌<ℤ◌, ◌≤ℤ◌, unsigned_abs}
+use Rattle.std.specs.Prelude.{◌≡◌, ◌≢◌, ◌⊎◌, ℕ, suc, ◌+◌, ◌^◌, ◌<◌, ◌≤◌, Bool, true, false, if◌then◌else◌, List, [], ◌∷◌, ◌++◌, length, take, get_or, Contains}
+use Rattle.std.specs.Prelude.{ℤ, negsuc, ◌<ℤ◌, ◌≤ℤ◌, unsigned_abs}
 use Rattle.std.specs.Ordering.{int_eq, int_cmp, MatchOrdering}
 use Rattle.std.specs.declared.cmp.Ordering.{Ordering}
 use Rattle.std.specs.declared.cmp.Ordering.TheVariants.{Less, Equal, Greater}
@@ -90,7 +91,8 @@ pub coefficient-on : (w : List ℤ) (m : ℤ) (f : Terms) (x : Exponents) → wh
 coefficient-on w m [] x e = refl
 coefficient-on w m (t ∷ f) x e = at (int_eq (whole_weight w t.mono) m) refl (coefficient-on w m f x e)
   where
-    at : (b : Bool) → int_eq (whole_weight w t.mono) m ≡ b → coefficient (of_weight w m f) x ≡ coefficient f x → coefficient (if b then t ∷ of_weight w m f else of_weight w m f) x ≡ coefficient (t ∷ f) x
+    at : (b : Bool) → int_eq (whole_weight w t.mono) m ≡ b → coefficient (of_weight w m f) x ≡ coefficient f x →
+        coefficient (if b then t ∷ of_weight w m f else of_weight w m f) x ≡ coefficient (t ∷ f) x
     at true h r = ap (λ z. (if same x t.mono then t.coef else zero_ℚ) +ℚ z) r
     at false h r = r ∙ sym (elsewhere t f x (other_weight w x t.mono (λ q. unequal (whole_weight w t.mono) m h (sym q ∙ e))))
 
@@ -98,7 +100,8 @@ pub coefficient-off : (w : List ℤ) (m : ℤ) (f : Terms) (x : Exponents) → (
 coefficient-off w m [] x n = refl
 coefficient-off w m (t ∷ f) x n = at (int_eq (whole_weight w t.mono) m) refl (coefficient-off w m f x n)
   where
-    at : (b : Bool) → int_eq (whole_weight w t.mono) m ≡ b → coefficient (of_weight w m f) x ≡ zero_ℚ → coefficient (if b then t ∷ of_weight w m f else of_weight w m f) x ≡ zero_ℚ
+    at : (b : Bool) → int_eq (whole_weight w t.mono) m ≡ b → coefficient (of_weight w m f) x ≡ zero_ℚ →
+        coefficient (if b then t ∷ of_weight w m f else of_weight w m f) x ≡ zero_ℚ
     at true h r = elsewhere t (of_weight w m f) x (other_weight w x t.mono (λ q. n (q ∙ equal (whole_weight w t.mono) m h))) ∙ r
     at false h r = r
 
@@ -133,7 +136,8 @@ of_weight-push w m [] t = refl
 of_weight-push w m (s ∷ f) t = at (int_eq (whole_weight w s.mono) m) (of_weight-push w m f t)
   where
     at : (b : Bool) → of_weight w m (f ++ t ∷ []) ≡ of_weight w m f ++ of_weight w m (t ∷ []) →
-        (if b then s ∷ of_weight w m (f ++ t ∷ []) else of_weight w m (f ++ t ∷ [])) ≡ (if b then s ∷ of_weight w m f else of_weight w m f) ++ of_weight w m (t ∷ [])
+        (if b then s ∷ of_weight w m (f ++ t ∷ []) else of_weight w m (f ++ t ∷ [])) ≡ (if b then s ∷ of_weight w m f else of_weight w m f) ++ of_weight w m
+        (t ∷ [])
     at true r = ap (λ z. s ∷ z) r
     at false r = r
 
@@ -145,7 +149,8 @@ none w m t n = ap (λ b. if b then t ∷ [] else []) (test_false (whole_weight w
 
 none_above : (w : List ℤ) (m k : ℤ) (f : Terms) → AreAtMost w m f → m <ℤ k → of_weight w k f ≡ []
 none_above w m k [] a l = refl
-none_above w m k (t ∷ f) a l = ap (λ b. if b then t ∷ of_weight w k f else of_weight w k f) (test_false (whole_weight w t.mono) k (λ e. let h = a.0 in absurd (omega (arith, ints)))) ∙ none_above w m k f a.1 l
+none_above w m k (t ∷ f) a l = ap (λ b. if b then t ∷ of_weight w k f else of_weight w k f)
+    (test_false (whole_weight w t.mono) k (λ e. let h = a.0 in absurd (omega (arith, ints)))) ∙ none_above w m k f a.1 l
 
 AreAtMost-push : (w : List ℤ) (m k : ℤ) (f : Terms) (t : Term) → AreAtMost w m f → m ≤ℤ k → whole_weight w t.mono ≤ℤ k → AreAtMost w k (f ++ t ∷ [])
 AreAtMost-push w m k [] t a l h = (h, tt)
@@ -169,31 +174,34 @@ pub record Heaviest (w : List ℤ) (f out : Terms) (m : ℤ) : Type 0 where
 pub take-next : (f : Terms) (i : ℕ) (t : Term) → i < length f → t ≡ get_or f i t → take (i + 1) f ≡ take i f ++ t ∷ []
 take-next f i t h is = take_more f i t h ∙ ap (λ (s : Term). take i f ++ s ∷ []) (sym is)
 
-pub heavier_at : (w : List ℤ) (f out next : Terms) (i : ℕ) (t c : Term) (m k : ℤ) → i < length f → t ≡ get_or f i t → c ≡ t → k ≡ whole_weight w t.mono → m <ℤ k → next ≡ [] ++ c ∷ [] →
-    Heaviest w (take i f) out m → Heaviest w (take (i + 1) f) next k
+pub heavier_at : (w : List ℤ) (f out next : Terms) (i : ℕ) (t c : Term) (m k : ℤ) → i < length f → t ≡ get_or f i t → c ≡ t → k ≡ whole_weight w t.mono →
+    m <ℤ k → next ≡ [] ++ c ∷ [] → Heaviest w (take i f) out m → Heaviest w (take (i + 1) f) next k
 heavier_at w f out next i t c m k h is ec e l en s = subst (λ (g : Terms). Heaviest w g next k) (sym (take-next f i t h is)) (record {
-  items = en ∙ ap (λ (z : Term). z ∷ []) ec ∙ sym (of_weight-push w k (take i f) t ∙ ap (λ z. z ++ of_weight w k (t ∷ [])) (none_above w m k (take i f) s.above l) ∙ alone w k t (sym e));
+  items = en ∙ ap (λ (z : Term). z ∷ []) ec ∙ sym (of_weight-push w k (take i f) t ∙ ap (λ z. z ++ of_weight w k (t ∷ [])) (none_above w m k (take i f)
+      s.above l) ∙ alone w k t (sym e));
   above = AreAtMost-push w m k (take i f) t s.above (omega (arith, ints)) (omega (arith, ints, e));
   reached = inr (IsReached-last w k (take i f) t (sym e));
 })
 
-pub as_heavy_at : (w : List ℤ) (f out next : Terms) (i : ℕ) (t c : Term) (m k l : ℤ) → i < length f → t ≡ get_or f i t → c ≡ t → k ≡ whole_weight w t.mono → k ≡ m → l ≡ m → next ≡ out ++ c ∷ [] →
-    Heaviest w (take i f) out m → Heaviest w (take (i + 1) f) next l
+pub as_heavy_at : (w : List ℤ) (f out next : Terms) (i : ℕ) (t c : Term) (m k l : ℤ) → i < length f → t ≡ get_or f i t → c ≡ t → k ≡ whole_weight w t.mono →
+    k ≡ m → l ≡ m → next ≡ out ++ c ∷ [] → Heaviest w (take i f) out m → Heaviest w (take (i + 1) f) next l
 as_heavy_at w f out next i t c m k l h is ec e em el en s =
     let er : whole_weight w t.mono ≡ l = sym e ∙ em ∙ sym el in
     let r : Heaviest w (take i f) out l = subst (Heaviest w (take i f) out) (sym el) s in
     subst (λ (g : Terms). Heaviest w g next l) (sym (take-next f i t h is)) (record {
-      items = en ∙ ap (λ (z : Term). out ++ z ∷ []) ec ∙ ap (λ z. z ++ t ∷ []) r.items ∙ sym (of_weight-push w l (take i f) t ∙ ap (λ z. of_weight w l (take i f) ++ z) (alone w l t er));
+      items = en ∙ ap (λ (z : Term). out ++ z ∷ []) ec ∙ ap (λ z. z ++ t ∷ []) r.items ∙
+          sym (of_weight-push w l (take i f) t ∙ ap (λ z. of_weight w l (take i f) ++ z) (alone w l t er));
       above = AreAtMost-push w l l (take i f) t r.above (omega (arith, ints)) (omega (arith, ints, er));
       reached = inr (IsReached-last w l (take i f) t er);
     })
 
-pub lighter_at : (w : List ℤ) (f out next : Terms) (i : ℕ) (t : Term) (m k l : ℤ) → i < length f → t ≡ get_or f i t → k ≡ whole_weight w t.mono → unsigned_abs k ≤ 2 ^ 101 → k <ℤ m → l ≡ m → next ≡ out →
-    Heaviest w (take i f) out m → Heaviest w (take (i + 1) f) next l
+pub lighter_at : (w : List ℤ) (f out next : Terms) (i : ℕ) (t : Term) (m k l : ℤ) → i < length f → t ≡ get_or f i t → k ≡ whole_weight w t.mono →
+    unsigned_abs k ≤ 2 ^ 101 → k <ℤ m → l ≡ m → next ≡ out → Heaviest w (take i f) out m → Heaviest w (take (i + 1) f) next l
 lighter_at w f out next i t m k l h is e b lt el en s =
     let r : Heaviest w (take i f) out l = subst (Heaviest w (take i f) out) (sym el) s in
     subst (λ (g : Terms). Heaviest w g next l) (sym (take-next f i t h is)) (record {
-      items = en ∙ r.items ∙ sym (of_weight-push w l (take i f) t ∙ ap (λ z. of_weight w l (take i f) ++ z) (none w l t (λ q. absurd (omega (arith, ints, q, e, el)))) ∙ append-nil (of_weight w l (take i f)));
+      items = en ∙ r.items ∙ sym (of_weight-push w l (take i f) t ∙ ap (λ z. of_weight w l (take i f) ++ z) (none w l t
+          (λ q. absurd (omega (arith, ints, q, e, el)))) ∙ append-nil (of_weight w l (take i f)));
       above = AreAtMost-push w l l (take i f) t r.above (omega (arith, ints)) (omega (arith, ints, e, el));
       reached = elim r.reached [
         | inl n ↦ absurd (omega (arith, ints, n.1, el))
@@ -221,10 +229,12 @@ reached_by w m (t ∷ f) (inr r) = at (reached_by w m f r)
     at p = (p.0, (suc p.1.0, omega (arith, p.1.1), p.1.2), p.2)
 
 -- the terms of greatest weight are the initial form
-initial : (n : ℕ) (w : List ℤ) (f : Terms) (m : ℤ) → HasVariables n f → IsDescending f → AreAtMost w m f → (f ≡ []) ⊎ IsReached w m f → IsInitialForm w f (of_weight w m f)
+initial : (n : ℕ) (w : List ℤ) (f : Terms) (m : ℤ) → HasVariables n f → IsDescending f → AreAtMost w m f → (f ≡ []) ⊎ IsReached w m f →
+    IsInitialForm w f (of_weight w m f)
 initial n w f m v d a r = record { heaviest = heaviest; lighter = lighter }
   where
-    on_or_off : (x : Exponents) → ((whole_weight w x ≡ m) → coefficient (of_weight w m f) x ≡ coefficient f x) × ((whole_weight w x ≡ m → ⊥) → coefficient (of_weight w m f) x ≡ zero_ℚ)
+    on_or_off : (x : Exponents) → ((whole_weight w x ≡ m) → coefficient (of_weight w m f) x ≡ coefficient f x) × ((whole_weight w x ≡ m → ⊥) →
+        coefficient (of_weight w m f) x ≡ zero_ℚ)
     on_or_off x = (coefficient-on w m f x, coefficient-off w m f x)
 
     -- where some monomial of f weighs m
@@ -235,7 +245,8 @@ initial n w f m v d a r = record { heaviest = heaviest; lighter = lighter }
         at : ((t : Term) × Contains f t × (whole_weight w t.mono ≡ m)) → whole_weight w x ≡ m
         at p =
             let k : length p.0.mono ≡ n = HasVariables-at n f p.1.0 p.0 p.1.1 (sym p.1.2) v in
-            let l : whole_weight w p.0.mono ≤ℤ whole_weight w x = h p.0.mono (λ z. term_nonzero f p.0 d p.1 (sym (coefficient-contains n f p.0 v d p.1 k) ∙ z)) in
+            let l : whole_weight w p.0.mono ≤ℤ whole_weight w x =
+            h p.0.mono (λ z. term_nonzero f p.0 d p.1 (sym (coefficient-contains n f p.0 v d p.1 k) ∙ z)) in
             omega (arith, ints, weighs w m f x a c, l, p.2)
 
     heaviest : (x : Exponents) → IsOfGreatestWeight w f x → coefficient (of_weight w m f) x ≡ coefficient f x
@@ -254,7 +265,8 @@ initial n w f m v d a r = record { heaviest = heaviest; lighter = lighter }
 whole : (w : List ℤ) (f out : Terms) (i : ℕ) (m : ℤ) → length f ≤ i → Heaviest w (take i f) out m → Heaviest w f out m
 whole w f out i m h s = subst (λ (g : Terms). Heaviest w g out m) (take_all i f h) s
 
-pub initial_form_at : (n : ℕ) (w : List ℤ) (f out : Terms) (i : ℕ) (m : ℤ) → HasVariables n f → IsDescending f → length f ≤ i → Heaviest w (take i f) out m → IsInitialForm w f out
+pub initial_form_at : (n : ℕ) (w : List ℤ) (f out : Terms) (i : ℕ) (m : ℤ) → HasVariables n f → IsDescending f → length f ≤ i → Heaviest w (take i f) out m →
+    IsInitialForm w f out
 initial_form_at n w f out i m v d h k =
     let s = whole w f out i m h k in
     subst (IsInitialForm w f) (sym s.items) (initial n w f m v d s.above (elim s.reached [ inl q ↦ inl q.0 | inr q ↦ inr q ]))
@@ -283,18 +295,32 @@ heavier_among : (w : List ℤ) (f g : Terms) (x : Exponents) →
     ((t : Term) → Contains g t → coefficient f t.mono ≢ zero_ℚ → whole_weight w t.mono ≤ℤ whole_weight w x)
     ⊎ ((y : Exponents) × (coefficient f y ≢ zero_ℚ) × (whole_weight w x <ℤ whole_weight w y))
 heavier_among w f [] x = inl (λ t k n. absurd (Contains-none t k))
-heavier_among w f (s ∷ g) x = at (zero_or_not (coefficient f s.mono)) (int_cmp (whole_weight w s.mono) (whole_weight w x)) (int_ranked (whole_weight w s.mono) (whole_weight w x) _ refl) (heavier_among w f g x)
+heavier_among w f (s ∷ g) x = at (zero_or_not (coefficient f s.mono)) (int_cmp (whole_weight w s.mono) (whole_weight w x))
+    (int_ranked (whole_weight w s.mono) (whole_weight w x) _ refl) (heavier_among w f g x)
   where
-    at : (coefficient f s.mono ≡ zero_ℚ) ⊎ (¬ (coefficient f s.mono ≡ zero_ℚ)) → (o : Ordering) → MatchOrdering o (whole_weight w s.mono <ℤ whole_weight w x) (whole_weight w s.mono ≡ whole_weight w x) (whole_weight w x <ℤ whole_weight w s.mono) →
-        ((t : Term) → Contains g t → coefficient f t.mono ≢ zero_ℚ → whole_weight w t.mono ≤ℤ whole_weight w x) ⊎ ((y : Exponents) × (coefficient f y ≢ zero_ℚ) × (whole_weight w x <ℤ whole_weight w y)) →
-        ((t : Term) → Contains (s ∷ g) t → coefficient f t.mono ≢ zero_ℚ → whole_weight w t.mono ≤ℤ whole_weight w x) ⊎ ((y : Exponents) × (coefficient f y ≢ zero_ℚ) × (whole_weight w x <ℤ whole_weight w y))
+    at : (coefficient f s.mono ≡ zero_ℚ) ⊎ (¬ (coefficient f s.mono ≡ zero_ℚ)) → (o : Ordering) →
+        MatchOrdering o (whole_weight w s.mono <ℤ whole_weight w x) (whole_weight w s.mono ≡ whole_weight w x) (whole_weight w x <ℤ whole_weight w s.mono) →
+        ((t : Term) → Contains g t → coefficient f t.mono ≢ zero_ℚ → whole_weight w t.mono ≤ℤ whole_weight w x) ⊎
+        ((y : Exponents) × (coefficient f y ≢ zero_ℚ) × (whole_weight w x <ℤ whole_weight w y)) →
+        ((t : Term) → Contains (s ∷ g) t → coefficient f t.mono ≢ zero_ℚ → whole_weight w t.mono ≤ℤ whole_weight w x) ⊎
+        ((y : Exponents) × (coefficient f y ≢ zero_ℚ) × (whole_weight w x <ℤ whole_weight w y))
     at z o h (inr r) = inr r
-    at (inl z) o h (inl r) = inl (λ t k n. elim (Contains-cons g t s k) [ inl e ↦ absurd (n (ap (λ (u : Term). coefficient f u.mono) e ∙ z)) | inr c ↦ r t c n ])
+    at (inl z) o h (inl r) = inl (λ t k n. elim (Contains-cons g t s k) [
+      | inl e ↦ absurd (n (ap (λ (u : Term). coefficient f u.mono) e ∙ z))
+      | inr c ↦ r t c n
+    ])
     at (inr c) Greater h (inl r) = inr (s.mono, c, h)
-    at (inr c) Less h (inl r) = inl (λ t k n. elim (Contains-cons g t s k) [ inl e ↦ subst (λ (u : Term). whole_weight w u.mono ≤ℤ whole_weight w x) (sym e) (omega (arith, ints, h)) | inr d ↦ r t d n ])
-    at (inr c) Equal h (inl r) = inl (λ t k n. elim (Contains-cons g t s k) [ inl e ↦ subst (λ (u : Term). whole_weight w u.mono ≤ℤ whole_weight w x) (sym e) (omega (arith, ints, h)) | inr d ↦ r t d n ])
+    at (inr c) Less h (inl r) = inl (λ t k n. elim (Contains-cons g t s k) [
+      | inl e ↦ subst (λ (u : Term). whole_weight w u.mono ≤ℤ whole_weight w x) (sym e) (omega (arith, ints, h))
+      | inr d ↦ r t d n
+    ])
+    at (inr c) Equal h (inl r) = inl (λ t k n. elim (Contains-cons g t s k) [
+      | inl e ↦ subst (λ (u : Term). whole_weight w u.mono ≤ℤ whole_weight w x) (sym e) (omega (arith, ints, h))
+      | inr d ↦ r t d n
+    ])
 
-heaviest_or_not : (w : List ℤ) (f : Terms) (x : Exponents) → IsOfGreatestWeight w f x ⊎ ((y : Exponents) × (coefficient f y ≢ zero_ℚ) × (whole_weight w x <ℤ whole_weight w y))
+heaviest_or_not : (w : List ℤ) (f : Terms) (x : Exponents) →
+    IsOfGreatestWeight w f x ⊎ ((y : Exponents) × (coefficient f y ≢ zero_ℚ) × (whole_weight w x <ℤ whole_weight w y))
 heaviest_or_not w f x = elim (heavier_among w f f x) [ inl r ↦ inl (λ y n. at y n r (occurs f y n)) | inr r ↦ inr r ]
   where
     at : (y : Exponents) → coefficient f y ≢ zero_ℚ → ((t : Term) → Contains f t → coefficient f t.mono ≢ zero_ℚ → whole_weight w t.mono ≤ℤ whole_weight w x) →

@@ -66,7 +66,8 @@ pub record IsSameUpTo (x y : List ℕ) (same : Bool) (i : ℕ) : Type 0 where
   pub so : IsTrue same → AgreeUpTo x y i
   pub all : x ≡ y → IsTrue same
 
-pub IsSameUpTo-more : (x y : List ℕ) (i : ℕ) (old new : Bool) → (IsTrue new ↔ (IsTrue old × (get_or x i 0 ≡ get_or y i 0))) → IsSameUpTo x y old i → IsSameUpTo x y new (i + 1)
+pub IsSameUpTo-more : (x y : List ℕ) (i : ℕ) (old new : Bool) → (IsTrue new ↔ (IsTrue old × (get_or x i 0 ≡ get_or y i 0))) → IsSameUpTo x y old i →
+    IsSameUpTo x y new (i + 1)
 IsSameUpTo-more x y i old new g h = record {
   so = λ t. AgreeUpTo-more x y i (g.0 t).1 (h.so (g.0 t).0);
   all = λ q. g.1 (h.all q, ap (λ z. get_or z i 0) q);
@@ -88,4 +89,5 @@ placed-same x y places others e h k = (
 
 -- a monomial has one word
 pub word-unique : (x : Exponents) (v w : ℕ) → IsWordOf x v → IsWordOf x w → v ≡ w
-word-unique x v w h k = same_from_bits_below ROOM v w h.fits k.fits (λ j b. let e : ROOM - 1 - j + j + 1 ≡ ROOM = omega arith in h.bits (ROOM - 1 - j) j e ∙ sym (k.bits (ROOM - 1 - j) j e))
+word-unique x v w h k = same_from_bits_below ROOM v w h.fits k.fits (λ j b. let e : ROOM - 1 - j + j + 1 ≡ ROOM = omega arith in
+    h.bits (ROOM - 1 - j) j e ∙ sym (k.bits (ROOM - 1 - j) j e))

@@ -61,7 +61,8 @@ contains_times c (s ∷ f) t h = elim (Contains-cons f t s h) [
 pub length-products : (k : Fraction) (f h : Terms) → k ≢ zero_ℚ → HasProducts (reciprocal_ℚ k) [] f h → length h ≡ length f
 length-products k f h n p = ap (λ (z : Terms). length z) (p.nonzero (nonzero_reciprocal k n)) ∙ length-times (reciprocal_ℚ k) f
 
-pub monic_at : (f h : Terms) (i : ℕ) (k : Fraction) → HasMark (record { poly = f; head = head_of f i }) k → k ≢ zero_ℚ → HasProducts (reciprocal_ℚ k) [] f h → ScalesFit Over k f → IsMonicOf (record { poly = f; head = head_of f i }) (record { poly = h; head = head_of h i })
+pub monic_at : (f h : Terms) (i : ℕ) (k : Fraction) → HasMark (record { poly = f; head = head_of f i }) k → k ≢ zero_ℚ → HasProducts (reciprocal_ℚ k) [] f h →
+    ScalesFit Over k f → IsMonicOf (record { poly = f; head = head_of f i }) (record { poly = h; head = head_of h i })
 monic_at f h i k m n p w =
     let e : h ≡ times (reciprocal_ℚ k) [] f = p.nonzero (nonzero_reciprocal k n) in
     let q : head_of h i ≡ head_of f i = ap (λ (z : Terms). head_of z i) e ∙ head_of-times (reciprocal_ℚ k) f i in
@@ -81,7 +82,8 @@ monic_at f h i k m n p w =
 -- ---- lists
 
 -- ---- the same of a marked polynomial that is kept as its terms f and the place i
-pub coefficient_at : (b : MarkedPolynomial) (f g : Terms) (i : ℕ) (t : Term) → ◌≡◌ {A = MarkedPolynomial} (record { poly = f; head = head_of f i }) b → g ≡ f → i < length f → t ≡ get_or g i t → HasMark b (get_or g i t).coef
+pub coefficient_at : (b : MarkedPolynomial) (f g : Terms) (i : ℕ) (t : Term) → ◌≡◌ {A = MarkedPolynomial} (record { poly = f; head = head_of f i }) b → g ≡ f →
+    i < length f → t ≡ get_or g i t → HasMark b (get_or g i t).coef
 coefficient_at b f g i t v e h is =
     subst (λ z. HasMark z (get_or g i t).coef) v
     (subst (λ (z : Term). HasMark (record { poly = f; head = head_of f i }) z.coef) is (mark_at f i t h (is ∙ ap (λ (z : Terms). get_or z i t) e)))
@@ -89,20 +91,29 @@ coefficient_at b f g i t v e h is =
 pub coefficient_nonzero : (f g : Terms) (i : ℕ) (t : Term) → g ≡ f → i < length f → t ≡ get_or g i t → IsDescending f → (get_or g i t).coef ≢ zero_ℚ
 coefficient_nonzero f g i t e h is d = subst (λ (z : Term). z.coef ≢ zero_ℚ) is (nonzero_at f i t h (is ∙ ap (λ (z : Terms). get_or z i t) e) d)
 
-pub head_value : (b : MarkedPolynomial) (f g : Terms) (i : ℕ) (t : Term) → ◌≡◌ {A = MarkedPolynomial} (record { poly = f; head = head_of f i }) b → g ≡ f → i < length f → t ≡ get_or g i t → (get_or g i t).mono ≡ b.head
-head_value b f g i t v e h is = ap (λ (z : Term). z.mono) (sym is) ∙ head_of-at f i t h (is ∙ ap (λ (z : Terms). get_or z i t) e) ∙ ap (λ (z : MarkedPolynomial). z.head) v
+pub head_value : (b : MarkedPolynomial) (f g : Terms) (i : ℕ) (t : Term) → ◌≡◌ {A = MarkedPolynomial} (record { poly = f; head = head_of f i }) b → g ≡ f →
+    i < length f → t ≡ get_or g i t → (get_or g i t).mono ≡ b.head
+head_value b f g i t v e h is = ap (λ (z : Term). z.mono) (sym is) ∙ head_of-at f i t h (is ∙ ap (λ (z : Terms). get_or z i t) e) ∙
+    ap (λ (z : MarkedPolynomial). z.head) v
 
-pub head_marked : (b : MarkedPolynomial) (f g : Terms) (i : ℕ) (t : Term) → ◌≡◌ {A = MarkedPolynomial} (record { poly = f; head = head_of f i }) b → g ≡ f → i < length f → t ≡ get_or g i t → IsDescending f → HasMarkedTerm b
-head_marked b f g i t v e h is d = subst HasMarkedTerm v (record { descending = d; mark = t.coef; term = mark_at f i t h (is ∙ ap (λ (z : Terms). get_or z i t) e) })
+pub head_marked : (b : MarkedPolynomial) (f g : Terms) (i : ℕ) (t : Term) → ◌≡◌ {A = MarkedPolynomial} (record { poly = f; head = head_of f i }) b → g ≡ f →
+    i < length f → t ≡ get_or g i t → IsDescending f → HasMarkedTerm b
+head_marked b f g i t v e h is d =
+    subst HasMarkedTerm v (record { descending = d; mark = t.coef; term = mark_at f i t h (is ∙ ap (λ (z : Terms). get_or z i t) e) })
 
-pub monic_value : (b : MarkedPolynomial) (f h : Terms) (i : ℕ) (k : Fraction) → ◌≡◌ {A = MarkedPolynomial} (record { poly = f; head = head_of f i }) b → HasMark b k → k ≢ zero_ℚ → HasProducts (reciprocal_ℚ k) [] f h → ScalesFit Over k f → IsMonicOf b (record { poly = h; head = head_of h i })
+pub monic_value : (b : MarkedPolynomial) (f h : Terms) (i : ℕ) (k : Fraction) → ◌≡◌ {A = MarkedPolynomial} (record { poly = f; head = head_of f i }) b →
+    HasMark b k → k ≢ zero_ℚ → HasProducts (reciprocal_ℚ k) [] f h → ScalesFit Over k f → IsMonicOf b (record { poly = h; head = head_of h i })
 monic_value b f h i k v m n p w = subst (λ z. HasMark z k → IsMonicOf z (record { poly = h; head = head_of h i })) v (λ q. monic_at f h i k q n p w) m
 
-pub monic_cause : (b : MarkedPolynomial) (f : Terms) (i : ℕ) (k : Fraction) (e : PolyError) → ◌≡◌ {A = MarkedPolynomial} (record { poly = f; head = head_of f i }) b → HasMark b k → IsScaleCause Over k f e → IsMonicCause b e
+pub monic_cause : (b : MarkedPolynomial) (f : Terms) (i : ℕ) (k : Fraction) (e : PolyError) →
+    ◌≡◌ {A = MarkedPolynomial} (record { poly = f; head = head_of f i }) b → HasMark b k → IsScaleCause Over k f e → IsMonicCause b e
 monic_cause b f i k e v m c = record { mark = k; term = m; cause = subst (λ (z : MarkedPolynomial). IsScaleCause Over k z.poly e) v c }
 
 pub by_head : IsStrictWeakOrder (λ (a b : MarkedPolynomial). is_lt (lex a.head b.head))
 by_head = ranks_by nat_list_cmp_total (λ (b : MarkedPolynomial). b.head)
 
-pub arranged : (s : MarkedPolynomials) (n : ℕ) (xs ys : List MarkedPolynomial) → ◌≡◌ {A = MarkedPolynomials} (record { variables = n; items = xs }) s → IsPermutation xs ys → IsSortedByKey (λ (b : MarkedPolynomial). b.head) lex ys → IsStableByKey (λ (b : MarkedPolynomial). b.head) lex xs ys → IsArranged s (record { variables = n; items = ys })
-arranged s n xs ys v p up stable = subst (λ z. IsArranged z (record { variables = n; items = ys })) v (record { variables = refl; members = p; ascending = up; stable = stable })
+pub arranged : (s : MarkedPolynomials) (n : ℕ) (xs ys : List MarkedPolynomial) → ◌≡◌ {A = MarkedPolynomials} (record { variables = n; items = xs }) s →
+    IsPermutation xs ys → IsSortedByKey (λ (b : MarkedPolynomial). b.head) lex ys → IsStableByKey (λ (b : MarkedPolynomial). b.head) lex xs ys →
+    IsArranged s (record { variables = n; items = ys })
+arranged s n xs ys v p up stable = subst (λ z. IsArranged z (record { variables = n; items = ys })) v
+    (record { variables = refl; members = p; ascending = up; stable = stable })

@@ -1,5 +1,6 @@
 -- Exponents as slices, and what a loop over the variables has done.
--- To cite: entry-get_or, taken_is, same_or_not, entry-take_more, entry-take_last, entry-ones, degree-ones, entry-raised, degree-raised, limit-raised, plus-minus, length-plus, length-minus, length-join, divides_by_entries, entries_by_divides.
+-- To cite: entry-get_or, taken_is, same_or_not, entry-take_more, entry-take_last, entry-ones, degree-ones, entry-raised, degree-raised, limit-raised,
+-- plus-minus, length-plus, length-minus, length-join, divides_by_entries, entries_by_divides.
 use Rattle.std.specs.Prelude.{◌≡◌, ◌≢◌, ℕ, zero, suc, Bool, IsTrue, ◌+◌, ◌*◌, ◌<◌, ◌≤◌, ◌^◌, ◌⊎◌, List, [], ◌∷◌, length, take, replicate, All}
 use Rattle.std.proofs.Common.{arith, refl, sym, ap, subst, ◌∙◌, inl, inr, get_or, add-one}
 use Rattle.std.proofs.Math.ListN.{set}
@@ -91,7 +92,8 @@ pub record AreEntries (f : ℕ → ℕ → ℕ) (x y : Exponents) (all : List �
   pub room : length all ≡ ROOM
   pub at : (k : ℕ) → k < i → get_or all k 0 ≡ f (entry x k) (entry y k)
 
-pub AreEntries-more : (f : ℕ → ℕ → ℕ) (x y : Exponents) (all : List ℕ) (i v : ℕ) → i < ROOM → v ≡ f (entry x i) (entry y i) → AreEntries f x y all i → AreEntries f x y (set all i v) (i + 1)
+pub AreEntries-more : (f : ℕ → ℕ → ℕ) (x y : Exponents) (all : List ℕ) (i v : ℕ) → i < ROOM → v ≡ f (entry x i) (entry y i) → AreEntries f x y all i →
+    AreEntries f x y (set all i v) (i + 1)
 AreEntries-more f x y all i v l e h = record { room = length-set all i v ∙ h.room; at = λ k b. place k b (cases_lt k i) }
   where
     place : (k : ℕ) → k < i + 1 → (k < i) ⊎ (i ≤ k) → get_or (set all i v) k 0 ≡ f (entry x k) (entry y k)
@@ -101,12 +103,15 @@ AreEntries-more f x y all i v l e h = record { room = length-set all i v ∙ h.r
         get_or-set_at all i k v 0 q (omega (arith, h.room)) ∙ e ∙ ap (λ j. f (entry x j) (entry y j)) (sym q)
 
 -- all places are done
-pub AreEntries-end : (f : ℕ → ℕ → ℕ) (x y z : Exponents) (all : List ℕ) (i : ℕ) → length x ≤ i → length x ≤ ROOM → length z ≡ length x → ((k : ℕ) → entry z k ≡ f (entry x k) (entry y k)) → AreEntries f x y all i → take (length x) all ≡ z
+pub AreEntries-end : (f : ℕ → ℕ → ℕ) (x y z : Exponents) (all : List ℕ) (i : ℕ) → length x ≤ i → length x ≤ ROOM → length z ≡ length x →
+    ((k : ℕ) → entry z k ≡ f (entry x k) (entry y k)) → AreEntries f x y all i → take (length x) all ≡ z
 AreEntries-end f x y z all i l r e g h = taken_is (length x) all z e (omega (arith, h.room)) (λ k b. h.at k (omega arith) ∙ sym (g k))
 
 -- all ROOM places are done
-pub AreEntries-all : (f : ℕ → ℕ → ℕ) (x y z : Exponents) (all : List ℕ) (i : ℕ) → length x ≡ ROOM → ROOM ≤ i → length z ≡ ROOM → ((k : ℕ) → entry z k ≡ f (entry x k) (entry y k)) → AreEntries f x y all i → all ≡ z
-AreEntries-all f x y z all i e l r g h = sym (take_all ROOM all (omega (arith, h.room))) ∙ ap (λ n. take n all) (sym e) ∙ AreEntries-end f x y z all i (omega (arith, e, l)) (omega (arith, e)) (r ∙ sym e) g h
+pub AreEntries-all : (f : ℕ → ℕ → ℕ) (x y z : Exponents) (all : List ℕ) (i : ℕ) → length x ≡ ROOM → ROOM ≤ i → length z ≡ ROOM →
+    ((k : ℕ) → entry z k ≡ f (entry x k) (entry y k)) → AreEntries f x y all i → all ≡ z
+AreEntries-all f x y z all i e l r g h = sym (take_all ROOM all (omega (arith, h.room))) ∙ ap (λ n. take n all) (sym e) ∙ AreEntries-end f x y z all i
+    (omega (arith, e, l)) (omega (arith, e)) (r ∙ sym e) g h
 
 -- the first i places of all hold the exponents of x, and zeros stand behind them
 pub record ArePlacedUpTo (x : Exponents) (all : List ℕ) (i : ℕ) : Type 0 where
@@ -143,7 +148,8 @@ pub record IsFitting (x y : Exponents) (fits : Bool) (i : ℕ) : Type 0 where
   pub so : IsTrue fits → FitsBelow x y i
   pub all : ProductFits x y → IsTrue fits
 
-pub IsFitting-more : (x y : Exponents) (i sum : ℕ) (old new : Bool) → sum ≡ entry x i + entry y i → (IsTrue new → IsTrue old × (sum < 2 ^ 31)) → (IsTrue old → sum < 2 ^ 31 → IsTrue new) → IsFitting x y old i → IsFitting x y new (i + 1)
+pub IsFitting-more : (x y : Exponents) (i sum : ℕ) (old new : Bool) → sum ≡ entry x i + entry y i → (IsTrue new → IsTrue old × (sum < 2 ^ 31)) →
+    (IsTrue old → sum < 2 ^ 31 → IsTrue new) → IsFitting x y old i → IsFitting x y new (i + 1)
 IsFitting-more x y i sum old new e g k h = record {
   so = λ t. FitsBelow-more x y i (omega (arith, e, (g t).1)) (h.so (g t).0);
   all = λ p. k (h.all p) (omega (arith, e, p.at i));
@@ -208,7 +214,8 @@ entry-limit x h i = elim (cases_lt i (length x)) [
   | inr g ↦ omega (arith, entry-past x i g)
 ]
 
-pub limit-raised : (x : Exponents) (i by : ℕ) → i < length x → get_or x i 0 + by < 2 ^ 31 → All (λ k. k < 2 ^ 31) x → All (λ k. k < 2 ^ 31) (set x i (get_or x i 0 + by))
+pub limit-raised : (x : Exponents) (i by : ℕ) → i < length x → get_or x i 0 + by < 2 ^ 31 → All (λ k. k < 2 ^ 31) x →
+    All (λ k. k < 2 ^ 31) (set x i (get_or x i 0 + by))
 limit-raised x i by l less h = limit_by_entries (set x i (get_or x i 0 + by)) (λ k. place k (same_or_not k i))
   where
     place : (k : ℕ) → (k ≡ i) ⊎ (k ≢ i) → entry (set x i (get_or x i 0 + by)) k < 2 ^ 31

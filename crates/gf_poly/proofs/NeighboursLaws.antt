@@ -25,11 +25,14 @@ below_push (u ∷ f) s t h nonzero below = (
 )
 
 -- one more term
-pub below_next : (f : Terms) (i j : ℕ) (s t : Term) → i ≡ j + 1 → i < length f → s ≡ get_or f j s → t ≡ get_or f i t → t.coef ≢ zero_ℚ → deglex s.mono t.mono ≡ Greater
+pub below_next : (f : Terms) (i j : ℕ) (s t : Term) → i ≡ j + 1 → i < length f → s ≡ get_or f j s → t ≡ get_or f i t → t.coef ≢ zero_ℚ →
+    deglex s.mono t.mono ≡ Greater
     → IsDescending (take i f) → IsDescending (take (i + 1) f)
 below_next f i j s t next within at_s at_t nonzero below h =
-    let front : take i f ≡ take j f ++ s ∷ [] = ap (λ k. take k f) (next ∙ add-one j) ∙ take-suc f j s (omega arith) ∙ ap (λ u. take j f ++ u ∷ []) (sym at_s) in
-    let all : take (i + 1) f ≡ (take j f ++ s ∷ []) ++ t ∷ [] = ap (λ k. take k f) (add-one i) ∙ take-suc f i t within ∙ ap (λ u. take i f ++ u ∷ []) (sym at_t) ∙ ap (λ l. l ++ t ∷ []) front in
+    let front : take i f ≡ take j f ++ s ∷ [] = ap (λ k. take k f) (next ∙ add-one j) ∙ take-suc f j s (omega arith) ∙
+    ap (λ u. take j f ++ u ∷ []) (sym at_s) in
+    let all : take (i + 1) f ≡ (take j f ++ s ∷ []) ++ t ∷ [] =
+    ap (λ k. take k f) (add-one i) ∙ take-suc f i t within ∙ ap (λ u. take i f ++ u ∷ []) (sym at_t) ∙ ap (λ l. l ++ t ∷ []) front in
     subst IsDescending (sym all) (below_push (take j f) s t (subst IsDescending front h) nonzero below)
 
 -- ---- from all terms to neighbours
@@ -41,7 +44,9 @@ above_here (u ∷ v ∷ f) zero s t within h = h.1.0
 above_here (u ∷ v ∷ f) (suc j) s t within h = above_here (v ∷ f) j s t (omega arith) h.2
 
 -- each stands above the next
-pub above_next : (f : Terms) (i j : ℕ) (s t : Term) → i ≡ j + 1 → i < length f → s ≡ get_or f j s → t ≡ get_or f i t → IsDescending f → deglex s.mono t.mono ≡ Greater
+pub above_next : (f : Terms) (i j : ℕ) (s t : Term) → i ≡ j + 1 → i < length f → s ≡ get_or f j s → t ≡ get_or f i t → IsDescending f →
+    deglex s.mono t.mono ≡ Greater
 above_next f i j s t next within at_s at_t h =
-    let far : deglex (get_or f j s).mono (get_or f i t).mono ≡ Greater = subst (λ k. deglex (get_or f j s).mono (get_or f k t).mono ≡ Greater) (sym (next ∙ add-one j)) (above_here f j s t (omega arith) h) in
+    let far : deglex (get_or f j s).mono (get_or f i t).mono ≡ Greater =
+    subst (λ k. deglex (get_or f j s).mono (get_or f k t).mono ≡ Greater) (sym (next ∙ add-one j)) (above_here f j s t (omega arith) h) in
     cc

@@ -42,7 +42,8 @@ coefficient-same (t ∷ f) d e h =
 -- equal polynomials have equal products
 pub SamePolynomial-times : (c : Fraction) (x : Exponents) (f g : Terms) → SamePolynomial f g → SamePolynomial (times c x f) (times c x g)
 SamePolynomial-times c x f g h e = elim (multiple_or_not x e) [
-  | inl m ↦ coefficient-same (times c x f) e (plus x m.0) m.1 ∙ coefficient-times c x f m.0 ∙ ap (λ z. c *ℚ z) (h m.0) ∙ sym (coefficient-times c x g m.0) ∙ sym (coefficient-same (times c x g) e (plus x m.0) m.1)
+  | inl m ↦ coefficient-same (times c x f) e (plus x m.0) m.1 ∙ coefficient-times c x f m.0 ∙ ap (λ z. c *ℚ z) (h m.0) ∙ sym (coefficient-times c x g m.0) ∙
+      sym (coefficient-same (times c x g) e (plus x m.0) m.1)
   | inr n ↦ coefficient-times-none c x f e n ∙ sym (coefficient-times-none c x g e n)
 ]
 
@@ -52,7 +53,8 @@ chosen_twice : (b : Bool) (c d r : Fraction) → (if b then (c *ℚ d) *ℚ r el
 chosen_twice true c d r = *ℚ_assoc c d r
 chosen_twice false c d r = sym (*ℚ-zero c)
 
-pub coefficient-times_factor : (c d : Fraction) (x : Exponents) (f : Terms) (e : Exponents) → coefficient (times (c *ℚ d) x f) e ≡ c *ℚ coefficient (times d x f) e
+pub coefficient-times_factor : (c d : Fraction) (x : Exponents) (f : Terms) (e : Exponents) →
+    coefficient (times (c *ℚ d) x f) e ≡ c *ℚ coefficient (times d x f) e
 coefficient-times_factor c d x [] e = sym (*ℚ-zero c)
 coefficient-times_factor c d x (t ∷ f) e =
     ap (λ z. z +ℚ coefficient (times (c *ℚ d) x f) e) (chosen_twice (same e (plus x t.mono)) c d t.coef)

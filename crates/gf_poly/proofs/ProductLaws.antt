@@ -24,7 +24,8 @@ use Rattle.gf_frac.specs.declared.refusal.Op.TheVariants.{Mul}
 use Rattle.gf_poly.specs.declared.monomial.ExponentOverflow.{ExponentOverflow}
 use Rattle.gf_poly.specs.declared.products.Scaling.{Scaling}
 use Rattle.gf_poly.specs.Monomial.{IsFirstOverflow}
-use Rattle.gf_poly.specs.Products.{HasProducts, IsScaled, TermFits, IsFirstTerm, IsProductOverflow, IsProductExponent, ScaleFits, HasOperands, IsScaleOverflow, factor}
+use Rattle.gf_poly.specs.Products.{HasProducts, IsScaled, TermFits, IsFirstTerm, IsProductOverflow, IsProductExponent, ScaleFits, HasOperands, IsScaleOverflow}
+use Rattle.gf_poly.specs.Products.{factor}
 use Rattle.gf_poly.proofs.MonomialLaws.{length-plus}
 use Rattle.gf_poly.proofs.PolynomialLaws.{coefficient-factor, coefficient-times}
 use Rattle.gf_poly.proofs.DescendingLaws.{never_greater, greater_trans, Contains-cons, Contains-none, IsAbove-contains}
@@ -38,7 +39,8 @@ pub record Multiplying (fits : Term → Type 0) (c : Fraction) (u : Exponents) (
   pub descending : IsDescending fs
   pub fit : (t : Term) → Contains f t → fits t ⊎ Contains fs t
 
-one_more : (fits : Term → Type 0) (c : Fraction) (u : Exponents) (f out new fs : Terms) (t : Term) → fits t → PushesNonzero out new (times_term c u t) → Multiplying fits c u f out (t ∷ fs) → Multiplying fits c u f new fs
+one_more : (fits : Term → Type 0) (c : Fraction) (u : Exponents) (f out new fs : Terms) (t : Term) → fits t → PushesNonzero out new (times_term c u t) →
+    Multiplying fits c u f out (t ∷ fs) → Multiplying fits c u f new fs
 one_more fits c u f out new fs t w p m = record {
   nonzero = λ n. pushed n p ∙ m.nonzero n;
   zero = λ z. nothing z p ∙ m.zero z;
@@ -57,19 +59,23 @@ one_more fits c u f out new fs t w p m = record {
     nothing z (inl q) = q.1
     nothing z (inr q) = absurd (q.0 (ap (λ x. x *ℚ t.coef) z ∙ zero-*ℚ t.coef))
 
-pub multiplied_at : (fits : Term → Type 0) (c : Fraction) (u : Exponents) (f out new : Terms) (i : ℕ) (t : Term) (x : Fraction) (m : Exponents) → i < length f → t ≡ get_or f i t → x ≡ c *ℚ t.coef → m ≡ plus u t.mono → fits t → PushesNonzero out new (record { coef = x; mono = m }) → Multiplying fits c u f out (drop i f) → Multiplying fits c u f new (drop (i + 1) f)
+pub multiplied_at : (fits : Term → Type 0) (c : Fraction) (u : Exponents) (f out new : Terms) (i : ℕ) (t : Term) (x : Fraction) (m : Exponents) → i < length f →
+    t ≡ get_or f i t → x ≡ c *ℚ t.coef → m ≡ plus u t.mono → fits t → PushesNonzero out new (record { coef = x; mono = m }) →
+    Multiplying fits c u f out (drop i f) → Multiplying fits c u f new (drop (i + 1) f)
 multiplied_at fits c u f out new i t x m h is value product w p l =
     let r : Term = record { coef = x; mono = m } in
     let e : r ≡ times_term c u t = λ q. record { coef = value q; mono = product q } in
     one_more fits c u f out new (drop (i + 1) f) t w (subst (PushesNonzero out new) e p) (subst (Multiplying fits c u f out) (head_at f i t h is) l)
 
-pub fits_at_end : (fits : Term → Type 0) (c : Fraction) (u : Exponents) (f out : Terms) (i : ℕ) → length f ≤ i → Multiplying fits c u f out (drop i f) → (t : Term) → Contains f t → fits t
+pub fits_at_end : (fits : Term → Type 0) (c : Fraction) (u : Exponents) (f out : Terms) (i : ℕ) → length f ≤ i → Multiplying fits c u f out (drop i f) →
+    (t : Term) → Contains f t → fits t
 fits_at_end fits c u f out i h l t k =
     let m : Multiplying fits c u f out [] = subst (Multiplying fits c u f out) (drop_all i f h) l in
     elim (m.fit t k) [ inl y ↦ y | inr y ↦ absurd (Contains-none t y) ]
 
 -- those before the term at i fit
-pub before_at : (fits : Term → Type 0) (c : Fraction) (u : Exponents) (f out : Terms) (i : ℕ) (t : Term) → i < length f → t ≡ get_or f i t → Multiplying fits c u f out (drop i f) → (s : Term) → Contains f s → deglex s.mono t.mono ≡ Greater → fits s
+pub before_at : (fits : Term → Type 0) (c : Fraction) (u : Exponents) (f out : Terms) (i : ℕ) (t : Term) → i < length f → t ≡ get_or f i t →
+    Multiplying fits c u f out (drop i f) → (s : Term) → Contains f s → deglex s.mono t.mono ≡ Greater → fits s
 before_at fits c u f out i t h is l s k o =
     let m : Multiplying fits c u f out (t ∷ drop (i + 1) f) = subst (Multiplying fits c u f out) (head_at f i t h is) l in
     elim (m.fit s k) [
@@ -98,11 +104,13 @@ lex-plus [] [] (c ∷ y) h k = absurd (omega arith)
 lex-plus [] (b ∷ x) y h k = absurd (omega arith)
 lex-plus (a ∷ u) [] y h k = absurd (omega arith)
 lex-plus (a ∷ u) (b ∷ x) [] h k = absurd (omega arith)
-lex-plus (a ∷ u) (b ∷ x) (c ∷ y) h k = ap (λ o. ordering_then o (slice_cmp nat_cmp (plus u x) (plus u y))) (cmp-plus a b c) ∙ ap (ordering_then (nat_cmp b c)) (lex-plus u x y (omega arith) (omega arith))
+lex-plus (a ∷ u) (b ∷ x) (c ∷ y) h k = ap (λ o. ordering_then o (slice_cmp nat_cmp (plus u x) (plus u y))) (cmp-plus a b c) ∙ ap (ordering_then (nat_cmp b c))
+    (lex-plus u x y (omega arith) (omega arith))
 
 pub deglex-plus : (u x y : Exponents) → length u ≡ length x → length x ≡ length y → deglex (plus u x) (plus u y) ≡ deglex x y
 deglex-plus u x y h k =
-    ap (λ o. ordering_then o (slice_cmp nat_cmp (plus u x) (plus u y))) (ap (λ z. nat_cmp z (degree (plus u y))) (degree-plus u x) ∙ ap (nat_cmp (degree u + degree x)) (degree-plus u y) ∙ cmp-plus (degree u) (degree x) (degree y))
+    ap (λ o. ordering_then o (slice_cmp nat_cmp (plus u x) (plus u y))) (ap (λ z. nat_cmp z (degree (plus u y))) (degree-plus u x) ∙
+    ap (nat_cmp (degree u + degree x)) (degree-plus u y) ∙ cmp-plus (degree u) (degree x) (degree y))
     ∙ ap (ordering_then (nat_cmp (degree x) (degree y))) (lex-plus u x y h k)
 
 IsAbove-times : (c : Fraction) (u x : Exponents) (f : Terms) → length x ≡ length u → HasVariables (length u) f → IsAbove x f → IsAbove (plus u x) (times c u f)
@@ -180,7 +188,9 @@ quotient_turned c k (Ok x) h = h ∙ *ℚ_comm c (reciprocal_ℚ k)
 quotient_turned c k (Err e) h = h
 
 -- ---- refusals
-pub scale_overflow_at : (kind : Scaling) (k : Fraction) (f out : Terms) (i : ℕ) (t : Term) (o : Overflow) → i < length f → t ≡ get_or f i t → HasOperands kind k t.coef o → ¬ (ScaleFits kind k t.coef) → Multiplying (λ (s : Term). ScaleFits kind k s.coef) (factor kind k) [] f out (drop i f) → IsScaleOverflow kind k f o
+pub scale_overflow_at : (kind : Scaling) (k : Fraction) (f out : Terms) (i : ℕ) (t : Term) (o : Overflow) → i < length f → t ≡ get_or f i t →
+    HasOperands kind k t.coef o → ¬ (ScaleFits kind k t.coef) → Multiplying (λ (s : Term). ScaleFits kind k s.coef) (factor kind k) [] f out (drop i f) →
+    IsScaleOverflow kind k f o
 scale_overflow_at kind k f out i t o h is w n m = record {
   term = t;
   inside = (i, h, sym is);
@@ -189,10 +199,12 @@ scale_overflow_at kind k f out i t o h is w n m = record {
   before = before_at (λ (s : Term). ScaleFits kind k s.coef) (factor kind k) [] f out i t h is m;
 }
 
-first_at : (c : Fraction) (u : Exponents) (f out : Terms) (i : ℕ) (t : Term) → i < length f → t ≡ get_or f i t → Multiplying (TermFits c u) c u f out (drop i f) → IsFirstTerm c u f t
+first_at : (c : Fraction) (u : Exponents) (f out : Terms) (i : ℕ) (t : Term) → i < length f → t ≡ get_or f i t →
+    Multiplying (TermFits c u) c u f out (drop i f) → IsFirstTerm c u f t
 first_at c u f out i t h is m = record { inside = (i, h, sym is); before = before_at (TermFits c u) c u f out i t h is m }
 
-pub product_overflow_at : (c : Fraction) (u : Exponents) (f out : Terms) (i : ℕ) (t : Term) (o : Overflow) → i < length f → t ≡ get_or f i t → o ≡ record { op = Mul; left = c; right = t.coef } → ¬ (FitsMul c t.coef) → Multiplying (TermFits c u) c u f out (drop i f) → IsProductOverflow c u f o
+pub product_overflow_at : (c : Fraction) (u : Exponents) (f out : Terms) (i : ℕ) (t : Term) (o : Overflow) → i < length f → t ≡ get_or f i t →
+    o ≡ record { op = Mul; left = c; right = t.coef } → ¬ (FitsMul c t.coef) → Multiplying (TermFits c u) c u f out (drop i f) → IsProductOverflow c u f o
 product_overflow_at c u f out i t o h is e n m = subst (IsProductOverflow c u f) (sym e) (record {
   operation = refl;
   left = refl;
@@ -202,5 +214,6 @@ product_overflow_at c u f out i t o h is e n m = subst (IsProductOverflow c u f)
   leaves = n;
 })
 
-pub product_exponent_at : (c : Fraction) (u : Exponents) (f out : Terms) (i : ℕ) (t : Term) (o : ExponentOverflow) → i < length f → t ≡ get_or f i t → FitsMul c t.coef → IsFirstOverflow u t.mono o → Multiplying (TermFits c u) c u f out (drop i f) → IsProductExponent c u f o
+pub product_exponent_at : (c : Fraction) (u : Exponents) (f out : Terms) (i : ℕ) (t : Term) (o : ExponentOverflow) → i < length f → t ≡ get_or f i t →
+    FitsMul c t.coef → IsFirstOverflow u t.mono o → Multiplying (TermFits c u) c u f out (drop i f) → IsProductExponent c u f o
 product_exponent_at c u f out i t o h is w v m = record { term = t; first = first_at c u f out i t h is m; coefficient_fits = w; overflow = v }

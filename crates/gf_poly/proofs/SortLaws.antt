@@ -37,7 +37,10 @@ not_below x (t ∷ f) h = (h 0 t (omega arith), not_below x f (λ j d l. h (suc 
 
 ordered : (f : Terms) → ((i j : ℕ) (d : Term) → i ≤ j → j < length f → is_lt (deglex (get_or f i d).mono (get_or f j d).mono) ≡ false) → IsOrdered f
 ordered [] h = tt
-ordered (t ∷ f) h = (not_below t.mono f (λ j d l. h 0 (suc j) d (omega arith) (omega arith)), ordered f (λ i j d k l. h (suc i) (suc j) d (omega arith) (omega arith)))
+ordered (t ∷ f) h = (
+  not_below t.mono f (λ j d l. h 0 (suc j) d (omega arith) (omega arith)),
+  ordered f (λ i j d k l. h (suc i) (suc j) d (omega arith) (omega arith)),
+)
 
 pub IsOrdered-sorted : (f : Terms) → IsSortedBy is_before f → IsOrdered f
 IsOrdered-sorted f up = ordered f (sorted_far is_before by_deglex f up)
@@ -56,13 +59,16 @@ like-filter x (t ∷ f) =
 
 -- ---- coefficients
 -- a replaced term
-coefficient-set : (f : Terms) (i : ℕ) (y d : Term) (e : Exponents) → i < length f → coefficient (set f i y) e +ℚ (if same e (get_or f i d).mono then (get_or f i d).coef else zero_ℚ) ≡ coefficient f e +ℚ (if same e y.mono then y.coef else zero_ℚ)
+coefficient-set : (f : Terms) (i : ℕ) (y d : Term) (e : Exponents) → i < length f →
+    coefficient (set f i y) e +ℚ (if same e (get_or f i d).mono then (get_or f i d).coef else zero_ℚ) ≡ coefficient f e +ℚ
+    (if same e y.mono then y.coef else zero_ℚ)
 coefficient-set [] i y d e l = absurd (omega arith)
 coefficient-set (t ∷ f) zero y d e l = turned _ _ _
   where
     turned : (a b c : Fraction) → (a +ℚ b) +ℚ c ≡ (c +ℚ b) +ℚ a
     turned a b c = +ℚ_comm (a +ℚ b) c ∙ ap (λ z. c +ℚ z) (+ℚ_comm a b) ∙ sym (+ℚ_assoc c b a)
-coefficient-set (t ∷ f) (suc i) y d e l = +ℚ_assoc _ _ _ ∙ ap (λ z. (if same e t.mono then t.coef else zero_ℚ) +ℚ z) (coefficient-set f i y d e (omega arith)) ∙ sym (+ℚ_assoc _ _ _)
+coefficient-set (t ∷ f) (suc i) y d e l = +ℚ_assoc _ _ _ ∙ ap (λ z. (if same e t.mono then t.coef else zero_ℚ) +ℚ z) (coefficient-set f i y d e (omega arith)) ∙
+    sym (+ℚ_assoc _ _ _)
 
 cancel_right : (a b c : Fraction) → a +ℚ c ≡ b +ℚ c → a ≡ b
 cancel_right a b c h = sym (undo a) ∙ ap (λ z. z +ℚ neg_ℚ c) h ∙ undo b
@@ -78,7 +84,8 @@ coefficient-swap e (d ∷ f) i j p q =
     let long : length w ≡ length l = length-set l i (get_or l j d) in
     let first = coefficient-set l i (get_or l j d) d e p in
     let second = coefficient-set w j (get_or l i d) d e (omega arith) in
-    cancel_right _ _ _ (ap (λ (t : Term). coefficient (set w j (get_or l i d)) e +ℚ (if same e t.mono then t.coef else zero_ℚ)) (sym (there l p)) ∙ second ∙ first)
+    cancel_right _ _ _ (ap (λ (t : Term). coefficient (set w j (get_or l i d)) e +ℚ (if same e t.mono then t.coef else zero_ℚ)) (sym (there l p)) ∙ second ∙
+    first)
   where
     there : (l : Terms) → i < length l → get_or (set l i (get_or l j d)) j d ≡ get_or l j d
     there l h = elim (cases_lt i j) [

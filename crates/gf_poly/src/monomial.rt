@@ -1,7 +1,8 @@
 //! Monomials: up to `ROOM` exponents, kept inline with zeros behind them, with their sum and with a word of the variables that occur. Loops
 //! that go over all places are unrolled, so that they take a few wide instructions.
 
-ghost use Rattle.std.specs.Prelude.{◌≡◌, ◌+◌, ◌≤◌, ◌<◌, ◌^◌, ◌↔◌, length, take, replicate, slice_index, slice_set, bit_and, bit_xor, All, IfOk, IfErr, OnOk, OnErr, IsOk, IsTrue};
+ghost use Rattle.std.specs.Prelude.{◌≡◌, ◌+◌, ◌≤◌, ◌<◌, ◌^◌, ◌↔◌, length, take, replicate, slice_index, slice_set, bit_and, bit_xor, All, IfOk, IfErr, OnOk};
+ghost use Rattle.std.specs.Prelude.{OnErr, IsOk, IsTrue};
 ghost use Rattle.gf_exponents_theory.specs.Exponents.{plus, minus, join, Divides, degree as total_degree};
 ghost use Rattle.gf_exponents_theory.specs.Orders.{lex, deglex};
 ghost use Rattle.gf_poly.specs.Monomial.{IsMonomial, IsPlaced, IsWordOf, ProductFits, IsFirstOverflow};

@@ -1,5 +1,6 @@
 -- Rays with one flag more, where an inequality is negative on none of them, from the last on.
-use Rattle.std.proofs.Common.{◌≡◌, ℕ, ◌+◌, ◌<◌, ◌≤◌, List, [], ◌∷◌, ◌++◌, length, take, get_or, ℤ, pos, ◌≤ℤ◌, All, Contains, Bool, IsTrue, ◌↔◌, arith, refl, sym, ap, ◌∙◌, subst, inl, inr}
+use Rattle.std.proofs.Common.{◌≡◌, ℕ, ◌+◌, ◌<◌, ◌≤◌, List, [], ◌∷◌, ◌++◌, length, take, get_or, ℤ, pos, ◌≤ℤ◌, All, Contains, Bool, IsTrue, ◌↔◌, arith, refl}
+use Rattle.std.proofs.Common.{sym, ap, ◌∙◌, subst, inl, inr}
 use Rattle.std.proofs.lemmas.Int.{ints}
 use Rattle.std.proofs.lemmas.List.{get_or_append_left, get_or_default, length-append, take_more}
 use Rattle.std.proofs.lemmas.List.Elements.{All-push, Contains-push}
@@ -27,13 +28,16 @@ flagged_none rays values = record {
 }
 
 -- not negative on the ray at a place
-not_negative_at : (h : List ℤ) (rays : List Ray) (values : List ℤ) (j : ℕ) (r : Ray) → AreValues h rays values → All (λ z. pos 0 ≤ℤ z) values → j < length rays → (get_or values j (pos 0) ≡ dot h (get_or rays j r).vector) × (pos 0 ≤ℤ dot h (get_or rays j r).vector)
+not_negative_at : (h : List ℤ) (rays : List Ray) (values : List ℤ) (j : ℕ) (r : Ray) → AreValues h rays values → All (λ z. pos 0 ≤ℤ z) values →
+    j < length rays → (get_or values j (pos 0) ≡ dot h (get_or rays j r).vector) × (pos 0 ≤ℤ dot h (get_or rays j r).vector)
 not_negative_at h rays values j r a p l =
     let e = (value_of h rays values j r a l).0 in
     let k = values_long h rays values a in
     (e, subst (λ z. pos 0 ≤ℤ z) e (p j (pos 0) (omega (arith, k, l))))
 
-pub flagged_more : (rays : List Ray) (values : List ℤ) (left rest out new : List Ray) (r y : Ray) (bit : Bool) (z : ℤ) → left ≡ rest ++ r ∷ [] → z ≡ get_or values (length rest) (pos 0) → y.vector ≡ r.vector → y.zero ≡ r.zero ++ bit ∷ [] → (IsTrue bit ↔ (z ≡ pos 0)) → new ≡ out ++ y ∷ [] → FlaggedSoFar rays values left out → FlaggedSoFar rays values rest new
+pub flagged_more : (rays : List Ray) (values : List ℤ) (left rest out new : List Ray) (r y : Ray) (bit : Bool) (z : ℤ) → left ≡ rest ++ r ∷ [] →
+    z ≡ get_or values (length rest) (pos 0) → y.vector ≡ r.vector → y.zero ≡ r.zero ++ bit ∷ [] → (IsTrue bit ↔ (z ≡ pos 0)) → new ≡ out ++ y ∷ [] →
+    FlaggedSoFar rays values left out → FlaggedSoFar rays values rest new
 flagged_more rays values left rest out new r y bit z el ez ev ef eb en s =
     let n : ℕ = length rest in
     let long : length left ≡ n + 1 = ap length el ∙ length-append rest (r ∷ []) in
@@ -68,10 +72,13 @@ flagged_more rays values left rest out new r y bit z el ez ev ef eb en s =
 
 -- ---- values that aren't negative, one further
 
-pub up_more : (values : List ℤ) (i : ℕ) → i < length values → pos 0 ≤ℤ get_or values i (pos 0) → All (λ z. pos 0 ≤ℤ z) (take i values) → All (λ z. pos 0 ≤ℤ z) (take (i + 1) values)
-up_more values i l p a = subst (All (λ z. pos 0 ≤ℤ z)) (sym (take_more values i (pos 0) l)) (All-push (λ z. pos 0 ≤ℤ z) (take i values) (get_or values i (pos 0)) a p)
+pub up_more : (values : List ℤ) (i : ℕ) → i < length values → pos 0 ≤ℤ get_or values i (pos 0) → All (λ z. pos 0 ≤ℤ z) (take i values) →
+    All (λ z. pos 0 ≤ℤ z) (take (i + 1) values)
+up_more values i l p a = subst (All (λ z. pos 0 ≤ℤ z)) (sym (take_more values i (pos 0) l))
+    (All-push (λ z. pos 0 ≤ℤ z) (take i values) (get_or values i (pos 0)) a p)
 
-pub flagged_done : (rays : List Ray) (values : List ℤ) (left out : List Ray) → length left ≡ 0 → FlaggedSoFar rays values left out → (h : List ℤ) → AreValues h rays values → All (λ z. pos 0 ≤ℤ z) values → IsSplit h rays out
+pub flagged_done : (rays : List Ray) (values : List ℤ) (left out : List Ray) → length left ≡ 0 → FlaggedSoFar rays values left out → (h : List ℤ) →
+    AreValues h rays values → All (λ z. pos 0 ≤ℤ z) values → IsSplit h rays out
 flagged_done rays values left out e s h a p = record {
   drawn = λ y c. inl (s.drawn h a p y c);
   kept = λ r c u. let t = s.kept c.0 r (omega (arith, e)) c.1 in (t.0, (t.1.0, t.1.1 ∙ ap (λ (x : Ray). x.vector) c.2));

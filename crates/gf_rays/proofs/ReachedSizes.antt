@@ -1,5 +1,6 @@
 -- How large the entries of the states that are reached are, and where none of their operations leaves the range.
-use Rattle.std.proofs.Common.{◌≡◌, ◌≢◌, ℕ, zero, suc, ◌+◌, ◌*◌, ◌^◌, ◌<◌, ◌≤◌, List, [], ◌∷◌, ◌++◌, length, ℤ, pos, negsuc, ◌+ℤ◌, ◌*ℤ◌, neg_ℤ, ◌<ℤ◌, ◌-◌, ◌⊎◌, arith, sym, refl, ap, ◌∙◌, subst, inl, inr, get_or, map, drop, remove, length-append, unsigned_abs, All, Contains}
+use Rattle.std.proofs.Common.{◌≡◌, ◌≢◌, ℕ, zero, suc, ◌+◌, ◌*◌, ◌^◌, ◌<◌, ◌≤◌, List, [], ◌∷◌, ◌++◌, length, ℤ, pos, negsuc, ◌+ℤ◌, ◌*ℤ◌, neg_ℤ, ◌<ℤ◌, ◌-◌, ◌⊎◌}
+use Rattle.std.proofs.Common.{arith, sym, refl, ap, ◌∙◌, subst, inl, inr, get_or, map, drop, remove, length-append, unsigned_abs, All, Contains}
 use Rattle.std.specs.Int.{int_signum}
 use Rattle.std.proofs.lemmas.Int.{ints, unsigned_abs-mul}
 use Rattle.std.proofs.lemmas.List.{get_or_default, get_or_append_left}
@@ -31,7 +32,8 @@ use Rattle.gf_duality_theory.proofs.ListLaws.{none_in, first_in, zip_from, of_re
 use Rattle.gf_duality_theory.proofs.Echelon.{turn_in}
 use Rattle.gf_rays.specs.declared.ray.Ray.{Ray}
 use Rattle.gf_rays.specs.Leveling.{IsLine, IsLinedBy, IsLeveledRay, IsLeveling, IsRowStep, lineal, splitting, leveling}
-use Rattle.gf_rays.specs.Limits.{turned_bound, next_bound, reached_bound, IsPointed, IsUnitRow, BeginWithUnits, SmallSystemsStayWithinLimits, PartsOfOrthantsStayWithinLimits, TwoRowsOfThreeVariables}
+use Rattle.gf_rays.specs.Limits.{turned_bound, next_bound, reached_bound, IsPointed, IsUnitRow, BeginWithUnits, SmallSystemsStayWithinLimits}
+use Rattle.gf_rays.specs.Limits.{PartsOfOrthantsStayWithinLimits, TwoRowsOfThreeVariables}
 use Rattle.gf_rays.specs.MarkedRays.{IsPruned, vectors_of}
 use Rattle.gf_rays.specs.Reached.{IsReachedState, begun, split, lined, IsRaysStep, null_space, taking, lineality, straight, echelon, implied}
 use Rattle.gf_rays.specs.Splitting.{IsSplit, testing, pairing}
@@ -71,7 +73,8 @@ pub turned_step : (b j : ℕ) → turned_bound b j ≤ turned_bound b (suc j)
 turned_step b j = let q = square_le (turned_bound b j) in omega (arith, q)
 
 pub next_step : (n b m : ℕ) → 1 ≤ n → 1 ≤ b → 1 ≤ m → m ≤ next_bound n b m
-next_step n b m hn hb hm = let q = less_of (n * (b * m)) m (mul_positive n (b * m) (omega (arith, hn)) (mul_positive b m (omega (arith, hb)) (omega (arith, hm)))) in omega (arith, q)
+next_step n b m hn hb hm = let q =
+    less_of (n * (b * m)) m (mul_positive n (b * m) (omega (arith, hn)) (mul_positive b m (omega (arith, hb)) (omega (arith, hm)))) in omega (arith, q)
 
 reached_one : (n b k : ℕ) → 1 ≤ n → 1 ≤ b → 1 ≤ reached_bound n b k
 reached_one n b zero hn hb = omega arith
@@ -82,15 +85,21 @@ reached_step n b k hn hb = next_step n b (reached_bound n b k) hn hb (reached_on
 
 -- ---- operations within bounds
 
-no_mix : (row : ℕ) (op : VecOp) (a x b y : ℤ) (s : ConeOverflow) (p q u v : ℕ) → op ≢ Mul → unsigned_abs a ≤ p → unsigned_abs x ≤ q → unsigned_abs b ≤ u → unsigned_abs y ≤ v → p * q + u * v < 2 ^ 127 → IsMixStep row op a x b y s → ⊥
+no_mix : (row : ℕ) (op : VecOp) (a x b y : ℤ) (s : ConeOverflow) (p q u v : ℕ) → op ≢ Mul → unsigned_abs a ≤ p → unsigned_abs x ≤ q → unsigned_abs b ≤ u →
+    unsigned_abs y ≤ v → p * q + u * v < 2 ^ 127 → IsMixStep row op a x b y s → ⊥
 no_mix row op a x b y s p q u v n ha hx hb hy room (inl w) = no_wide row Mul a x s (p * q) (product_up a x p q ha hx) (omega (arith, room)) w
 no_mix row op a x b y s p q u v n ha hx hb hy room (inr (inl w)) = no_wide row Mul b y s (u * v) (product_up b y u v hb hy) (omega (arith, room)) w
-no_mix row Add a x b y s p q u v n ha hx hb hy room (inr (inr w)) = no_wide row Add (a *ℤ x) (b *ℤ y) s (p * q + u * v) (sum_up (a *ℤ x) (b *ℤ y) (p * q) (u * v) (product_up a x p q ha hx) (product_up b y u v hb hy)) room w
-no_mix row Sub a x b y s p q u v n ha hx hb hy room (inr (inr w)) = no_wide row Sub (a *ℤ x) (b *ℤ y) s (p * q + u * v) (difference_up (a *ℤ x) (b *ℤ y) (p * q) (u * v) (product_up a x p q ha hx) (product_up b y u v hb hy)) room w
+no_mix row Add a x b y s p q u v n ha hx hb hy room (inr (inr w)) =
+    no_wide row Add (a *ℤ x) (b *ℤ y) s (p * q + u * v) (sum_up (a *ℤ x) (b *ℤ y) (p * q) (u * v) (product_up a x p q ha hx) (product_up b y u v hb hy)) room w
+no_mix row Sub a x b y s p q u v n ha hx hb hy room (inr (inr w)) =
+    no_wide row Sub (a *ℤ x) (b *ℤ y) s (p * q + u * v) (difference_up (a *ℤ x) (b *ℤ y) (p * q) (u * v) (product_up a x p q ha hx) (product_up b y u v hb hy))
+    room w
 no_mix row Mul a x b y s p q u v n ha hx hb hy room (inr (inr w)) = absurd (n refl)
 
-pub no_combining : (row : ℕ) (op : VecOp) (a : ℤ) (xs : List ℤ) (b : ℤ) (ys : List ℤ) (s : ConeOverflow) (p q u v : ℕ) → op ≢ Mul → unsigned_abs a ≤ p → UpTo q xs → unsigned_abs b ≤ u → UpTo v ys → p * q + u * v < 2 ^ 127 → IsCombining row op a xs b ys s → ⊥
-no_combining row op a xs b ys s p q u v n ha hx hb hy room w = no_mix row op a (entry_at xs w.0) b (entry_at ys w.0) s p q u v n ha (hx.at w.0) hb (hy.at w.0) room w.2
+pub no_combining : (row : ℕ) (op : VecOp) (a : ℤ) (xs : List ℤ) (b : ℤ) (ys : List ℤ) (s : ConeOverflow) (p q u v : ℕ) → op ≢ Mul → unsigned_abs a ≤ p →
+    UpTo q xs → unsigned_abs b ≤ u → UpTo v ys → p * q + u * v < 2 ^ 127 → IsCombining row op a xs b ys s → ⊥
+no_combining row op a xs b ys s p q u v n ha hx hb hy room w =
+    no_mix row op a (entry_at xs w.0) b (entry_at ys w.0) s p q u v n ha (hx.at w.0) hb (hy.at w.0) room w.2
 
 abbrev IsNotMul : VecOp → Type 0
 IsNotMul Add = Unit {0}
@@ -106,7 +115,8 @@ not_add e = subst IsNotMul e tt
 -- ---- elimination
 
 turned_up : (b : ℕ) (r : List ℤ) (j : ℕ) (t u : List ℤ) → UpTo b r → UpTo b t → IsTurned r j t u → UpTo (b * b + b * b) u
-turned_up b r j t u ur ut d = up_divided (b * b + b * b) _ u d.0 d.1 (up_sum (b * b) (b * b) _ _ (up_times (size_at r j) b b t (ur.at j) ut) (up_times (neg_ℤ (signed_at r j t)) b b r (neg_up (signed_at r j t) b (signed_up b r j t ut)) ur))
+turned_up b r j t u ur ut d = up_divided (b * b + b * b) _ u d.0 d.1 (up_sum (b * b) (b * b) _ _ (up_times (size_at r j) b b t (ur.at j) ut)
+    (up_times (neg_ℤ (signed_at r j t)) b b r (neg_up (signed_at r j t) b (signed_up b r j t ut)) ur))
 
 pub record BothUpTo (b : ℕ) (xs ys : List (List ℤ)) : Type 0 where
   pub first : AreUpTo b xs
@@ -116,7 +126,8 @@ pub weaker : (a b : ℕ) (xs : List (List ℤ)) → a ≤ b → AreUpTo a xs →
 weaker a b xs h u = record { each = λ x c. up_weaker a b x h (u.each x c) }
 
 -- by the number of pivots
-pub eliminated_up : (n b : ℕ) (rows : List (List ℤ)) (j : ℕ) (done left : List (List ℤ)) → AreUpTo b rows → IsEliminated n rows j done left → BothUpTo (turned_bound b (length done)) done left
+pub eliminated_up : (n b : ℕ) (rows : List (List ℤ)) (j : ℕ) (done left : List (List ℤ)) → AreUpTo b rows → IsEliminated n rows j done left →
+    BothUpTo (turned_bound b (length done)) done left
 eliminated_up n b rows j out left u eliminated_begun = record { first = record { each = λ x c. absurd (none_in x c) }; second = u }
 eliminated_up n b rows m out left u (skipped j k done rest e z p) = eliminated_up n b rows j out left u p
 eliminated_up n b rows m out left u (turned j k done from others rest whole i e h f za zb eo p) =
@@ -126,18 +137,22 @@ eliminated_up n b rows m out left u (turned j k done from others rest whole i e 
     let ur : UpTo c (row_at from i) = q.second.each (row_at from i) (turn_in from j i f) in
     record {
       first = record {
-        each = λ x k. subst (λ l. UpTo (turned_bound b l) x) (sym em) (elim (Contains-last others (row_at from i) x (subst (λ (l : List (List ℤ)). Contains l x) eo k)) [
-          | inl a ↦ let t = zip_from (IsTurned (row_at from i) j) done others x za a in turned_up c (row_at from i) j t.0 x ur (q.first.each t.0 t.1.0) t.1.1
-          | inr g ↦ subst (UpTo (turned_bound b (suc (length done)))) (sym g) (up_weaker _ _ (row_at from i) (turned_step b (length done)) ur)
-        ]);
+        each = λ x k. subst (λ l. UpTo (turned_bound b l) x) (sym em)
+            (elim (Contains-last others (row_at from i) x (subst (λ (l : List (List ℤ)). Contains l x) eo k)) [
+              | inl a ↦ let t = zip_from (IsTurned (row_at from i) j) done others x za a in turned_up c (row_at from i) j t.0 x ur (q.first.each t.0 t.1.0)
+                  t.1.1
+              | inr g ↦ subst (UpTo (turned_bound b (suc (length done)))) (sym g) (up_weaker _ _ (row_at from i) (turned_step b (length done)) ur)
+            ]);
       };
       second = record {
-        each = λ x k. subst (λ l. UpTo (turned_bound b l) x) (sym em) (let t = zip_from (IsTurned (row_at from i) j) (remove from i) left x zb k in turned_up c (row_at from i) j t.0 x ur (q.second.each t.0 (of_rest from i t.0 f.inside t.1.0)) t.1.1);
+        each = λ x k. subst (λ l. UpTo (turned_bound b l) x) (sym em) (let t = zip_from (IsTurned (row_at from i) j) (remove from i) left x zb k in
+            turned_up c (row_at from i) j t.0 x ur (q.second.each t.0 (of_rest from i t.0 f.inside t.1.0)) t.1.1);
       };
     }
 
 -- there are no more pivots than columns, and one row goes with each
-pub elimination_counts : (n : ℕ) (rows : List (List ℤ)) (j : ℕ) (done left : List (List ℤ)) → IsEliminated n rows j done left → (length done ≤ j) × (length done + length left ≡ length rows)
+pub elimination_counts : (n : ℕ) (rows : List (List ℤ)) (j : ℕ) (done left : List (List ℤ)) → IsEliminated n rows j done left →
+    (length done ≤ j) × (length done + length left ≡ length rows)
 elimination_counts n rows j out left eliminated_begun = (omega arith, omega arith)
 elimination_counts n rows m out left (skipped j k done rest e z p) = let q = elimination_counts n rows j out left p in (omega (arith, q.0, e), q.1)
 elimination_counts n rows m out left (turned j k done from others rest whole i e h f za zb eo p) =
@@ -148,7 +163,8 @@ elimination_counts n rows m out left (turned j k done from others rest whole i e
     let d = length-remove from i f.inside in
     (omega (arith, q.0, e, a, b), omega (arith, q.1, a, b, c, d))
 
-pub no_elimination : (row n b : ℕ) (rows : List (List ℤ)) (columns count : ℕ) (s : ConeOverflow) → AreUpTo b rows → (columns ≤ count) ⊎ (length rows ≤ count) → turned_bound b count < 2 ^ 127 → IsEliminationStep row n rows columns s → ⊥
+pub no_elimination : (row n b : ℕ) (rows : List (List ℤ)) (columns count : ℕ) (s : ConeOverflow) → AreUpTo b rows → (columns ≤ count) ⊎ (length rows ≤ count) →
+    turned_bound b count < 2 ^ 127 → IsEliminationStep row n rows columns s → ⊥
 no_elimination row n b rows columns count s u few room k =
     let c = turned_bound b (length k.done) in
     let q = eliminated_up n b rows k.j k.done k.left u k.reached in
@@ -157,7 +173,8 @@ no_elimination row n b rows columns count s u few room k =
     let ut : UpTo c k.t = elim k.other [ inl a ↦ q.first.each k.t a | inr a ↦ q.second.each k.t (of_rest k.left k.k k.t k.pivot.inside a) ] in
     let fewer : suc (length k.done) ≤ count = elim few [ inl l ↦ omega (arith, l, p.0, k.column) | inr l ↦ omega (arith, l, p.1, k.pivot.inside) ] in
     let m : turned_bound b (suc (length k.done)) ≤ turned_bound b count = mono (turned_bound b) (turned_step b) (suc (length k.done)) count fewer in
-    no_combining row Sub (size_at (row_at k.left k.k) k.j) k.t (signed_at (row_at k.left k.k) k.j k.t) (row_at k.left k.k) s c c c c not_sub (ur.at k.j) ut (signed_up c (row_at k.left k.k) k.j k.t ut) ur (omega (arith, m, room)) k.turning
+    no_combining row Sub (size_at (row_at k.left k.k) k.j) k.t (signed_at (row_at k.left k.k) k.j k.t) (row_at k.left k.k) s c c c c not_sub (ur.at k.j) ut
+    (signed_up c (row_at k.left k.k) k.j k.t ut) ur (omega (arith, m, room)) k.turning
 
 -- ---- null spaces: unit vectors stay what they are
 
@@ -199,13 +216,15 @@ same_entry r t j ur ut er et p = elim (ut.values p) [
 ]
 
 turned_entry : (r : List ℤ) (j : ℕ) (t : List ℤ) (p : ℕ) → IsUnitary r → IsUnitary t → entry_at r j ≢ pos 0 →
-    (entry_at (vector_sum (scaled (size_at r j) t) (scaled (neg_ℤ (signed_at r j t)) r)) p ≡ pos 0) ⊎ (entry_at (vector_sum (scaled (size_at r j) t) (scaled (neg_ℤ (signed_at r j t)) r)) p ≡ entry_at t p)
+    (entry_at (vector_sum (scaled (size_at r j) t) (scaled (neg_ℤ (signed_at r j t)) r)) p ≡ pos 0) ⊎
+    (entry_at (vector_sum (scaled (size_at r j) t) (scaled (neg_ℤ (signed_at r j t)) r)) p ≡ entry_at t p)
 turned_entry r j t p ur ut n =
     let er : entry_at r j ≡ pos 1 = elim (ur.values j) [ inl e ↦ absurd (n e) | inr e ↦ e ] in
     elim (sum_entry (scaled (size_at r j) t) (scaled (neg_ℤ (signed_at r j t)) r) p) [
       | inl e ↦ inl e
       | inr e ↦
-          let f = e ∙ ap (λ z. z +ℤ entry_at (scaled (neg_ℤ (signed_at r j t)) r) p) (entry_times (size_at r j) t p) ∙ ap (λ z. size_at r j *ℤ entry_at t p +ℤ z) (entry_times (neg_ℤ (signed_at r j t)) r p) in
+          let f = e ∙ ap (λ z. z +ℤ entry_at (scaled (neg_ℤ (signed_at r j t)) r) p) (entry_times (size_at r j) t p) ∙
+          ap (λ z. size_at r j *ℤ entry_at t p +ℤ z) (entry_times (neg_ℤ (signed_at r j t)) r p) in
           elim (ut.values j) [
             | inl g ↦ inr (f ∙ turn_zero (entry_at r j) (entry_at t j) (entry_at t p) (entry_at r p) er g)
             | inr g ↦ inl (f ∙ turn_one (entry_at r j) (entry_at t j) (entry_at t p) (entry_at r p) er g (same_entry r t j ur ut er g p))
@@ -228,7 +247,12 @@ unitary_turned r j t u ur ut n (c, d) = record {
     value p = sym (entry_times c u p) ∙ ap (λ l. entry_at l p) d.multiple
 
     small : UpTo 1 w
-    small = record { at = λ p. elim (turned_entry r j t p ur ut n) [ inl e ↦ one_up (entry_at w p) (inl e) | inr e ↦ subst (λ z. unsigned_abs z ≤ 1) (sym e) (one_up (entry_at t p) (ut.values p)) ] }
+    small = record {
+      at = λ p. elim (turned_entry r j t p ur ut n) [
+        | inl e ↦ one_up (entry_at w p) (inl e)
+        | inr e ↦ subst (λ z. unsigned_abs z ≤ 1) (sym e) (one_up (entry_at t p) (ut.values p))
+      ];
+    }
 
     entries : (p : ℕ) → (entry_at u p ≡ pos 0) ⊎ ((entry_at u p ≡ pos 1) × (entry_at t p ≢ pos 0))
     entries p = elim (turned_entry r j t p ur ut n) [
@@ -250,7 +274,8 @@ pub record BothUnitary (xs ys : List (List ℤ)) : Type 0 where
   pub first : AreUnitary xs
   pub second : AreUnitary ys
 
-pub unitary_eliminated : (n : ℕ) (rows : List (List ℤ)) (j : ℕ) (done left : List (List ℤ)) → AreUnitary rows → IsEliminated n rows j done left → BothUnitary done left
+pub unitary_eliminated : (n : ℕ) (rows : List (List ℤ)) (j : ℕ) (done left : List (List ℤ)) → AreUnitary rows → IsEliminated n rows j done left →
+    BothUnitary done left
 unitary_eliminated n rows j out left u eliminated_begun = record { first = record { each = λ x c. absurd (none_in x c) }; second = u }
 unitary_eliminated n rows m out left u (skipped j k done rest e z p) = unitary_eliminated n rows j out left u p
 unitary_eliminated n rows m out left u (turned j k done from others rest whole i e h f za zb eo p) =
@@ -259,11 +284,15 @@ unitary_eliminated n rows m out left u (turned j k done from others rest whole i
     record {
       first = record {
         each = λ x c. elim (Contains-last others (row_at from i) x (subst (λ (l : List (List ℤ)). Contains l x) eo c)) [
-          | inl a ↦ let t = zip_from (IsTurned (row_at from i) j) done others x za a in unitary_turned (row_at from i) j t.0 x ur (q.first.each t.0 t.1.0) f.not_zero t.1.1
+          | inl a ↦ let t = zip_from (IsTurned (row_at from i) j) done others x za a in unitary_turned (row_at from i) j t.0 x ur (q.first.each t.0 t.1.0)
+              f.not_zero t.1.1
           | inr g ↦ subst IsUnitary (sym g) ur
         ];
       };
-      second = record { each = λ x c. let t = zip_from (IsTurned (row_at from i) j) (remove from i) left x zb c in unitary_turned (row_at from i) j t.0 x ur (q.second.each t.0 (of_rest from i t.0 f.inside t.1.0)) f.not_zero t.1.1 };
+      second = record {
+        each = λ x c. let t = zip_from (IsTurned (row_at from i) j) (remove from i) left x zb c in unitary_turned (row_at from i) j t.0 x ur
+            (q.second.each t.0 (of_rest from i t.0 f.inside t.1.0)) f.not_zero t.1.1;
+      };
     }
 
 no_unitary_elimination : (row n : ℕ) (rows : List (List ℤ)) (columns : ℕ) (s : ConeOverflow) → AreUnitary rows → IsEliminationStep row n rows columns s → ⊥
@@ -271,13 +300,18 @@ no_unitary_elimination row n rows columns s u k =
     let q = unitary_eliminated n rows k.j k.done k.left u k.reached in
     let ur : UpTo 1 (row_at k.left k.k) = unitary_up (row_at k.left k.k) (q.second.each (row_at k.left k.k) (turn_in k.left k.j k.k k.pivot)) in
     let ut : UpTo 1 k.t = unitary_up k.t (elim k.other [ inl a ↦ q.first.each k.t a | inr a ↦ q.second.each k.t (of_rest k.left k.k k.t k.pivot.inside a) ]) in
-    no_combining row Sub (size_at (row_at k.left k.k) k.j) k.t (signed_at (row_at k.left k.k) k.j k.t) (row_at k.left k.k) s 1 1 1 1 not_sub (ur.at k.j) ut (signed_up 1 (row_at k.left k.k) k.j k.t ut) ur (omega arith) k.turning
+    no_combining row Sub (size_at (row_at k.left k.k) k.j) k.t (signed_at (row_at k.left k.k) k.j k.t) (row_at k.left k.k) s 1 1 1 1 not_sub (ur.at k.j) ut
+    (signed_up 1 (row_at k.left k.k) k.j k.t ut) ur (omega arith) k.turning
 
 pub units_unitary : (n : ℕ) → AreUnitary (unit_vectors n)
 units_unitary n = record { each = each }
   where
     only : (k p : ℕ) → k < n → entry_at (get_or (unit_vectors n) k []) p ≢ pos 0 → p ≡ k
-    only k p h z = elim (place p k) [ less l ↦ absurd (z (unit_other n k p h (λ e. omega (arith, l, e)))) | at e ↦ e | more l ↦ absurd (z (unit_other n k p h (λ e. omega (arith, l, e)))) ]
+    only k p h z = elim (place p k) [
+      | less l ↦ absurd (z (unit_other n k p h (λ e. omega (arith, l, e))))
+      | at e ↦ e
+      | more l ↦ absurd (z (unit_other n k p h (λ e. omega (arith, l, e))))
+    ]
 
     unit : (k : ℕ) → k < n → IsUnitary (get_or (unit_vectors n) k [])
     unit k h = record {
@@ -295,10 +329,13 @@ units_unitary n = record { each = each }
 none_eliminated : (n : ℕ) (rows : List (List ℤ)) (j : ℕ) (done left : List (List ℤ)) → length done ≡ 0 → IsEliminated n rows j done left → left ≡ rows
 none_eliminated n rows j out left z eliminated_begun = refl
 none_eliminated n rows m out left z (skipped j k done rest e y p) = none_eliminated n rows j out left z p
-none_eliminated n rows m out left z (turned j k done from others rest whole i e h f za zb eo p) = absurd (omega (arith, z, snoc_long others (row_at from i) out eo))
+none_eliminated n rows m out left z (turned j k done from others rest whole i e h f za zb eo p) =
+    absurd (omega (arith, z, snoc_long others (row_at from i) out eo))
 
-pub begin_rows : (m n j : ℕ) (es done left : List (List ℤ)) → length done ≡ 0 → IsEliminated m (columns n es) j done left → AreUnitary (map (drop (length es)) left)
-begin_rows m n j es done left z e = subst AreUnitary (sym (ap (map (drop (length es))) (none_eliminated m (columns n es) j done left z e) ∙ right_columns es (unit_vectors n))) (units_unitary n)
+pub begin_rows : (m n j : ℕ) (es done left : List (List ℤ)) → length done ≡ 0 → IsEliminated m (columns n es) j done left →
+    AreUnitary (map (drop (length es)) left)
+begin_rows m n j es done left z e = subst AreUnitary (sym (ap (map (drop (length es))) (none_eliminated m (columns n es) j done left z e) ∙ right_columns es
+    (unit_vectors n))) (units_unitary n)
 
 none_done : (m n : ℕ) (done left : List (List ℤ)) → IsEliminated m (columns n []) 0 done left → length done ≡ 0
 none_done m n done left e = let q = elimination_counts m (columns n []) 0 done left e in omega (arith, q.0)
@@ -306,14 +343,16 @@ none_done m n done left e = let q = elimination_counts m (columns n []) 0 done l
 pub normal_up : (b : ℕ) (t z : List ℤ) → UpTo b t → IsNormalised t z → UpTo b z
 normal_up b t z u d = record {
   at = λ p.
-      let e : unsigned_abs d.factor * unsigned_abs (entry_at z p) ≡ unsigned_abs (entry_at t p) = sym (unsigned_abs-mul d.factor (entry_at z p)) ∙ ap unsigned_abs (sym (entry_times d.factor z p) ∙ ap (λ l. entry_at l p) d.multiple) in
+      let e : unsigned_abs d.factor * unsigned_abs (entry_at z p) ≡ unsigned_abs (entry_at t p) =
+      sym (unsigned_abs-mul d.factor (entry_at z p)) ∙ ap unsigned_abs (sym (entry_times d.factor z p) ∙ ap (λ l. entry_at l p) d.multiple) in
       let q = less_of (unsigned_abs d.factor) (unsigned_abs (entry_at z p)) (omega (arith, ints, d.not_zero)) in
       let a = u.at p in omega (arith, e, q, a);
 }
 
 no_null_step : (row n : ℕ) (s : ConeOverflow) → IsNullStep row n [] s → ⊥
 no_null_step row n s (eliminating k) = absurd (omega (arith, k.column))
-no_null_step row n s (reducing done left e k) = no_unitary_elimination row n (map (drop 0) left) n s (begin_rows _ n 0 [] done left (none_done _ n done left e) e) k
+no_null_step row n s (reducing done left e k) = no_unitary_elimination row n (map (drop 0) left) n s (begin_rows _ n 0 [] done left (none_done _ n done left e)
+    e) k
 
 -- ---- row by row
 
@@ -335,9 +374,11 @@ pair_up : (n b m : ℕ) (h p q y : List ℤ) → length h ≡ n → UpTo b h →
 pair_up n b m h p q y l u up uq d =
     let dp = dot_up n b m h p (omega (arith, l)) u up in
     let dq = dot_up n b m h q (omega (arith, l)) u uq in
-    up_divided (next_bound n b m) (pair h p q) y d.0 d.1 (up_sum (n * (b * m) * m) (n * (b * m) * m) _ _ (up_times (dot h p) (n * (b * m)) m q dp uq) (up_times (neg_ℤ (dot h q)) (n * (b * m)) m p (neg_up (dot h q) (n * (b * m)) dq) up))
+    up_divided (next_bound n b m) (pair h p q) y d.0 d.1 (up_sum (n * (b * m) * m) (n * (b * m) * m) _ _ (up_times (dot h p) (n * (b * m)) m q dp uq)
+    (up_times (neg_ℤ (dot h q)) (n * (b * m)) m p (neg_up (dot h q) (n * (b * m)) dq) up))
 
-leveled_up : (n b m : ℕ) (h l x y : List ℤ) → 1 ≤ n → 1 ≤ b → 1 ≤ m → length h ≡ n → UpTo b h → UpTo m l → UpTo m x → IsLeveled h l x y → UpTo (next_bound n b m) y
+leveled_up : (n b m : ℕ) (h l x y : List ℤ) → 1 ≤ n → 1 ≤ b → 1 ≤ m → length h ≡ n → UpTo b h → UpTo m l → UpTo m x → IsLeveled h l x y →
+    UpTo (next_bound n b m) y
 leveled_up n b m h l x y hn hb hm e u ul ux (inl k) = subst (UpTo (next_bound n b m)) (sym k.1) (up_weaker m (next_bound n b m) x (next_step n b m hn hb hm) ux)
 leveled_up n b m h l x y hn hb hm e u ul ux (inr k) = pair_up n b m h l x y e u ul ux k.1
 
@@ -349,9 +390,11 @@ signed_line m l x (inl e) u = subst (UpTo m) (sym e) u
 signed_line m l x (inr e) u = subst (UpTo m) (sym e) (opposite_up m x u)
 
 line_up : (m : ℕ) (h : List ℤ) (lin : List (List ℤ)) (i : ℕ) (l : List ℤ) → IsLine h lin i l → AreUpTo m lin → UpTo m l
-line_up m h lin i l k u = signed_line m l (get_or lin i []) k.signed (u.each (get_or lin i []) (i, k.inside, get_or_default lin i (get_or lin i []) [] k.inside))
+line_up m h lin i l k u =
+    signed_line m l (get_or lin i []) k.signed (u.each (get_or lin i []) (i, k.inside, get_or_default lin i (get_or lin i []) [] k.inside))
 
-pub split_up : (n b m : ℕ) (h : List ℤ) (lin : List (List ℤ)) (old middle out : List Ray) → 1 ≤ n → 1 ≤ b → 1 ≤ m → length h ≡ n → UpTo b h → IsSplit h old middle → IsPruned middle out → BothUpTo m lin (vectors_of old) → BothUpTo (next_bound n b m) lin (vectors_of out)
+pub split_up : (n b m : ℕ) (h : List ℤ) (lin : List (List ℤ)) (old middle out : List Ray) → 1 ≤ n → 1 ≤ b → 1 ≤ m → length h ≡ n → UpTo b h →
+    IsSplit h old middle → IsPruned middle out → BothUpTo m lin (vectors_of old) → BothUpTo (next_bound n b m) lin (vectors_of out)
 split_up n b m h lin old middle out hn hb one lh uh k p q =
     let step = next_step n b m hn hb one in
     record {
@@ -360,24 +403,31 @@ split_up n b m h lin old middle out hn hb one lh uh k p q =
         each = λ x c.
             let y = of_vector out x c in
             subst (UpTo (next_bound n b m)) (sym y.1.1) (elim (k.drawn y.0 (of_pruned middle out y.0 p y.1.0)) [
-              | inl t ↦ subst (UpTo (next_bound n b m)) (sym t.vector) (up_weaker m (next_bound n b m) t.r.vector step (q.second.each t.r.vector (vector_in old t.r t.in_r)))
-              | inr t ↦ pair_up n b m h t.p.vector t.q.vector y.0.vector lh uh (q.second.each t.p.vector (vector_in old t.p t.in_p)) (q.second.each t.q.vector (vector_in old t.q t.in_q)) t.divided
+              | inl t ↦ subst (UpTo (next_bound n b m)) (sym t.vector)
+                  (up_weaker m (next_bound n b m) t.r.vector step (q.second.each t.r.vector (vector_in old t.r t.in_r)))
+              | inr t ↦ pair_up n b m h t.p.vector t.q.vector y.0.vector lh uh (q.second.each t.p.vector (vector_in old t.p t.in_p))
+                  (q.second.each t.q.vector (vector_in old t.q t.in_q)) t.divided
             ]);
       };
     }
 
-pub lined_up : (n b m : ℕ) (h l : List ℤ) (whole lines : List (List ℤ)) (i count : ℕ) (old next : List Ray) → 1 ≤ n → 1 ≤ b → 1 ≤ m → length h ≡ n → UpTo b h → IsLine h whole i l → IsLinedBy h l (remove whole i) old count lines next → BothUpTo m whole (vectors_of old) →
+pub lined_up : (n b m : ℕ) (h l : List ℤ) (whole lines : List (List ℤ)) (i count : ℕ) (old next : List Ray) → 1 ≤ n → 1 ≤ b → 1 ≤ m → length h ≡ n → UpTo b h →
+    IsLine h whole i l → IsLinedBy h l (remove whole i) old count lines next → BothUpTo m whole (vectors_of old) →
     BothUpTo (next_bound n b m) lines (vectors_of next)
 lined_up n b m h l whole lines i count old out hn hb one lh uh k z q =
     let step = next_step n b m hn hb one in
     let ul : UpTo m l = line_up m h whole i l k q.first in
     record {
-      first = record { each = λ x c. let t = zip_from (IsLeveled h l) (remove whole i) lines x z.leveled c in leveled_up n b m h l t.0 x hn hb one lh uh ul (q.first.each t.0 (of_rest whole i t.0 k.inside t.1.0)) t.1.1 };
+      first = record {
+        each = λ x c. let t = zip_from (IsLeveled h l) (remove whole i) lines x z.leveled c in leveled_up n b m h l t.0 x hn hb one lh uh ul
+            (q.first.each t.0 (of_rest whole i t.0 k.inside t.1.0)) t.1.1;
+      };
       second = record {
         each = λ x c.
             let y = of_vector out x c in
             subst (UpTo (next_bound n b m)) (sym y.1.1) (elim (Contains-last z.middle z.ray y.0 (subst (λ (o : List Ray). Contains o y.0) z.all y.1.0)) [
-              | inl a ↦ let t = zip_from (IsLeveledRay h l) old z.middle y.0 z.rays_leveled a in leveled_up n b m h l t.0.vector y.0.vector hn hb one lh uh ul (q.second.each t.0.vector (vector_in old t.0 t.1.0)) t.1.1.0
+              | inl a ↦ let t = zip_from (IsLeveledRay h l) old z.middle y.0 z.rays_leveled a in leveled_up n b m h l t.0.vector y.0.vector hn hb one lh uh ul
+                  (q.second.each t.0.vector (vector_in old t.0 t.1.0)) t.1.1.0
               | inr g ↦ subst (UpTo (next_bound n b m)) (sym (ap (λ (o : Ray). o.vector) g ∙ z.vector)) (up_weaker m (next_bound n b m) l step ul)
             ]);
       };
@@ -402,9 +452,11 @@ of_some z (inr e) h = e
 pair_zero_at : (a b x y : ℤ) → a ≡ pos 1 → b ≡ pos 1 → x ≡ y → a *ℤ x +ℤ neg_ℤ b *ℤ y ≡ pos 0
 pair_zero_at a b x y e f g = rw (e, f, g) (let q : pos 1 *ℤ y +ℤ negsuc 0 *ℤ y ≡ pos 0 = omega (arith, ints) in q)
 
-level_unitary : (n j : ℕ) (l x y : List ℤ) → j < n → length l ≡ n → length x ≡ n → IsUnitary l → IsUnitary x → pos 0 <ℤ dot (get_or (unit_vectors n) j []) l → IsLeveled (get_or (unit_vectors n) j []) l x y → IsUnitary y
+level_unitary : (n j : ℕ) (l x y : List ℤ) → j < n → length l ≡ n → length x ≡ n → IsUnitary l → IsUnitary x → pos 0 <ℤ dot (get_or (unit_vectors n) j []) l →
+    IsLeveled (get_or (unit_vectors n) j []) l x y → IsUnitary y
 level_unitary n j l x y h ll lx ul ux up (inl k) = subst IsUnitary (sym k.1) ux
-level_unitary n j l x y h ll lx ul ux up (inr k) = zero_unitary y (λ p. zero-cancel k.1.0 (entry_at y p) k.1.1.positive (sym (entry_times k.1.0 y p) ∙ ap (λ v. entry_at v p) k.1.1.multiple ∙ zero_at p))
+level_unitary n j l x y h ll lx ul ux up (inr k) =
+    zero_unitary y (λ p. zero-cancel k.1.0 (entry_at y p) k.1.1.positive (sym (entry_times k.1.0 y p) ∙ ap (λ v. entry_at v p) k.1.1.multiple ∙ zero_at p))
   where
     e : List ℤ
     e = get_or (unit_vectors n) j []
@@ -418,18 +470,22 @@ level_unitary n j l x y h ll lx ul ux up (inr k) = zero_unitary y (λ p. zero-ca
     zero_at : (p : ℕ) → entry_at (vector_sum (scaled (dot e l) x) (scaled (neg_ℤ (dot e x)) l)) p ≡ pos 0
     zero_at p = elim (sum_entry (scaled (dot e l) x) (scaled (neg_ℤ (dot e x)) l) p) [
       | inl z ↦ z
-      | inr z ↦ z ∙ ap (λ w. w +ℤ entry_at (scaled (neg_ℤ (dot e x)) l) p) (entry_times (dot e l) x p) ∙ ap (λ w. dot e l *ℤ entry_at x p +ℤ w) (entry_times (neg_ℤ (dot e x)) l p)
-          ∙ pair_zero_at (dot e l) (dot e x) (entry_at x p) (entry_at l p) el ex (same_entry l x j ul ux (sym (dot_row n j l h ll) ∙ el) (sym (dot_row n j x h lx) ∙ ex) p)
+      | inr z ↦ z ∙ ap (λ w. w +ℤ entry_at (scaled (neg_ℤ (dot e x)) l) p) (entry_times (dot e l) x p) ∙
+          ap (λ w. dot e l *ℤ entry_at x p +ℤ w) (entry_times (neg_ℤ (dot e x)) l p)
+          ∙ pair_zero_at (dot e l) (dot e x) (entry_at x p) (entry_at l p) el ex
+          (same_entry l x j ul ux (sym (dot_row n j l h ll) ∙ el) (sym (dot_row n j x h lx) ∙ ex) p)
     ]
 
 below_zero : (z w : ℤ) → (z ≡ pos 0) ⊎ (z ≡ pos 1) → w ≡ negsuc 0 *ℤ z → pos 0 <ℤ w → ⊥
 below_zero z w (inl e) f h = omega (arith, ints, e, f, h)
 below_zero z w (inr e) f h = omega (arith, ints, e, f, h)
 
-line_unitary : (n j : ℕ) (l x : List ℤ) → j < n → length x ≡ n → IsUnitary x → (l ≡ x) ⊎ (l ≡ opposite x) → pos 0 <ℤ dot (get_or (unit_vectors n) j []) l → l ≡ x
+line_unitary : (n j : ℕ) (l x : List ℤ) → j < n → length x ≡ n → IsUnitary x → (l ≡ x) ⊎ (l ≡ opposite x) → pos 0 <ℤ dot (get_or (unit_vectors n) j []) l →
+    l ≡ x
 line_unitary n j l x h lx u (inl e) up = e
 line_unitary n j l x h lx u (inr e) up =
-    absurd (below_zero (entry_at x j) (dot (get_or (unit_vectors n) j []) l) (u.values j) (ap (dot (get_or (unit_vectors n) j [])) e ∙ dot_row n j (opposite x) h (length-times (negsuc 0) x ∙ lx) ∙ entry_times (negsuc 0) x j) up)
+    absurd (below_zero (entry_at x j) (dot (get_or (unit_vectors n) j []) l) (u.values j) (ap (dot (get_or (unit_vectors n) j [])) e ∙ dot_row n j (opposite x)
+    h (length-times (negsuc 0) x ∙ lx) ∙ entry_times (negsuc 0) x j) up)
 
 not_below : (z : ℤ) → (z ≡ pos 0) ⊎ (z ≡ pos 1) → z <ℤ pos 0 → ⊥
 not_below z (inl e) h = omega (arith, ints, e, h)
@@ -460,18 +516,28 @@ normal_unitary t z u d = record {
 
     one_at : (p : ℕ) → entry_at t p ≡ pos 1 → entry_at z p ≡ pos 1
     one_at p e =
-        let up : pos 0 <ℤ entry_at z p = d.leading p (record { inside = entry_inside z p (some_at p e); not_zero = some_at p e; first = λ i h. elim (u.values i) [ inl k ↦ none_at i k | inr k ↦ absurd (let q = u.one i p (not_one (entry_at t i) k) (not_one (entry_at t p) e) in omega (arith, h, q)) ] }) in
+        let up : pos 0 <ℤ entry_at z p = d.leading p (record {
+          inside = entry_inside z p (some_at p e);
+          not_zero = some_at p e;
+          first = λ i h. elim (u.values i) [
+            | inl k ↦ none_at i k
+            | inr k ↦ absurd (let q = u.one i p (not_one (entry_at t i) k) (not_one (entry_at t p) e) in omega (arith, h, q))
+          ];
+        }) in
         one_of d.factor (entry_at z p) (value p ∙ e) ((normal_up 1 t z (unitary_up t u) d).at p) up
 
 null_unitary : (n : ℕ) (basis : List (List ℤ)) → IsNullSpace n [] basis → AreUnitary basis
 null_unitary n basis b =
-    let u = unitary_eliminated n (map (drop 0) b.left) n b.basis.done b.basis.left (begin_rows _ n 0 [] b.done b.left (none_done _ n b.done b.left b.eliminated) b.eliminated) b.basis.eliminated in
+    let u = unitary_eliminated n (map (drop 0) b.left) n b.basis.done b.basis.left (begin_rows _ n 0 [] b.done b.left (none_done _ n b.done b.left b.eliminated)
+    b.eliminated) b.basis.eliminated in
     record { each = λ z c. let t = zip_from IsNormalised b.basis.done basis z b.basis.normal c in normal_unitary t.0 z (u.first.each t.0 t.1.0) t.1.1 }
 
-front_units : (n : ℕ) (rows : List (List ℤ)) (h : List ℤ) (whole : List (List ℤ)) → whole ≡ rows ++ h ∷ [] → ((x : List ℤ) → Contains whole x → IsUnitRow n x) → (x : List ℤ) → Contains rows x → IsUnitRow n x
+front_units : (n : ℕ) (rows : List (List ℤ)) (h : List ℤ) (whole : List (List ℤ)) → whole ≡ rows ++ h ∷ [] → ((x : List ℤ) → Contains whole x → IsUnitRow n x) →
+    (x : List ℤ) → Contains rows x → IsUnitRow n x
 front_units n rows h whole e f x c = f x (subst (λ (l : List (List ℤ)). Contains l x) (sym e) (first_in rows h x c))
 
-reached_unitary : (n : ℕ) (hs lin : List (List ℤ)) (rays : List Ray) → ((x : List ℤ) → Contains hs x → IsUnitRow n x) → IsReachedState n [] hs lin rays → BothUnitary lin (vectors_of rays)
+reached_unitary : (n : ℕ) (hs lin : List (List ℤ)) (rays : List Ray) → ((x : List ℤ) → Contains hs x → IsUnitRow n x) → IsReachedState n [] hs lin rays →
+    BothUnitary lin (vectors_of rays)
 reached_unitary n hs lin rays f (begun basis k) = record { first = null_unitary n basis k; second = record { each = λ x c. absurd (none_in x c) } }
 reached_unitary n hs lin rays f (split before lines old middle out h whole e z k p g r) =
     let q = reached_unitary n before lin old (front_units n before h hs e f) r in
@@ -486,7 +552,8 @@ reached_unitary n hs lin rays f (split before lines old middle out h whole e z k
               | inl t ↦ subst IsUnitary (sym t.vector) (q.second.each t.r.vector (vector_in old t.r t.in_r))
               | inr t ↦
                   let cq = vector_in old t.q t.in_q in
-                  absurd (not_below (entry_at t.q.vector u.place) ((q.second.each t.q.vector cq).values u.place) (subst (λ v. v <ℤ pos 0) (ap (λ o. dot o t.q.vector) u.is ∙ dot_row n u.place t.q.vector u.inside (d.rays_width t.q.vector cq)) t.down))
+                  absurd (not_below (entry_at t.q.vector u.place) ((q.second.each t.q.vector cq).values u.place)
+                  (subst (λ v. v <ℤ pos 0) (ap (λ o. dot o t.q.vector) u.is ∙ dot_row n u.place t.q.vector u.inside (d.rays_width t.q.vector cq)) t.down))
             ]);
       };
     }
@@ -514,7 +581,8 @@ reached_unitary n hs lin rays f (lined before whole lines old next h l i all e k
               | inl a ↦
                   let t = zip_from (IsLeveledRay h l) old z.middle y.0 z.rays_leveled a in
                   let ct = vector_in old t.0 t.1.0 in
-                  level_unitary n u.place l t.0.vector y.0.vector u.inside ll (d.rays_width t.0.vector ct) ul (q.second.each t.0.vector ct) up (subst (λ o. IsLeveled o l t.0.vector y.0.vector) u.is t.1.1.0)
+                  level_unitary n u.place l t.0.vector y.0.vector u.inside ll (d.rays_width t.0.vector ct) ul (q.second.each t.0.vector ct) up
+                  (subst (λ o. IsLeveled o l t.0.vector y.0.vector) u.is t.1.1.0)
               | inr g ↦ subst IsUnitary (sym (ap (λ (o : Ray). o.vector) g ∙ z.vector)) ul
             ]);
       };
@@ -522,47 +590,75 @@ reached_unitary n hs lin rays f (lined before whole lines old next h l i all e k
 
 -- ---- how large they are after unit vectors and some rows more
 
-few_rows : (n b u : ℕ) (hs lin : List (List ℤ)) (rays : List Ray) → 1 ≤ n → 1 ≤ b → length hs ≤ u → BeginWithUnits n u hs → IsReachedState n [] hs lin rays → BothUpTo (reached_bound n b (length hs - u)) lin (vectors_of rays)
+few_rows : (n b u : ℕ) (hs lin : List (List ℤ)) (rays : List Ray) → 1 ≤ n → 1 ≤ b → length hs ≤ u → BeginWithUnits n u hs → IsReachedState n [] hs lin rays →
+    BothUpTo (reached_bound n b (length hs - u)) lin (vectors_of rays)
 few_rows n b u hs lin rays hn hb few f r =
     let q = reached_unitary n hs lin rays (λ x c. subst (IsUnitRow n) (get_or_default hs c.0 [] x c.1 ∙ c.2) (f c.0 (omega (arith, c.1, few)) c.1)) r in
     let one = reached_one n b (length hs - u) hn hb in
-    record { first = record { each = λ x c. up_weaker 1 _ x one (unitary_up x (q.first.each x c)) }; second = record { each = λ x c. up_weaker 1 _ x one (unitary_up x (q.second.each x c)) } }
+    record {
+      first = record { each = λ x c. up_weaker 1 _ x one (unitary_up x (q.first.each x c)) };
+      second = record { each = λ x c. up_weaker 1 _ x one (unitary_up x (q.second.each x c)) };
+    }
 
-front_begins : (n u : ℕ) (rows : List (List ℤ)) (h : List ℤ) (whole : List (List ℤ)) → whole ≡ rows ++ h ∷ [] → BeginWithUnits n u whole → BeginWithUnits n u rows
+front_begins : (n u : ℕ) (rows : List (List ℤ)) (h : List ℤ) (whole : List (List ℤ)) → whole ≡ rows ++ h ∷ [] → BeginWithUnits n u whole →
+    BeginWithUnits n u rows
 front_begins n u rows h whole e f k hk hl =
-    subst (IsUnitRow n) (ap (λ (l : List (List ℤ)). get_or l k []) e ∙ get_or_append_left rows (h ∷ []) [] k hl) (f k hk (let s = snoc_long rows h whole e in omega (arith, s, hl)))
+    subst (IsUnitRow n) (ap (λ (l : List (List ℤ)). get_or l k []) e ∙ get_or_append_left rows (h ∷ []) [] k hl)
+    (f k hk (let s = snoc_long rows h whole e in omega (arith, s, hl)))
 
-at_next : (n b u k m : ℕ) (xs ys : List (List ℤ)) → m ≡ suc k → u ≤ k → BothUpTo (next_bound n b (reached_bound n b (k - u))) xs ys → BothUpTo (reached_bound n b (m - u)) xs ys
+at_next : (n b u k m : ℕ) (xs ys : List (List ℤ)) → m ≡ suc k → u ≤ k → BothUpTo (next_bound n b (reached_bound n b (k - u))) xs ys →
+    BothUpTo (reached_bound n b (m - u)) xs ys
 at_next n b u k m xs ys e h q = let s : suc (k - u) ≡ m - u = omega (arith, e, h) in subst (λ i. BothUpTo (reached_bound n b i) xs ys) s q
 
-reached_up : (n b u : ℕ) (hs lin : List (List ℤ)) (rays : List Ray) → 1 ≤ n → 1 ≤ b → AreSized n b hs → BeginWithUnits n u hs → IsReachedState n [] hs lin rays → BothUpTo (reached_bound n b (length hs - u)) lin (vectors_of rays)
+reached_up : (n b u : ℕ) (hs lin : List (List ℤ)) (rays : List Ray) → 1 ≤ n → 1 ≤ b → AreSized n b hs → BeginWithUnits n u hs →
+    IsReachedState n [] hs lin rays → BothUpTo (reached_bound n b (length hs - u)) lin (vectors_of rays)
 reached_up n b u hs lin rays hn hb s f (begun basis k) = few_rows n b u [] basis [] hn hb (omega arith) f (begun basis k)
 reached_up n b u hs lin rays hn hb s f (split before lines old middle out h whole e z k p g r) = elim (place (length before) u) [
-  | less l ↦ at_next n b u (length before) (length hs) lin (vectors_of rays) (snoc_long before h hs e) (omega (arith, l)) (split_up n b (reached_bound n b (length before - u)) h lin old middle rays hn hb (reached_one n b (length before - u) hn hb) (s.long h (sized_last before h hs e)) (s.small.each h (sized_last before h hs e)) k p (reached_up n b u before lin old hn hb (sized_front n b before h hs e s) (front_begins n u before h hs e f) r))
-  | at q ↦ at_next n b u (length before) (length hs) lin (vectors_of rays) (snoc_long before h hs e) (omega (arith, q)) (split_up n b (reached_bound n b (length before - u)) h lin old middle rays hn hb (reached_one n b (length before - u) hn hb) (s.long h (sized_last before h hs e)) (s.small.each h (sized_last before h hs e)) k p (reached_up n b u before lin old hn hb (sized_front n b before h hs e s) (front_begins n u before h hs e f) r))
+  | less l ↦ at_next n b u (length before) (length hs) lin (vectors_of rays) (snoc_long before h hs e)
+      (omega (arith, l)) (split_up n b (reached_bound n b (length before - u)) h lin old middle rays hn hb (reached_one n b (length before - u) hn hb)
+      (s.long h (sized_last before h hs e)) (s.small.each h (sized_last before h hs e)) k p
+      (reached_up n b u before lin old hn hb (sized_front n b before h hs e s) (front_begins n u before h hs e f) r))
+  | at q ↦ at_next n b u (length before) (length hs) lin (vectors_of rays) (snoc_long before h hs e)
+      (omega (arith, q)) (split_up n b (reached_bound n b (length before - u)) h lin old middle rays hn hb (reached_one n b (length before - u) hn hb)
+      (s.long h (sized_last before h hs e)) (s.small.each h (sized_last before h hs e)) k p
+      (reached_up n b u before lin old hn hb (sized_front n b before h hs e s) (front_begins n u before h hs e f) r))
   | more l ↦ few_rows n b u hs lin rays hn hb (let w = snoc_long before h hs e in omega (arith, l, w)) f (split before lines old middle out h whole e z k p g r)
 ]
 reached_up n b u hs lin rays hn hb s f (lined before whole lines old next h l i all e k z r) = elim (place (length before) u) [
-  | less t ↦ at_next n b u (length before) (length hs) lin (vectors_of rays) (snoc_long before h hs e) (omega (arith, t)) (lined_up n b (reached_bound n b (length before - u)) h l whole lin i _ old rays hn hb (reached_one n b (length before - u) hn hb) (s.long h (sized_last before h hs e)) (s.small.each h (sized_last before h hs e)) k z (reached_up n b u before whole old hn hb (sized_front n b before h hs e s) (front_begins n u before h hs e f) r))
-  | at q ↦ at_next n b u (length before) (length hs) lin (vectors_of rays) (snoc_long before h hs e) (omega (arith, q)) (lined_up n b (reached_bound n b (length before - u)) h l whole lin i _ old rays hn hb (reached_one n b (length before - u) hn hb) (s.long h (sized_last before h hs e)) (s.small.each h (sized_last before h hs e)) k z (reached_up n b u before whole old hn hb (sized_front n b before h hs e s) (front_begins n u before h hs e f) r))
+  | less t ↦ at_next n b u (length before) (length hs) lin (vectors_of rays) (snoc_long before h hs e)
+      (omega (arith, t)) (lined_up n b (reached_bound n b (length before - u)) h l whole lin i _ old rays hn hb (reached_one n b (length before - u) hn hb)
+      (s.long h (sized_last before h hs e)) (s.small.each h (sized_last before h hs e)) k z
+      (reached_up n b u before whole old hn hb (sized_front n b before h hs e s) (front_begins n u before h hs e f) r))
+  | at q ↦ at_next n b u (length before) (length hs) lin (vectors_of rays) (snoc_long before h hs e)
+      (omega (arith, q)) (lined_up n b (reached_bound n b (length before - u)) h l whole lin i _ old rays hn hb (reached_one n b (length before - u) hn hb)
+      (s.long h (sized_last before h hs e)) (s.small.each h (sized_last before h hs e)) k z
+      (reached_up n b u before whole old hn hb (sized_front n b before h hs e s) (front_begins n u before h hs e f) r))
   | more t ↦ few_rows n b u hs lin rays hn hb (let w = snoc_long before h hs e in omega (arith, t, w)) f (lined before whole lines old next h l i all e k z r)
 ]
 
-no_leveling : (n b m row : ℕ) (h l x : List ℤ) (s : ConeOverflow) → length h ≡ n → UpTo b h → UpTo m l → UpTo m x → n * (b * m) < 2 ^ 127 → next_bound n b m < 2 ^ 127 → IsLeveling row h l x s → ⊥
+no_leveling : (n b m row : ℕ) (h l x : List ℤ) (s : ConeOverflow) → length h ≡ n → UpTo b h → UpTo m l → UpTo m x → n * (b * m) < 2 ^ 127 →
+    next_bound n b m < 2 ^ 127 → IsLeveling row h l x s → ⊥
 no_leveling n b m row h l x s e u ul ux small room (inl k) = no_dot n b m row h x s (omega (arith, e)) u ux small k
 no_leveling n b m row h l x s e u ul ux small room (inr (inl k)) =
-    no_combining row Add (dot h l) x (neg_ℤ (dot h x)) l s (n * (b * m)) m (n * (b * m)) m not_add (dot_up n b m h l (omega (arith, e)) u ul) ux (neg_up (dot h x) (n * (b * m)) (dot_up n b m h x (omega (arith, e)) u ux)) ul room k.1
+    no_combining row Add (dot h l) x (neg_ℤ (dot h x)) l s (n * (b * m)) m (n * (b * m)) m not_add (dot_up n b m h l (omega (arith, e)) u ul) ux
+    (neg_up (dot h x) (n * (b * m)) (dot_up n b m h x (omega (arith, e)) u ux)) ul room k.1
 no_leveling n b m row h l x s e u ul ux small room (inr (inr k)) =
-    no_combining row Add (dot h l) x (dot h x) (opposite l) s (n * (b * m)) m (n * (b * m)) m not_add (dot_up n b m h l (omega (arith, e)) u ul) ux (dot_up n b m h x (omega (arith, e)) u ux) (opposite_up m l ul) room k.1
+    no_combining row Add (dot h l) x (dot h x) (opposite l) s (n * (b * m)) m (n * (b * m)) m not_add (dot_up n b m h l (omega (arith, e)) u ul) ux
+    (dot_up n b m h x (omega (arith, e)) u ux) (opposite_up m l ul) room k.1
 
-pub no_row_step : (n b m row : ℕ) (h : List ℤ) (lin : List (List ℤ)) (rays : List Ray) (s : ConeOverflow) → length h ≡ n → UpTo b h → AreUpTo m lin → AreUpTo m (vectors_of rays) → n * (b * m) < 2 ^ 127 → next_bound n b m < 2 ^ 127 → IsRowStep row h lin rays s → ⊥
-no_row_step n b m row h lin rays s e u ul ur small room (lineal t) = no_dot n b m row h (get_or lin t.place []) s (omega (arith, e)) u (ul.each _ (t.place, t.inside, get_or_default lin t.place _ [] t.inside)) small t.step
-no_row_step n b m row h lin rays s e u ul ur small room (splitting f (testing r c k)) = no_dot n b m row h r.vector s (omega (arith, e)) u (ur.each r.vector (vector_in rays r c)) small k
+pub no_row_step : (n b m row : ℕ) (h : List ℤ) (lin : List (List ℤ)) (rays : List Ray) (s : ConeOverflow) → length h ≡ n → UpTo b h → AreUpTo m lin →
+    AreUpTo m (vectors_of rays) → n * (b * m) < 2 ^ 127 → next_bound n b m < 2 ^ 127 → IsRowStep row h lin rays s → ⊥
+no_row_step n b m row h lin rays s e u ul ur small room (lineal t) =
+    no_dot n b m row h (get_or lin t.place []) s (omega (arith, e)) u (ul.each _ (t.place, t.inside, get_or_default lin t.place _ [] t.inside)) small t.step
+no_row_step n b m row h lin rays s e u ul ur small room (splitting f (testing r c k)) =
+    no_dot n b m row h r.vector s (omega (arith, e)) u (ur.each r.vector (vector_in rays r c)) small k
 no_row_step n b m row h lin rays s e u ul ur small room (splitting f (pairing p q cp cq up down free k)) =
     let a = ur.each p.vector (vector_in rays p cp) in let d = ur.each q.vector (vector_in rays q cq) in
-    no_combining row Add (dot h p.vector) q.vector (neg_ℤ (dot h q.vector)) p.vector s (n * (b * m)) m (n * (b * m)) m not_add (dot_up n b m h p.vector (omega (arith, e)) u a) d (neg_up (dot h q.vector) (n * (b * m)) (dot_up n b m h q.vector (omega (arith, e)) u d)) a room k
+    no_combining row Add (dot h p.vector) q.vector (neg_ℤ (dot h q.vector)) p.vector s (n * (b * m)) m (n * (b * m)) m not_add
+    (dot_up n b m h p.vector (omega (arith, e)) u a) d (neg_up (dot h q.vector) (n * (b * m)) (dot_up n b m h q.vector (omega (arith, e)) u d)) a room k
 no_row_step n b m row h lin rays s e u ul ur small room (leveling i l y line cy k) =
-    no_leveling n b m row h l y s e u (line_up m h lin i l line ul) (elim cy [ inl c ↦ ul.each y (of_rest lin i y line.inside c) | inr c ↦ ur.each y c ]) small room k
+    no_leveling n b m row h l y s e u (line_up m h lin i l line ul) (elim cy [ inl c ↦ ul.each y (of_rest lin i y line.inside c) | inr c ↦ ur.each y c ])
+    small room k
 
 -- ---- at the end, where the lineality space is zero
 
@@ -585,7 +681,8 @@ orthogonal_none n lin out z (added before old x w whole all e f r s up) =
     let o = orthogonal_none n before old (λ y c. z y (subst (λ (l : List (List ℤ)). Contains l y) (sym e) (first_in before x y c))) r in
     let q : w ≡ zeros n = straight_none old x w o s ∙ z x (sized_last before x lin e) in
     absurd (let k : dot w w ≡ pos 0 = ap (λ v. dot v v) q ∙ own_zero n in omega (arith, ints, k, up))
-orthogonal_none n lin out z (gone before old x w whole e r s k) = orthogonal_none n before out (λ y c. z y (subst (λ (l : List (List ℤ)). Contains l y) (sym e) (first_in before x y c))) r
+orthogonal_none n lin out z (gone before old x w whole e r s k) =
+    orthogonal_none n before out (λ y c. z y (subst (λ (l : List (List ℤ)). Contains l y) (sym e) (first_in before x y c))) r
 
 pub append_long : (before after : List (List ℤ)) (y : List ℤ) → 0 < length (before ++ y ∷ after)
 append_long [] after y = omega arith
@@ -604,12 +701,15 @@ front_in before after y x c = Contains-append_left before (y ∷ after) x c
 
 no_orthogonalizing : (row n : ℕ) (lin : List (List ℤ)) (s : ConeOverflow) → ((x : List ℤ) → Contains lin x → x ≡ zeros n) → IsOrthogonalizing row lin s → ⊥
 no_orthogonalizing row n lin s z k =
-    let o : length k.out ≡ 0 = orthogonal_none n k.before k.out (λ y c. z y (subst (λ (l : List (List ℤ)). Contains l y) (sym k.parts) (front_in k.before k.after k.x y c))) k.reached in
+    let o : length k.out ≡ 0 = orthogonal_none n k.before k.out
+    (λ y c. z y (subst (λ (l : List (List ℤ)). Contains l y) (sym k.parts) (front_in k.before k.after k.x y c))) k.reached in
     elim k.step [
       | inl t ↦ let q = append_long t.before t.after t.y in omega (arith, o, q, ap length t.parts)
       | inr t ↦
-          let q : t.0 ≡ zeros n = straight_none k.out k.x t.0 o t.1.0 ∙ z k.x (subst (λ (l : List (List ℤ)). Contains l k.x) (sym k.parts) (middle_in k.before k.after k.x)) in
-          no_dot n 0 0 row (zeros n) (zeros n) s (omega (arith, length-zeros n)) (up_zeros 0 n) (up_zeros 0 n) (omega arith) (subst (λ v. IsDotStep row v v s) q t.1.1)
+          let q : t.0 ≡ zeros n =
+          straight_none k.out k.x t.0 o t.1.0 ∙ z k.x (subst (λ (l : List (List ℤ)). Contains l k.x) (sym k.parts) (middle_in k.before k.after k.x)) in
+          no_dot n 0 0 row (zeros n) (zeros n) s (omega (arith, length-zeros n)) (up_zeros 0 n) (up_zeros 0 n) (omega arith)
+          (subst (λ v. IsDotStep row v v s) q t.1.1)
     ]
 
 turned_none : (j : ℕ) → turned_bound 0 j ≡ 0
@@ -629,7 +729,8 @@ unit_step_room : (n b : ℕ) → 1 ≤ n → 1 ≤ b → turned_bound b n < 2 ^ 
 unit_step_room zero b hn hb h = absurd (omega (arith, hn))
 unit_step_room (suc n) b hn hb h = let q = twice_below b n hb in omega (arith, q, h)
 
-no_reached_step : (n b u : ℕ) (hs : List (List ℤ)) (s : ConeOverflow) → 1 ≤ n → 1 ≤ b → AreSized n b hs → IsPointed n hs → BeginWithUnits n u hs → reached_bound n b (length hs - u) < 2 ^ 127 → turned_bound b n < 2 ^ 127 → IsRaysStep n hs [] s → ⊥
+no_reached_step : (n b u : ℕ) (hs : List (List ℤ)) (s : ConeOverflow) → 1 ≤ n → 1 ≤ b → AreSized n b hs → IsPointed n hs → BeginWithUnits n u hs →
+    reached_bound n b (length hs - u) < 2 ^ 127 → turned_bound b n < 2 ^ 127 → IsRaysStep n hs [] s → ⊥
 no_reached_step n b u hs s hn hb z p f room ends (null_space k) = no_null_step _ n s k
 no_reached_step n b u hs s hn hb z p f room ends (taking before after lin rays h e r k) =
     let m = reached_bound n b (length before - u) in
@@ -638,31 +739,47 @@ no_reached_step n b u hs s hn hb z p f room ends (taking before after lin rays h
       small = record { each = λ x c. z.small.each x (subst (λ (l : List (List ℤ)). Contains l x) (sym e) (front_in before after h x c)) };
     } in
     let fits : suc (length before) ≤ length hs = omega (arith, ap length e, length-append before (h ∷ after)) in
-    let fb : BeginWithUnits n u before = λ i hi hl. subst (IsUnitRow n) (ap (λ (l : List (List ℤ)). get_or l i []) e ∙ get_or_append_left before (h ∷ after) [] i hl) (f i hi (omega (arith, fits, hl))) in
+    let fb : BeginWithUnits n u before = λ i hi hl. subst (IsUnitRow n) (ap (λ (l : List (List ℤ)). get_or l i []) e ∙ get_or_append_left before
+    (h ∷ after) [] i hl) (f i hi (omega (arith, fits, hl))) in
     let ch : Contains hs h = subst (λ (l : List (List ℤ)). Contains l h) (sym e) (middle_in before after h) in
     let q = reached_up n b u before lin rays hn hb zb fb r in
     let late : u ≤ length before → ⊥ = λ hu.
-    let up : next_bound n b m ≤ reached_bound n b (length hs - u) = mono (reached_bound n b) (λ i. reached_step n b i hn hb) (suc (length before - u)) (length hs - u) (omega (arith, fits, hu)) in
+    let up : next_bound n b m ≤ reached_bound n b (length hs - u) =
+    mono (reached_bound n b) (λ i. reached_step n b i hn hb) (suc (length before - u)) (length hs - u) (omega (arith, fits, hu)) in
     let has : next_bound n b m < 2 ^ 127 = omega (arith, up, room) in
-    no_row_step n b m (length before) h lin rays s (z.long h ch) (z.small.each h ch) q.first q.second (room_below n b m (reached_one n b (length before - u) hn hb) has) has k in
+    no_row_step n b m (length before) h lin rays s (z.long h ch) (z.small.each h ch) q.first q.second
+    (room_below n b m (reached_one n b (length before - u) hn hb) has) has k in
     elim (place (length before) u) [
       | less l ↦ late (omega (arith, l))
       | at l ↦ late (omega (arith, l))
       | more l ↦
-          let row : IsUnitRow n h = subst (IsUnitRow n) (ap (λ (l : List (List ℤ)). get_or l (length before) []) e ∙ at_middle before after h) (f (length before) l (omega (arith, fits))) in
-          let uh : UpTo 1 h = subst (UpTo 1) (sym row.is) (unitary_up _ ((units_unitary n).each _ (row.place, omega (arith, units_long n, row.inside), get_or_default (unit_vectors n) row.place _ [] (omega (arith, units_long n, row.inside))))) in
-          let w = reached_unitary n before lin rays (λ x c. subst (IsUnitRow n) (get_or_default before c.0 [] x c.1 ∙ c.2) (fb c.0 (omega (arith, c.1, l)) c.1)) r in
+          let row : IsUnitRow n h = subst (IsUnitRow n) (ap (λ (l : List (List ℤ)). get_or l (length before) []) e ∙ at_middle before after h)
+          (f (length before) l (omega (arith, fits))) in
+          let uh : UpTo 1 h = subst (UpTo 1) (sym row.is) (unitary_up _ ((units_unitary n).each _ (
+            row.place,
+            omega (arith, units_long n, row.inside),
+            get_or_default (unit_vectors n) row.place _ [] (omega (arith, units_long n, row.inside)),
+          ))) in
+          let w = reached_unitary n before lin rays (λ x c. subst (IsUnitRow n) (get_or_default before c.0 [] x c.1 ∙ c.2) (fb c.0 (omega (arith, c.1, l)) c.1))
+          r in
           let has = unit_step_room n b hn hb ends in
-          no_row_step n 1 1 (length before) h lin rays s (z.long h ch) uh (record { each = λ x c. unitary_up x (w.first.each x c) }) (record { each = λ x c. unitary_up x (w.second.each x c) }) (room_below n 1 1 (omega arith) has) has k
+          no_row_step n 1 1 (length before) h lin rays s (z.long h ch) uh (record { each = λ x c. unitary_up x (w.first.each x c) })
+          (record { each = λ x c. unitary_up x (w.second.each x c) }) (room_below n 1 1 (omega arith) has) has k
     ]
 no_reached_step n b u hs s hn hb z p f room ends (lineality lin rays r k) = no_orthogonalizing _ n lin s (zero_lines n hs lin rays p r) k
 no_reached_step n b u hs s hn hb z p f room ends (straight lin ortho rays y r o c k) =
     let l : length ortho ≡ 0 = orthogonal_none n lin ortho (zero_lines n hs lin rays p r) o in
     let q = append_long k.before k.after k.y in absurd (omega (arith, l, q, ap length k.parts))
 no_reached_step n b u hs s hn hb z p f room ends (echelon lin rays r k) =
-    no_elimination _ n 0 lin n n s (record { each = λ x c. subst (UpTo 0) (sym (zero_lines n hs lin rays p r x c)) (up_zeros 0 n) }) (inl (omega arith)) (let q = turned_none n in omega (arith, q)) k
+    no_elimination _ n 0 lin n n s (record { each = λ x c. subst (UpTo 0) (sym (zero_lines n hs lin rays p r x c)) (up_zeros 0 n) }) (inl (omega arith))
+    (let q = turned_none n in omega (arith, q)) k
 no_reached_step n b u hs s hn hb z p f room ends (implied flat c k) =
-    no_elimination _ n b (flat ++ []) n n s (record { each = λ x i. elim (Contains-append_cases flat [] x i) [ inl a ↦ z.small.each x (chosen_in (IsZeroOn n hs []) hs flat x c a) | inr a ↦ absurd (none_in x a) ] }) (inl (omega arith)) ends k
+    no_elimination _ n b (flat ++ []) n n s (record {
+      each = λ x i. elim (Contains-append_cases flat [] x i) [
+        | inl a ↦ z.small.each x (chosen_in (IsZeroOn n hs []) hs flat x c a)
+        | inr a ↦ absurd (none_in x a)
+      ];
+    }) (inl (omega arith)) ends k
 
 pub entry_up : (b : ℕ) (xs : List ℤ) → All (λ x. unsigned_abs x ≤ b) xs → UpTo b xs
 entry_up b xs h = record { at = λ i. at_place b xs i h }
@@ -688,13 +805,15 @@ orthant_rows n others w = all_by (λ t. length t ≡ n) (unit_vectors n ++ other
 ])
 
 unit_entries : (b : ℕ) (t : List ℤ) → 1 ≤ b → IsUnitary t → All (λ x. unsigned_abs x ≤ b) t
-unit_entries b t h u k d l = let q = one_up (entry_at t k) (u.values k) in subst (λ z. unsigned_abs z ≤ b) (get_or_default t k (pos 0) d l) (omega (arith, h, q))
+unit_entries b t h u k d l = let q = one_up (entry_at t k) (u.values k) in subst (λ z. unsigned_abs z ≤ b) (get_or_default t k (pos 0) d l)
+    (omega (arith, h, q))
 
 orthant_entries : (n b : ℕ) (others : List (List ℤ)) → 1 ≤ b → HaveEntriesUpTo b others → HaveEntriesUpTo b (unit_vectors n ++ others)
-orthant_entries n b others h u = all_by (All (λ x. unsigned_abs x ≤ b)) (unit_vectors n ++ others) (λ t c. elim (Contains-append_cases (unit_vectors n) others t c) [
-  | inl a ↦ unit_entries b t h ((units_unitary n).each t a)
-  | inr a ↦ All-contains (All (λ x. unsigned_abs x ≤ b)) others t u a
-])
+orthant_entries n b others h u =
+    all_by (All (λ x. unsigned_abs x ≤ b)) (unit_vectors n ++ others) (λ t c. elim (Contains-append_cases (unit_vectors n) others t c) [
+      | inl a ↦ unit_entries b t h ((units_unitary n).each t a)
+      | inr a ↦ All-contains (All (λ x. unsigned_abs x ≤ b)) others t u a
+    ])
 
 orthant_pointed : (n : ℕ) (others : List (List ℤ)) → IsPointed n (unit_vectors n ++ others)
 orthant_pointed n others x l f = all_zero n x l (λ i h.
@@ -707,8 +826,10 @@ orthant_begins n others k h l = record { place = k; inside = h; is = get_or_appe
 
 pub parts_of_orthants_stay_within_limits : PartsOfOrthantsStayWithinLimits
 parts_of_orthants_stay_within_limits n b others hn hb w u room ends =
-    small_systems_stay_within_limits n b n (unit_vectors n ++ others) hn hb (orthant_rows n others w) (orthant_entries n b others hb u) (orthant_pointed n others) (orthant_begins n others)
-    (subst (λ m. reached_bound n b m < 2 ^ 127) (let e : length others ≡ length (unit_vectors n ++ others) - n = omega (arith, units_long n, length-append (unit_vectors n) others) in e) room) ends
+    small_systems_stay_within_limits n b n (unit_vectors n ++ others) hn hb (orthant_rows n others w) (orthant_entries n b others hb u)
+    (orthant_pointed n others) (orthant_begins n others)
+    (subst (λ m. reached_bound n b m < 2 ^ 127) (let e : length others ≡ length (unit_vectors n ++ others) - n =
+    omega (arith, units_long n, length-append (unit_vectors n) others) in e) room) ends
 
 pub two_rows_of_three_variables : TwoRowsOfThreeVariables
 two_rows_of_three_variables g h w u = parts_of_orthants_stay_within_limits 3 30000 (g ∷ h ∷ []) (omega arith) (omega arith) w u (omega arith) (omega arith)

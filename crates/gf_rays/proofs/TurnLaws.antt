@@ -1,5 +1,6 @@
 -- A row that is zero in the column already: brought to zero there, it is itself divided by its content.
-use Rattle.std.proofs.Common.{◌≡◌, ℕ, ◌*◌, ◌<◌, List, [], ◌∷◌, length, ℤ, pos, ◌*ℤ◌, ◌<ℤ◌, neg_ℤ, unsigned_abs, ◌⊎◌, inl, inr, arith, sym, refl, ap, ap₂, ◌∙◌, subst}
+use Rattle.std.proofs.Common.{◌≡◌, ℕ, ◌*◌, ◌<◌, List, [], ◌∷◌, length, ℤ, pos, ◌*ℤ◌, ◌<ℤ◌, neg_ℤ, unsigned_abs, ◌⊎◌, inl, inr, arith, sym, refl, ap, ap₂, ◌∙◌}
+use Rattle.std.proofs.Common.{subst}
 use Rattle.std.proofs.lemmas.Int.{ints}
 use Rattle.std.proofs.lemmas.Bool.{cases_eq}
 use Rattle.gf_int_theory.specs.Content.{AllZero, scaled, quotients}
@@ -48,7 +49,8 @@ multiple_part k t u h p =
     d.multiple ∙ ap (scaled (pos k)) (sym p.1.multiple ∙ ap (λ z. scaled z u) en) ∙ scaled_twice k n u in
     let same : q ≡ u = elim (zero_or u) [
       | inl z ↦ times_cancel (pos c.0) q u d.positive (whole ∙ zero_scaled (pos k *ℤ pos n) (pos c.0) u z)
-      | inr nz ↦ primitive_same u q (pos c.0) (pos k *ℤ pos n) d.positive (product_positive k n h hn) whole (primitive_of t u p) (primitive_of w q (pos c.0, d)) nz
+      | inr nz ↦ primitive_same u q (pos c.0) (pos k *ℤ pos n) d.positive (product_positive k n h hn) whole (primitive_of t u p)
+          (primitive_of w q (pos c.0, d)) nz
     ] in
     subst (IsPrimitivePart w) same (pos c.0, d)
 
@@ -56,10 +58,12 @@ size_positive : (x : ℤ) → (x ≡ pos 0 → ⊥) → 0 < unsigned_abs x
 size_positive x n = omega (arith, ints, n)
 
 -- a row that is zero in the column
-pub turned_at_zero : (r t u : List ℤ) (j : ℕ) → length t ≡ length r → (entry_at r j ≡ pos 0 → ⊥) → signed_at r j t ≡ pos 0 → IsPrimitivePart t u → IsTurned r j t u
+pub turned_at_zero : (r t u : List ℤ) (j : ℕ) → length t ≡ length r → (entry_at r j ≡ pos 0 → ⊥) → signed_at r j t ≡ pos 0 → IsPrimitivePart t u →
+    IsTurned r j t u
 turned_at_zero r t u j l n e p =
     let k : ℕ = unsigned_abs (entry_at r j) in
     let h : 0 < k = size_positive (entry_at r j) n in
-    let flat : vector_sum (scaled (pos k) t) (scaled (pos 0) r) ≡ scaled (pos k) t = vsame (dn k ⊡ vv t l ⊞ dn 0 ⊡ vv r refl) (dn k ⊡ vv t l) (λ w. omega arith) in
+    let flat : vector_sum (scaled (pos k) t) (scaled (pos 0) r) ≡ scaled (pos k) t =
+    vsame (dn k ⊡ vv t l ⊞ dn 0 ⊡ vv r refl) (dn k ⊡ vv t l) (λ w. omega arith) in
     let z : neg_ℤ (signed_at r j t) ≡ pos 0 = ap neg_ℤ e in
     subst (λ x. IsPrimitivePart x u) (sym (ap (λ a. vector_sum (scaled (pos k) t) (scaled a r)) z ∙ flat)) (multiple_part k t u h p)

@@ -15,8 +15,10 @@ use Rattle.gf_rays.specs.Cones.{RowsAndRays}
 -- the lineality vectors and rays that one inequality behind so many makes of these: where it is zero on the lineality vectors it splits
 -- the rays, and those inside another one go; else all is brought along a lineality vector on which it isn't
 pub data IsTaken (h : List ℤ) (count : ℕ) (lin : List (List ℤ)) (rays : List Ray) : List (List ℤ) → List Ray → Type 0 where
-  by_split : (middle out : List Ray) → All (λ x. dot h x ≡ pos 0) lin → IsSplit h rays middle → IsPruned middle out → NoneInside out → IsTaken h count lin rays lin out
-  by_line : (i : ℕ) (l : List ℤ) (lines : List (List ℤ)) (next : List Ray) → IsLine h lin i l → IsLinedBy h l (remove lin i) rays count lines next → IsTaken h count lin rays lines next
+  by_split : (middle out : List Ray) → All (λ x. dot h x ≡ pos 0) lin → IsSplit h rays middle → IsPruned middle out → NoneInside out →
+      IsTaken h count lin rays lin out
+  by_line : (i : ℕ) (l : List ℤ) (lines : List (List ℤ)) (next : List Ray) → IsLine h lin i l → IsLinedBy h l (remove lin i) rays count lines next →
+      IsTaken h count lin rays lines next
 
 -- the lineality vectors and rays after these inequalities, behind so many: at first a basis and some rays
 pub data IsFurtherState (count : ℕ) (basis : List (List ℤ)) (start : List Ray) : List (List ℤ) → List (List ℤ) → List Ray → Type 0 where
@@ -44,7 +46,8 @@ pub record IsImplying (n : ℕ) (hs es : List (List ℤ)) (s : ConeOverflow) : T
 -- an operation at the end, where these are the lineality vectors and rays after all inequalities; its row is the number of the rows
 pub data IsEndStep (n : ℕ) (hs es lin : List (List ℤ)) (rays : List Ray) (s : ConeOverflow) : Type 0 where
   lineality : IsOrthogonalizing (length hs + length es) lin s → IsEndStep n hs es lin rays s
-  straight : (ortho : List (List ℤ)) (r : Ray) → IsOrthogonalized lin ortho → Contains rays r → IsStraightening (length hs + length es) ortho r.vector s → IsEndStep n hs es lin rays s
+  straight : (ortho : List (List ℤ)) (r : Ray) → IsOrthogonalized lin ortho → Contains rays r → IsStraightening (length hs + length es) ortho r.vector s →
+      IsEndStep n hs es lin rays s
   echelon : IsEliminationStep (length hs + length es) n lin n s → IsEndStep n hs es lin rays s
   implied : IsImplying n hs es s → IsEndStep n hs es lin rays s
 

@@ -1,5 +1,6 @@
 -- Systems of whose rays no operation leaves the range, by bounds on their rows.
-use Rattle.std.specs.Prelude.{◌≡◌, ℕ, zero, suc, ◌+◌, ◌*◌, ◌^◌, ◌<◌, ◌≤◌, ◌-◌, Bool, true, false, ◌&&◌, cond, ltb, slice_index_or, List, [], ◌∷◌, ◌++◌, ℤ, pos, length, Contains}
+use Rattle.std.specs.Prelude.{◌≡◌, ℕ, zero, suc, ◌+◌, ◌*◌, ◌^◌, ◌<◌, ◌≤◌, ◌-◌, Bool, true, false, ◌&&◌, cond, ltb, slice_index_or, List, [], ◌∷◌, ◌++◌, ℤ, pos}
+use Rattle.std.specs.Prelude.{length, Contains}
 use Rattle.gf_vec.specs.Vector.{dot, zeros}
 use Rattle.gf_gordan.specs.Alternative.{AreRows}
 use Rattle.gf_gordan.specs.Sizes.{HaveEntriesUpTo}
@@ -46,7 +47,8 @@ fits b = ltb b (2 ^ 127)
 -- at the end, of so many lineality vectors and perhaps some rays, with entries up to m
 abbrev pub ends_fit : ℕ → Bool → ℕ → ℕ → Bool
 ends_fit n some c m =
-    fits (n * (orthogonal_bound n m c * orthogonal_bound n m c)) && (cond some (fits (straight_bound n (orthogonal_bound n m c) c m)) true && fits (turned_bound m c))
+    fits (n * (orthogonal_bound n m c * orthogonal_bound n m c)) && (cond some (fits (straight_bound n (orthogonal_bound n m c) c m)) true && fits
+    (turned_bound m c))
 
 -- of so many rows with entries up to b behind such vectors: each row leaves the lineality vectors, or makes a ray of one of them
 abbrev pub rows_fit : ℕ → ℕ → ℕ → Bool → ℕ → ℕ → Bool
@@ -82,7 +84,8 @@ pub record IsSmallCone (n b m : ℕ) (c : RowsAndRays) : Type 0 where
 
 -- where there is room by these bounds, no operation of finding the rays leaves the range
 abbrev pub SystemsWithRoomStayWithinLimits : Type 0
-SystemsWithRoomStayWithinLimits = (n b : ℕ) (c : Rows) → 1 ≤ n → 1 ≤ b → IsSmallSystem n b c → has_room n b (length c.inequalities) ≡ true → AreRaysWithinLimits n c.inequalities c.equations
+SystemsWithRoomStayWithinLimits = (n b : ℕ) (c : Rows) → 1 ≤ n → 1 ≤ b → IsSmallSystem n b c → has_room n b (length c.inequalities) ≡ true →
+    AreRaysWithinLimits n c.inequalities c.equations
 
 -- there is room for three variables and no inequality with entries up to 3, one up to 2, two up to 1; for two variables and two up to 50
 abbrev pub SmallSystemsHaveRoom : Type 0
@@ -104,7 +107,8 @@ BeginWithUnits n count rows = (k : ℕ) → k < count → k < length rows → Is
 
 -- where these bounds have room for the rows behind the unit vectors, no operation of finding the rays leaves the range
 abbrev pub SmallSystemsStayWithinLimits : Type 0
-SmallSystemsStayWithinLimits = (n b count : ℕ) (rows : List (List ℤ)) → 1 ≤ n → 1 ≤ b → AreRows n rows → HaveEntriesUpTo b rows → IsPointed n rows → BeginWithUnits n count rows →
+SmallSystemsStayWithinLimits = (n b count : ℕ) (rows : List (List ℤ)) → 1 ≤ n → 1 ≤ b → AreRows n rows → HaveEntriesUpTo b rows → IsPointed n rows →
+    BeginWithUnits n count rows →
     reached_bound n b (length rows - count) < 2 ^ 127 → turned_bound b n < 2 ^ 127 → AreRaysWithinLimits n rows []
 
 -- so for the part of the positive orthant on which some more rows aren't negative
@@ -118,9 +122,11 @@ TwoRowsOfThreeVariables = (g h : List ℤ) → AreRows 3 (g ∷ h ∷ []) → Ha
 
 -- where there is room behind the rays of a cone, no operation of taking in more inequalities after them leaves the range
 abbrev pub FurtherRowsStayWithinLimits : Type 0
-FurtherRowsStayWithinLimits = (n b m : ℕ) (c : RowsAndRays) (more : List (List ℤ)) → 1 ≤ n → 1 ≤ b → 1 ≤ m → IsSmallCone n b m c → AreRows n more → HaveEntriesUpTo b more →
+FurtherRowsStayWithinLimits = (n b m : ℕ) (c : RowsAndRays) (more : List (List ℤ)) → 1 ≤ n → 1 ≤ b → 1 ≤ m → IsSmallCone n b m c → AreRows n more →
+    HaveEntriesUpTo b more →
     fits (turned_bound b n) ≡ true → rows_fit n b (length more) true (length c.lineality) m ≡ true → AreFurtherWithinLimits c more
 
 -- in three variables, behind vectors with entries up to 1, there is room for two rows up to 30000 where no lineality vector is, and up to 1000 where one is
 abbrev pub ConesHaveRoom : Type 0
-ConesHaveRoom = (rows_fit 3 30000 2 true 0 1 ≡ true) × (fits (turned_bound 30000 3) ≡ true) × (rows_fit 3 1000 2 true 1 1 ≡ true) × (fits (turned_bound 1000 3) ≡ true)
+ConesHaveRoom = (rows_fit 3 30000 2 true 0 1 ≡ true) × (fits (turned_bound 30000 3) ≡ true) × (rows_fit 3 1000 2 true 1 1 ≡ true) ×
+    (fits (turned_bound 1000 3) ≡ true)

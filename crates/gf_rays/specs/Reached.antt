@@ -26,15 +26,19 @@ pub data IsReachedState (n : ℕ) (es : List (List ℤ)) : List (List ℤ) → L
 -- in their order, those of the rows that have a property
 pub data AreChosen (P : List ℤ → Type 0) : List (List ℤ) → List (List ℤ) → Type 0 where
   none : AreChosen P [] []
-  taken : (rows out : List (List ℤ)) (t : List ℤ) (whole all : List (List ℤ)) → whole ≡ rows ++ t ∷ [] → all ≡ out ++ t ∷ [] → P t → AreChosen P rows out → AreChosen P whole all
+  taken : (rows out : List (List ℤ)) (t : List ℤ) (whole all : List (List ℤ)) → whole ≡ rows ++ t ∷ [] → all ≡ out ++ t ∷ [] → P t → AreChosen P rows out →
+      AreChosen P whole all
   left : (rows out : List (List ℤ)) (t : List ℤ) (whole : List (List ℤ)) → whole ≡ rows ++ t ∷ [] → (P t → ⊥) → AreChosen P rows out → AreChosen P whole out
 
 -- an operation of finding the rays of a cone: of the null space, of a row at the state before it, or at the state after all rows;
 -- those at no row have the number of the rows
 pub data IsRaysStep (n : ℕ) (hs es : List (List ℤ)) (s : ConeOverflow) : Type 0 where
   null_space : IsNullStep (length hs + length es) n es s → IsRaysStep n hs es s
-  taking : (before after lin : List (List ℤ)) (rays : List Ray) (h : List ℤ) → hs ≡ before ++ h ∷ after → IsReachedState n es before lin rays → IsRowStep (length before) h lin rays s → IsRaysStep n hs es s
+  taking : (before after lin : List (List ℤ)) (rays : List Ray) (h : List ℤ) → hs ≡ before ++ h ∷ after → IsReachedState n es before lin rays →
+      IsRowStep (length before) h lin rays s → IsRaysStep n hs es s
   lineality : (lin : List (List ℤ)) (rays : List Ray) → IsReachedState n es hs lin rays → IsOrthogonalizing (length hs + length es) lin s → IsRaysStep n hs es s
-  straight : (lin ortho : List (List ℤ)) (rays : List Ray) (r : Ray) → IsReachedState n es hs lin rays → IsOrthogonalized lin ortho → Contains rays r → IsStraightening (length hs + length es) ortho r.vector s → IsRaysStep n hs es s
-  echelon : (lin : List (List ℤ)) (rays : List Ray) → IsReachedState n es hs lin rays → IsEliminationStep (length hs + length es) n lin n s → IsRaysStep n hs es s
+  straight : (lin ortho : List (List ℤ)) (rays : List Ray) (r : Ray) → IsReachedState n es hs lin rays → IsOrthogonalized lin ortho → Contains rays r →
+      IsStraightening (length hs + length es) ortho r.vector s → IsRaysStep n hs es s
+  echelon : (lin : List (List ℤ)) (rays : List Ray) → IsReachedState n es hs lin rays → IsEliminationStep (length hs + length es) n lin n s →
+      IsRaysStep n hs es s
   implied : (flat : List (List ℤ)) → AreChosen (IsZeroOn n hs es) hs flat → IsEliminationStep (length hs + length es) n (flat ++ es) n s → IsRaysStep n hs es s

@@ -22,7 +22,8 @@ pub(crate) fn further(
 ) -> Result<Generators, GordanError>
     requires place { from ≤ length rows.now }
     requires state { (n : ℕ) × (es : List (List ℤ)) × (AreRows n rows.now × IsConeState n (take from rows.now) es start.lineality.items start.rays.items) }
-    ensures ok { IfOk result (λ g. (n : ℕ) (es : List (List ℤ)) → AreRows n rows.now → IsConeState n (take from rows.now) es start.lineality.items start.rays.items → IsConeState n rows.now es g.lineality.items g.rays.items) }
+    ensures ok { IfOk result (λ g. (n : ℕ) (es : List (List ℤ)) → AreRows n rows.now →
+        IsConeState n (take from rows.now) es start.lineality.items start.rays.items → IsConeState n rows.now es g.lineality.items g.rays.items) }
     ensures reached { IfOk result (λ g. IsFurtherState from start.lineality.items start.rays.items (drop from rows.now) g.lineality.items g.rays.items) }
     ensures err { IfErr result (Failed (IsFurtherRowStep from start.lineality.items start.rays.items (drop from rows.now))) }
 {

@@ -1,5 +1,6 @@
 //! Theorems on the operations of finding rays. The functions compute nothing: each one's contract is the theorem, so that the check proves it.
-ghost use Rattle.gf_rays.specs.Limits.{SystemsWithRoomStayWithinLimits, SmallSystemsHaveRoom, SmallSystemsStayWithinLimits, PartsOfOrthantsStayWithinLimits, TwoRowsOfThreeVariables, FurtherRowsStayWithinLimits, ConesHaveRoom};
+ghost use Rattle.gf_rays.specs.Limits.{SystemsWithRoomStayWithinLimits, SmallSystemsHaveRoom, SmallSystemsStayWithinLimits, PartsOfOrthantsStayWithinLimits};
+ghost use Rattle.gf_rays.specs.Limits.{TwoRowsOfThreeVariables, FurtherRowsStayWithinLimits, ConesHaveRoom};
 
 /// Where bounds on the rows have room, no operation of finding the rays of a pointed cone leaves the range; so for the part of the
 /// positive orthant on which some more rows aren't negative, as two rows with entries up to 30000 in three variables.

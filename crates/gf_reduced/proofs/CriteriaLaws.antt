@@ -43,17 +43,33 @@ either_zero (suc a) (suc b) m p q = absurd (omega (arith, p, q))
 pub coprime_by_test : (x y u a v m : Exponents) (r : Bool) → plus u x ≡ m → m ≡ join x y → a ≡ u → v ≡ y → r ≡ pointwise eqb a v → IsTrue r → AreCoprime x y
 coprime_by_test x y u a v m r p q j k e t i =
     let s : u ≡ y = sym j ∙ equal_by_test a v r e t ∙ k in
-    either_zero (entry x i) (entry y i) (entry m i) (sym (entry-plus y x i) ∙ ap (λ (z : Exponents). entry z i) (ap (λ (z : Exponents). plus z x) (sym s) ∙ p)) (ap (λ (z : Exponents). entry z i) q ∙ entry-join x y i)
+    either_zero (entry x i) (entry y i) (entry m i) (sym (entry-plus y x i) ∙ ap (λ (z : Exponents). entry z i) (ap (λ (z : Exponents). plus z x) (sym s) ∙ p))
+    (ap (λ (z : Exponents). entry z i) q ∙ entry-join x y i)
 
 -- ---- one pair
 
-pub excused_coprime : (bs : List MarkedPolynomial) (i j : ℕ) (b c : MarkedPolynomial) (x y : Exponents) → IsAt bs i b → IsAt bs j c → x ≡ b.head → y ≡ c.head → AreCoprime x y → IsPairExcused bs i j
-excused_coprime bs i j b c x y p q e f k = record { first = b; second = c; at_first = p; at_second = q; criterion = inl (subst (λ (z : Exponents). AreCoprime z c.head) e (subst (AreCoprime x) f k)) }
+pub excused_coprime : (bs : List MarkedPolynomial) (i j : ℕ) (b c : MarkedPolynomial) (x y : Exponents) → IsAt bs i b → IsAt bs j c → x ≡ b.head → y ≡ c.head →
+    AreCoprime x y → IsPairExcused bs i j
+excused_coprime bs i j b c x y p q e f k = record {
+  first = b;
+  second = c;
+  at_first = p;
+  at_second = q;
+  criterion = inl (subst (λ (z : Exponents). AreCoprime z c.head) e (subst (AreCoprime x) f k));
+}
 
-pub excused_divided : (bs : List MarkedPolynomial) (i j : ℕ) (b c : MarkedPolynomial) (x y m : Exponents) → IsAt bs i b → IsAt bs j c → x ≡ b.head → y ≡ c.head → m ≡ join x y → IsDividedBefore bs i m → IsPairExcused bs i j
-excused_divided bs i j b c x y m p q e f g d = record { first = b; second = c; at_first = p; at_second = q; criterion = inr (subst (IsDividedBefore bs i) (g ∙ ap (λ (z : Exponents). join z y) e ∙ ap (join b.head) f) d) }
+pub excused_divided : (bs : List MarkedPolynomial) (i j : ℕ) (b c : MarkedPolynomial) (x y m : Exponents) → IsAt bs i b → IsAt bs j c → x ≡ b.head →
+    y ≡ c.head → m ≡ join x y → IsDividedBefore bs i m → IsPairExcused bs i j
+excused_divided bs i j b c x y m p q e f g d = record {
+  first = b;
+  second = c;
+  at_first = p;
+  at_second = q;
+  criterion = inr (subst (IsDividedBefore bs i) (g ∙ ap (λ (z : Exponents). join z y) e ∙ ap (join b.head) f) d);
+}
 
-pub divided_before : (bs : List MarkedPolynomial) (i k : ℕ) (b : MarkedPolynomial) (h x : Exponents) → IsAt bs k b → k < i → h ≡ b.head → Divides h x → IsDividedBefore bs i x
+pub divided_before : (bs : List MarkedPolynomial) (i k : ℕ) (b : MarkedPolynomial) (h x : Exponents) → IsAt bs k b → k < i → h ≡ b.head → Divides h x →
+    IsDividedBefore bs i x
 divided_before bs i k b h x p l e d = record { place = k; before = l; member = b; at = p; divides = subst (λ (z : Exponents). Divides z x) e d }
 
 -- where an earlier mark divides that of the member at i, each pair of it with a later member is excused
@@ -78,10 +94,12 @@ redundant_passed bs i b x p e d j l h =
 
 -- ---- variables
 
-pub marks_long : (n : ℕ) (bs : List MarkedPolynomial) (i : ℕ) (b : MarkedPolynomial) (x : Exponents) → HaveVariables n bs → IsAt bs i b → HasMarkedTerm b → x ≡ b.head → length x ≡ n
+pub marks_long : (n : ℕ) (bs : List MarkedPolynomial) (i : ℕ) (b : MarkedPolynomial) (x : Exponents) → HaveVariables n bs → IsAt bs i b → HasMarkedTerm b →
+    x ≡ b.head → length x ≡ n
 marks_long n bs i b x v p m e = ap (λ (z : Exponents). length z) e ∙ member_length n i bs b v p m
 
-pub multiple_variables : (n : ℕ) (bs : List MarkedPolynomial) (x y m : Exponents) → HaveVariables n bs → length x ≡ n → length y ≡ n → m ≡ join x y → HaveVariables (length m) bs
+pub multiple_variables : (n : ℕ) (bs : List MarkedPolynomial) (x y m : Exponents) → HaveVariables n bs → length x ≡ n → length y ≡ n → m ≡ join x y →
+    HaveVariables (length m) bs
 multiple_variables n bs x y m v p q e = subst (λ (k : ℕ). HaveVariables k bs) (sym (join_length x y m (p ∙ sym q) e ∙ p)) v
 
 -- ---- the loops
@@ -113,12 +131,14 @@ module _ (n : ℕ) (w : List ℕ) (bs : List MarkedPolynomial) (v : AreInVariabl
   -- a pair whose S-polynomial has the normal form zero
   by_steps : (i j : ℕ) → Vanishes bs i j → Settled i j
   unfolding Settled
-  by_steps i j z b c p q = pair_by_steps n bs (lighter w) b c z.s [] v (lighter-strict w) m (member_contained bs i b p) (member_contained bs j c q) (s_at bs i j b c [] z p q) (normal_form-reached bs z.s [] z.normal_form.reached) (inl (λ x. refl))
+  by_steps i j z b c p q = pair_by_steps n bs (lighter w) b c z.s [] v (lighter-strict w) m (member_contained bs i b p) (member_contained bs j c q)
+      (s_at bs i j b c [] z p q) (normal_form-reached bs z.s [] z.normal_form.reached) (inl (λ x. refl))
 
   -- a pair that a criterion settles, where those of earlier members are settled
   by_criterion : (i j : ℕ) → i < j → ((k l : ℕ) → k < i → k < l → Settled k l) → IsPairExcused bs i j → Settled i j
   unfolding Settled
-  by_criterion i j l earlier e b c p q = subst (λ (x : MarkedPolynomial). IsSettledPair n bs (lighter w) x c) (members_equal bs i e.first b e.at_first p) (subst (λ (y : MarkedPolynomial). IsSettledPair n bs (lighter w) e.first y) (members_equal bs j e.second c e.at_second q) (at e.criterion))
+  by_criterion i j l earlier e b c p q = subst (λ (x : MarkedPolynomial). IsSettledPair n bs (lighter w) x c) (members_equal bs i e.first b e.at_first p)
+      (subst (λ (y : MarkedPolynomial). IsSettledPair n bs (lighter w) e.first y) (members_equal bs j e.second c e.at_second q) (at e.criterion))
     where
       one : Contains bs e.first
       one = member_contained bs i e.first e.at_first
@@ -131,7 +151,8 @@ module _ (n : ℕ) (w : List ℕ) (bs : List MarkedPolynomial) (v : AreInVariabl
       at (inr d) =
           let third : Contains bs d.member = member_contained bs d.place d.member d.at in
           pair_by_chain n bs (lighter w) e.first e.second d.member d.divides.rest v (lighter-strict w) m one two d.divides.product
-          (pair_turned n bs (lighter w) d.member e.first v (lighter-strict w) m third one (earlier d.place i d.before d.before d.member e.first d.at e.at_first))
+          (pair_turned n bs (lighter w) d.member e.first v (lighter-strict w) m third one
+          (earlier d.place i d.before d.before d.member e.first d.at e.at_first))
           (earlier d.place j d.before (omega (arith, d.before, l)) d.member e.second d.at e.at_second)
 
   -- the pairs of the member at k, where those of earlier members are settled
@@ -158,8 +179,10 @@ module _ (n : ℕ) (w : List ℕ) (bs : List MarkedPolynomial) (v : AreInVariabl
 
 -- ---- they make a Gröbner basis
 
-pub passed_groebner : (n : ℕ) (bs : List MarkedPolynomial) → HaveVariables n bs → IsRealisable n bs → AreAllPassed (map monic_of bs) → IsMarkedGroebnerBasis n bs
-passed_groebner n bs v r h = groebner_of_forms n bs v r (buchbergers_criterion.for_weight n r.0 (map monic_of bs) variables r.1 marked (all_settled n r.0 (map monic_of bs) variables marked h))
+pub passed_groebner : (n : ℕ) (bs : List MarkedPolynomial) → HaveVariables n bs → IsRealisable n bs → AreAllPassed (map monic_of bs) →
+    IsMarkedGroebnerBasis n bs
+passed_groebner n bs v r h = groebner_of_forms n bs v r (buchbergers_criterion.for_weight n r.0 (map monic_of bs) variables r.1 marked
+    (all_settled n r.0 (map monic_of bs) variables marked h))
   where
     variables : AreInVariables n (polys (map monic_of bs))
     variables = polys_variables n (map monic_of bs) (forms-variables n bs v)

@@ -46,7 +46,9 @@ monic_exact n f g v m d q = λ i. record { poly = terms i; head = q.head i }
 
     terms : g.poly ≡ times (reciprocal_ℚ (coefficient f.poly f.head)) [] f.poly
     terms =
-        descending_unique n g.poly (times (reciprocal_ℚ q.mark) [] f.poly) (q.variables.at n v) ((KeepsVariables-scaled (reciprocal_ℚ q.mark) f.poly (times (reciprocal_ℚ q.mark) [] f.poly) products).at n v) d.descending (IsDescending-scaled (reciprocal_ℚ q.mark) f.poly (times (reciprocal_ℚ q.mark) [] f.poly) m.descending products)
+        descending_unique n g.poly (times (reciprocal_ℚ q.mark) [] f.poly) (q.variables.at n v)
+        ((KeepsVariables-scaled (reciprocal_ℚ q.mark) f.poly (times (reciprocal_ℚ q.mark) [] f.poly) products).at n v) d.descending
+        (IsDescending-scaled (reciprocal_ℚ q.mark) f.poly (times (reciprocal_ℚ q.mark) [] f.poly) m.descending products)
         (λ x. q.quotients x ∙ sym (IsScaled-products (reciprocal_ℚ q.mark) f.poly (times (reciprocal_ℚ q.mark) [] f.poly) products x))
         ∙ ap (λ k. times (reciprocal_ℚ k) [] f.poly) (sym (term_coefficient n f.poly (record { coef = q.mark; mono = f.head }) v m.descending q.term))
 
@@ -97,7 +99,8 @@ form_canonical n b v m = record {
     k = coefficient b.poly b.head
 
 -- by a weight that gives the marks the forms are marked
-pub forms_marked_by : (w : List ℕ) (bs : List MarkedPolynomial) → ((b : MarkedPolynomial) → Contains bs b → IsRealisedBy w b) → AreMarked (lighter w) (map monic_of bs)
+pub forms_marked_by : (w : List ℕ) (bs : List MarkedPolynomial) → ((b : MarkedPolynomial) → Contains bs b → IsRealisedBy w b) →
+    AreMarked (lighter w) (map monic_of bs)
 forms_marked_by w bs r c q = let b = monic-from bs (map monic_of bs) (are_forms bs (λ d k. (r d k).there)) c q in monic_realised w b.0 c b.2 b.3 (r b.0 b.1)
 
 -- each form is that of a member
@@ -105,7 +108,8 @@ pub form_of : (bs : List MarkedPolynomial) (c : MarkedPolynomial) → Contains (
 form_of [] c q = absurd (omega (arith, q.1))
 form_of (d ∷ bs) c q = at (Contains-cases (monic_of d) c (map monic_of bs) q) (λ k. form_of bs c k)
   where
-    at : (monic_of d ≡ c) ⊎ Contains (map monic_of bs) c → (Contains (map monic_of bs) c → (b : MarkedPolynomial) × Contains bs b × (monic_of b ≡ c)) → (b : MarkedPolynomial) × Contains (d ∷ bs) b × (monic_of b ≡ c)
+    at : (monic_of d ≡ c) ⊎ Contains (map monic_of bs) c → (Contains (map monic_of bs) c → (b : MarkedPolynomial) × Contains bs b × (monic_of b ≡ c)) →
+        (b : MarkedPolynomial) × Contains (d ∷ bs) b × (monic_of b ≡ c)
     at (inl e) r = (d, Contains-here d bs, e)
     at (inr k) r = let b = r k in (b.0, Contains-there d b.0 bs b.1, b.2)
 
@@ -119,18 +123,22 @@ form_there (d ∷ bs) b q = at (Contains-cases d b bs q) (λ k. form_there bs b 
     at (inr k) r = Contains-there (monic_of d) (monic_of b) (map monic_of bs) (r k)
 
 -- a member that isn't made monic
-form_refused : (bs : List MarkedPolynomial) (i : ℕ) (b : MarkedPolynomial) (e : PolyError) → i < length bs → b ≡ get_or bs i b → IsMonicCause b e → IsFormRefusal bs e
+form_refused : (bs : List MarkedPolynomial) (i : ℕ) (b : MarkedPolynomial) (e : PolyError) → i < length bs → b ≡ get_or bs i b → IsMonicCause b e →
+    IsFormRefusal bs e
 form_refused bs i b (errors.Overflow o) l q h = record { member = b; contained = member_contained bs i b (member_at bs i b l q); cause = h }
 form_refused bs i b (errors.Exponent o) l q h = absurd h.cause
 form_refused bs i b errors.Memory l q h = tt
 
 -- ---- as the loop over the items of a set has it, which are bs
 
-pub item_refused : (bs items : List MarkedPolynomial) (i : ℕ) (b : MarkedPolynomial) (e : PolyError) → items ≡ bs → i < length items → b ≡ get_or items i b → IsMonicCause b e → IsFormRefusal bs e
+pub item_refused : (bs items : List MarkedPolynomial) (i : ℕ) (b : MarkedPolynomial) (e : PolyError) → items ≡ bs → i < length items → b ≡ get_or items i b →
+    IsMonicCause b e → IsFormRefusal bs e
 item_refused bs items i b e q l k h = subst (λ (cs : List MarkedPolynomial). IsFormRefusal cs e) q (form_refused items i b e l k h)
 
-pub forms_kept : (n k : ℕ) (bs items forms : List MarkedPolynomial) (i : ℕ) → k ≡ n → items ≡ bs → HaveVariables n bs → length items ≤ i → Forming items forms i → HaveVariables k forms
-forms_kept n k bs items forms i q e v l h = subst (λ (j : ℕ). HaveVariables j forms) (sym q) (subst (HaveVariables n) (sym ((Forming-end items forms i l h).0 ∙ ap (map monic_of) e)) (forms-variables n bs v))
+pub forms_kept : (n k : ℕ) (bs items forms : List MarkedPolynomial) (i : ℕ) → k ≡ n → items ≡ bs → HaveVariables n bs → length items ≤ i →
+    Forming items forms i → HaveVariables k forms
+forms_kept n k bs items forms i q e v l h = subst (λ (j : ℕ). HaveVariables j forms) (sym q)
+    (subst (HaveVariables n) (sym ((Forming-end items forms i l h).0 ∙ ap (map monic_of) e)) (forms-variables n bs v))
 
 pub forms_marked : (bs items forms : List MarkedPolynomial) (i : ℕ) → items ≡ bs → length items ≤ i → Forming items forms i → Each HasMarkedTerm bs
 forms_marked bs items forms i e l h = subst (Each HasMarkedTerm) e (Forming-end items forms i l h).1

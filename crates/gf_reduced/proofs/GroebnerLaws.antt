@@ -36,7 +36,8 @@ pub polys_variables : (n : ℕ) (bs : List MarkedPolynomial) → HaveVariables n
 polys_variables n bs v f c = at (Contains-marked bs f c)
   where
     at : ((b : MarkedPolynomial) × Contains bs b × (b.poly ≡ f)) → IsInVariables n f
-    at b = subst (λ (g : Terms). IsInVariables n g) b.2 (variables_by_terms n b.0.poly (contained_each (λ (b : MarkedPolynomial). HasVariables n b.poly) bs v b.0 b.1))
+    at b = subst (λ (g : Terms). IsInVariables n g) b.2 (variables_by_terms n b.0.poly (contained_each (λ (b : MarkedPolynomial). HasVariables n b.poly)
+        bs v b.0 b.1))
 
 -- ---- the monic forms
 
@@ -60,12 +61,20 @@ divisible_there bs x d = record { member = monic_of d.member; contained = form_t
 -- ---- pairs
 
 -- the S-polynomial of the members at i and j
-pub s_at : (bs : List MarkedPolynomial) (i j : ℕ) (b c : MarkedPolynomial) (r : Terms) (v : IsRemainderAt bs i j r) → IsAt bs i b → IsAt bs j c → IsSPolynomial b c v.s
-s_at bs i j b c r v p q = subst (λ (x : MarkedPolynomial). IsSPolynomial x c v.s) (members_equal bs i v.first b v.at_first p) (subst (λ (y : MarkedPolynomial). IsSPolynomial v.first y v.s) (members_equal bs j v.second c v.at_second q) v.is_s)
+pub s_at : (bs : List MarkedPolynomial) (i j : ℕ) (b c : MarkedPolynomial) (r : Terms) (v : IsRemainderAt bs i j r) → IsAt bs i b → IsAt bs j c →
+    IsSPolynomial b c v.s
+s_at bs i j b c r v p q = subst (λ (x : MarkedPolynomial). IsSPolynomial x c v.s) (members_equal bs i v.first b v.at_first p)
+    (subst (λ (y : MarkedPolynomial). IsSPolynomial v.first y v.s) (members_equal bs j v.second c v.at_second q) v.is_s)
 
 -- the monic forms are a Gröbner basis for a weight that gives the marks
-pub groebner_of_forms : (n : ℕ) (bs : List MarkedPolynomial) → HaveVariables n bs → (r : IsRealisable n bs) → IsGroebnerBasis n (polys (map monic_of bs)) r.0 (map monic_of bs) → IsMarkedGroebnerBasis n bs
-groebner_of_forms n bs v r basis = record { weight = r.0; positive = r.1; marks = r.2; initial = λ f k x t. divisible_back bs x (basis.basis.initial f (same_ideals.inside f k) x t) }
+pub groebner_of_forms : (n : ℕ) (bs : List MarkedPolynomial) → HaveVariables n bs → (r : IsRealisable n bs) →
+    IsGroebnerBasis n (polys (map monic_of bs)) r.0 (map monic_of bs) → IsMarkedGroebnerBasis n bs
+groebner_of_forms n bs v r basis = record {
+  weight = r.0;
+  positive = r.1;
+  marks = r.2;
+  initial = λ f k x t. divisible_back bs x (basis.basis.initial f (same_ideals.inside f k) x t);
+}
   where
     same_ideals : AreSameIdeal n (polys bs) (polys (map monic_of bs))
     same_ideals = forms_ideal n bs v (realised_there n bs r)
@@ -89,9 +98,11 @@ forms_basis n bs v g = basis_of_groebner n (polys forms) forms g.weight (record 
     same_ideals = forms_ideal n bs v (λ b k. (g.marks b k).there)
 
 -- so the normal form of each S-polynomial of two is zero
-pub failing_refutes : (n : ℕ) (bs : List MarkedPolynomial) (i j : ℕ) (r : Terms) → HaveVariables n bs → IsRemainderAt (map monic_of bs) i j r → r ≢ [] → IsMarkedGroebnerBasis n bs → ⊥
+pub failing_refutes : (n : ℕ) (bs : List MarkedPolynomial) (i j : ℕ) (r : Terms) → HaveVariables n bs → IsRemainderAt (map monic_of bs) i j r → r ≢ [] →
+    IsMarkedGroebnerBasis n bs → ⊥
 failing_refutes n bs i j r v p z g =
-    z (descending_unique n r [] (p.variables n kept) tt p.descending tt (remainder_zero n (polys forms) forms p.s r inside basis s_member (normal_form-reached forms p.s r p.normal_form.reached) p.normal_form.irreducible))
+    z (descending_unique n r [] (p.variables n kept) tt p.descending tt (remainder_zero n (polys forms) forms p.s r inside basis s_member
+    (normal_form-reached forms p.s r p.normal_form.reached) p.normal_form.irreducible))
   where
     forms : List MarkedPolynomial
     forms = map monic_of bs
@@ -115,16 +126,19 @@ failing_refutes n bs i j r v p z g =
     s_member =
         let one = member_contained forms i p.first p.at_first in
         let two = member_contained forms j p.second p.at_second in
-        member-s_polynomial n (polys forms) p.first p.second p.s inside (marked p.first one) (marked p.second two) (member p.first one) (member p.second two) p.is_s
+        member-s_polynomial n (polys forms) p.first p.second p.s inside (marked p.first one) (marked p.second two) (member p.first one) (member p.second two)
+        p.is_s
 
 -- ---- arranged
 
 -- in any order the members generate the same ideal
 permuted_ideal : (n : ℕ) (bs cs : List MarkedPolynomial) → HaveVariables n bs → IsPermutation bs cs → AreSameIdeal n (polys bs) (polys cs)
-permuted_ideal n bs cs v p = same_ideal n (polys bs) (polys cs) (polys_variables n bs v) (λ f k. polys_variables n bs v f (back f k)) (λ f k. member-generator n (polys cs) f (there f k)) (λ f k. member-generator n (polys bs) f (back f k))
+permuted_ideal n bs cs v p = same_ideal n (polys bs) (polys cs) (polys_variables n bs v) (λ f k. polys_variables n bs v f (back f k))
+    (λ f k. member-generator n (polys cs) f (there f k)) (λ f k. member-generator n (polys bs) f (back f k))
   where
     there : (f : Terms) → Contains (polys bs) f → Contains (polys cs) f
-    there f k = let b = Contains-marked bs f k in subst (λ (g : Terms). Contains (polys cs) g) b.2 (Contains-polys cs b.0 (Contains-permutation bs cs b.0 p b.1))
+    there f k = let b = Contains-marked bs f k in subst (λ (g : Terms). Contains (polys cs) g) b.2
+        (Contains-polys cs b.0 (Contains-permutation bs cs b.0 p b.1))
 
     back : (f : Terms) → Contains (polys cs) f → Contains (polys bs) f
     back f k = let c = Contains-marked cs f k in subst (λ (g : Terms). Contains (polys bs) g) c.2 (Contains-polys bs c.0 (members_from bs cs p c.0 c.1))
@@ -133,11 +147,13 @@ both_ideals : (n : ℕ) (fs gs hs : List Terms) → AreSameIdeal n fs gs → Are
 both_ideals n fs gs hs s t = record { inside = λ f m. t.inside f (s.inside f m); back = λ f m. s.back f (t.back f m) }
 
 -- the monic forms, arranged, are a basis of the ideal
-pub basis_of : (s t : MarkedPolynomials) → HaveVariables s.variables s.items → IsArranged (monic_set s) t → IsMarkedGroebnerBasis s.variables s.items → IsBasisOf s t
+pub basis_of : (s t : MarkedPolynomials) → HaveVariables s.variables s.items → IsArranged (monic_set s) t → IsMarkedGroebnerBasis s.variables s.items →
+    IsBasisOf s t
 basis_of s t v r g = record {
   marked = g;
   ideal = both_ideals s.variables (polys s.items) (polys forms) (polys t.items) (forms_ideal s.variables s.items v (λ b k. (g.marks b k).there)) permuted;
-  basis = subst (λ (n : ℕ). IsBasis n (polys t.items) t.items) (sym r.variables) (basis_along s.variables (polys forms) (polys t.items) t.items permuted (basis-arranged s.variables (polys forms) forms t.items r.members (forms_basis s.variables s.items v g)));
+  basis = subst (λ (n : ℕ). IsBasis n (polys t.items) t.items) (sym r.variables) (basis_along s.variables (polys forms) (polys t.items) t.items permuted
+      (basis-arranged s.variables (polys forms) forms t.items r.members (forms_basis s.variables s.items v g)));
 }
   where
     forms : List MarkedPolynomial

@@ -30,7 +30,8 @@ pub record IsPairAt (bs : List MarkedPolynomial) (i j : ℕ) (b c : MarkedPolyno
   pub first_monic : coefficient b.poly b.head ≡ one_ℚ
   pub second_monic : coefficient c.poly c.head ≡ one_ℚ
 
-pub pair_at : (bs : List MarkedPolynomial) (i j : ℕ) (b c : MarkedPolynomial) → HasSomeWeight bs → MembersShareVariables bs → i < length bs → j < length bs → b ≡ get_or bs i b → c ≡ get_or bs j c → IsPairAt bs i j b c
+pub pair_at : (bs : List MarkedPolynomial) (i j : ℕ) (b c : MarkedPolynomial) → HasSomeWeight bs → MembersShareVariables bs → i < length bs → j < length bs →
+    b ≡ get_or bs i b → c ≡ get_or bs j c → IsPairAt bs i j b c
 pair_at bs i j b c w v li lj ei ej =
     let at_i = member_at bs i b li ei in
     let at_j = member_at bs j c lj ej in
@@ -44,10 +45,12 @@ pair_at bs i j b c w v li lj ei ej =
       second_monic = (w.1 c (member_contained bs j c at_j)).monic;
     }
 
-pub pair_variables : (bs : List MarkedPolynomial) (i j : ℕ) (b c : MarkedPolynomial) (f : Terms) → IsPairAt bs i j b c → KeepsPairVariables b c f → HaveSameVariables f bs
+pub pair_variables : (bs : List MarkedPolynomial) (i j : ℕ) (b c : MarkedPolynomial) (f : Terms) → IsPairAt bs i j b c → KeepsPairVariables b c f →
+    HaveSameVariables f bs
 pair_variables bs i j b c f p k = record { n = p.n; poly = k.at p.n (p.are p.n p.each); members = p.each }
 
-pub remainder_of : (bs : List MarkedPolynomial) (i j : ℕ) (b c : MarkedPolynomial) (f r : Terms) → IsPairAt bs i j b c → IsSPolynomialOf b c f → KeepsPairVariables b c f → IsNormalForm bs f r → IsDescending r → KeepsVariables f r → IsRemainderAt bs i j r
+pub remainder_of : (bs : List MarkedPolynomial) (i j : ℕ) (b c : MarkedPolynomial) (f r : Terms) → IsPairAt bs i j b c → IsSPolynomialOf b c f →
+    KeepsPairVariables b c f → IsNormalForm bs f r → IsDescending r → KeepsVariables f r → IsRemainderAt bs i j r
 remainder_of bs i j b c f r p s k h d v = record {
   first = b;
   second = c;
@@ -62,14 +65,18 @@ remainder_of bs i j b c f r p s k h d v = record {
 
 -- ---- refusals
 
-pub s_refused : (bs : List MarkedPolynomial) (i j : ℕ) (b c : MarkedPolynomial) (e : PolyError) → IsPairAt bs i j b c → IsPairRefusal b c e → IsPairsRefusal bs e
+pub s_refused : (bs : List MarkedPolynomial) (i j : ℕ) (b c : MarkedPolynomial) (e : PolyError) → IsPairAt bs i j b c → IsPairRefusal b c e →
+    IsPairsRefusal bs e
 s_refused bs i j b c (errors.Overflow o) p h = IsPairCause.s_polynomial b c (member_contained bs i b p.first) (member_contained bs j c p.second) h
 s_refused bs i j b c (errors.Exponent o) p h = IsPairCause.s_polynomial b c (member_contained bs i b p.first) (member_contained bs j c p.second) h
 s_refused bs i j b c errors.Memory p h = tt
 
-pub reduction_refused : (bs : List MarkedPolynomial) (i j : ℕ) (b c : MarkedPolynomial) (f : Terms) (e : PolyError) → IsPairAt bs i j b c → IsSPolynomialOf b c f → IsReductionRefusal bs f e → IsPairsRefusal bs e
-reduction_refused bs i j b c f (errors.Overflow o) p s h = IsPairCause.reduction b c f (member_contained bs i b p.first) (member_contained bs j c p.second) (s_polynomial_of_monic b c f p.first_monic p.second_monic s) h
-reduction_refused bs i j b c f (errors.Exponent o) p s h = IsPairCause.reduction b c f (member_contained bs i b p.first) (member_contained bs j c p.second) (s_polynomial_of_monic b c f p.first_monic p.second_monic s) h
+pub reduction_refused : (bs : List MarkedPolynomial) (i j : ℕ) (b c : MarkedPolynomial) (f : Terms) (e : PolyError) → IsPairAt bs i j b c →
+    IsSPolynomialOf b c f → IsReductionRefusal bs f e → IsPairsRefusal bs e
+reduction_refused bs i j b c f (errors.Overflow o) p s h = IsPairCause.reduction b c f (member_contained bs i b p.first) (member_contained bs j c p.second)
+    (s_polynomial_of_monic b c f p.first_monic p.second_monic s) h
+reduction_refused bs i j b c f (errors.Exponent o) p s h = IsPairCause.reduction b c f (member_contained bs i b p.first) (member_contained bs j c p.second)
+    (s_polynomial_of_monic b c f p.first_monic p.second_monic s) h
 reduction_refused bs i j b c f errors.Memory p s h = tt
 
 -- ---- the loops

@@ -19,7 +19,9 @@ use Rattle.gf_reduced.specs.Forms.{monic_of, IsFormRefusal}
 use Rattle.gf_reduced.specs.Markings.{IsMarkingStep, IsMarkedGroebnerBasis, IsRealisableBeside}
 use Rattle.gf_reduced.specs.Terms.{printed_monomials, IsOffending, NoneOffends, IsFirstOffending, AreReduced}
 use Rattle.gf_exponents_theory.specs.Exponents.{Exponents}
-use Rattle.gf_reduced.specs.Refusals.{check_of_gordan, of_poly, IsPairsRefusal, IsPairsFault, IsTermsFault, IsSetWeightRefusal, IsTestCause, IsTestRefusal, IsRequireCause, IsPairedRefusal, IsReducedBasisRefusal, IsReducedRefusal, IsSystemWithinLimits, AreChecksWithinLimits, IsReductionWithinLimits, IsWeightRefusalBeside, IsReducedRefusalBeside, AreChecksWithinLimitsBeside}
+use Rattle.gf_reduced.specs.Refusals.{check_of_gordan, of_poly, IsPairsRefusal, IsPairsFault, IsTermsFault, IsSetWeightRefusal, IsTestCause, IsTestRefusal}
+use Rattle.gf_reduced.specs.Refusals.{IsRequireCause, IsPairedRefusal, IsReducedBasisRefusal, IsReducedRefusal, IsSystemWithinLimits, AreChecksWithinLimits}
+use Rattle.gf_reduced.specs.Refusals.{IsReductionWithinLimits, IsWeightRefusalBeside, IsReducedRefusalBeside, AreChecksWithinLimitsBeside}
 use Rattle.gf_reduced.proofs.GroebnerLaws.{failing_refutes}
 use Rattle.gf_reduced.proofs.WeightLaws.{realised_beside, weight_refused_alone}
 
@@ -34,14 +36,16 @@ form_tested s (errors.Overflow o) r h = IsTestCause.monic r h
 form_tested s (errors.Exponent o) r h = IsTestCause.monic r h
 form_tested s errors.Memory r h = tt
 
-pub pairs_tested : (s : MarkedPolynomials) (forms : List MarkedPolynomial) (e : PolyError) → forms ≡ map monic_of s.items → IsRealisable s.variables s.items → IsPairsRefusal forms e → IsTestRefusal s (of_poly e)
+pub pairs_tested : (s : MarkedPolynomials) (forms : List MarkedPolynomial) (e : PolyError) → forms ≡ map monic_of s.items → IsRealisable s.variables s.items →
+    IsPairsRefusal forms e → IsTestRefusal s (of_poly e)
 pairs_tested s forms (errors.Overflow o) q r h = IsTestCause.pairs r (subst (λ (fs : List MarkedPolynomial). IsPairsRefusal fs (errors.Overflow o)) q h)
 pairs_tested s forms (errors.Exponent o) q r h = IsTestCause.pairs r (subst (λ (fs : List MarkedPolynomial). IsPairsRefusal fs (errors.Exponent o)) q h)
 pairs_tested s forms errors.Memory q r h = tt
 
 -- ---- the calls that take a set or refuse it
 
-pub pairs_required : (P : Type 0) (k : ℕ) (s : MarkedPolynomials) (forms : List MarkedPolynomial) (e : CheckError) → forms ≡ map monic_of s.items → IsRealisable s.variables s.items → P → IsPairsFault k forms e → IsPairedRefusal P k s e
+pub pairs_required : (P : Type 0) (k : ℕ) (s : MarkedPolynomials) (forms : List MarkedPolynomial) (e : CheckError) → forms ≡ map monic_of s.items →
+    IsRealisable s.variables s.items → P → IsPairsFault k forms e → IsPairedRefusal P k s e
 pairs_required P k s forms e q r p h = at e (subst (λ (fs : List MarkedPolynomial). IsPairsFault k fs e) q h)
   where
     at : (e : CheckError) → IsPairsFault k (map monic_of s.items) e → IsPairedRefusal P k s e
@@ -64,7 +68,8 @@ reduced_of_paired k s (check_errors.Cone o) h = h
 reduced_of_paired k s check_errors.Memory h = tt
 
 -- and by a term
-pub terms_required : (k : ℕ) (s : MarkedPolynomials) (items : List MarkedPolynomial) (e : CheckError) → items ≡ s.items → IsRealisable s.variables s.items → IsTermsFault k items e → IsReducedRefusal k s e
+pub terms_required : (k : ℕ) (s : MarkedPolynomials) (items : List MarkedPolynomial) (e : CheckError) → items ≡ s.items → IsRealisable s.variables s.items →
+    IsTermsFault k items e → IsReducedRefusal k s e
 terms_required k s items e q r h = at e (subst (λ (bs : List MarkedPolynomial). IsTermsFault k bs e) q h)
   where
     at : (e : CheckError) → IsTermsFault k s.items e → IsReducedRefusal k s e
@@ -78,7 +83,8 @@ terms_required k s items e q r h = at e (subst (λ (bs : List MarkedPolynomial).
 
 -- ---- within limits
 
-pub weight_memory : (k : ℕ) (s : MarkedPolynomials) (e : CheckError) → IsRealisable s.variables s.items → IsSystemWithinLimits s → IsSetWeightRefusal k s e → e ≡ check_errors.Memory
+pub weight_memory : (k : ℕ) (s : MarkedPolynomials) (e : CheckError) → IsRealisable s.variables s.items → IsSystemWithinLimits s → IsSetWeightRefusal k s e →
+    e ≡ check_errors.Memory
 weight_memory k s (check_errors.Overflow o) r w h = elim h [ ]
 weight_memory k s (check_errors.Exponent o) r w h = elim h [ ]
 weight_memory k s (check_errors.NotReduced set i x) r w h = elim h [ ]
@@ -87,7 +93,8 @@ weight_memory k s (check_errors.Inconsistent set ms) r w h = absurd (h.1.none r)
 weight_memory k s (check_errors.Cone o) r w h = absurd (w o h)
 weight_memory k s check_errors.Memory r w h = refl
 
-pub weight_only_memory : {A : Type 0} (k : ℕ) (s : MarkedPolynomials) (t : Result A CheckError) → IfErr t (IsSetWeightRefusal k s) → IsRealisable s.variables s.items → IsSystemWithinLimits s → IfErr t (λ e. e ≡ check_errors.Memory)
+pub weight_only_memory : {A : Type 0} (k : ℕ) (s : MarkedPolynomials) (t : Result A CheckError) → IfErr t (IsSetWeightRefusal k s) →
+    IsRealisable s.variables s.items → IsSystemWithinLimits s → IfErr t (λ e. e ≡ check_errors.Memory)
 weight_only_memory k s (Ok a) h r w = h
 weight_only_memory k s (Err e) h r w = weight_memory k s e r w h
 
@@ -104,7 +111,8 @@ test_memory s (check_errors.Inconsistent set ms) w h = elim h [ ]
 test_memory s (check_errors.Cone o) w h = absurd (w.system o h)
 test_memory s check_errors.Memory w h = refl
 
-pub test_only_memory : {A : Type 0} (s : MarkedPolynomials) (t : Result A CheckError) → IfErr t (IsTestRefusal s) → AreChecksWithinLimits s → IfErr t (λ e. e ≡ check_errors.Memory)
+pub test_only_memory : {A : Type 0} (s : MarkedPolynomials) (t : Result A CheckError) → IfErr t (IsTestRefusal s) → AreChecksWithinLimits s →
+    IfErr t (λ e. e ≡ check_errors.Memory)
 test_only_memory s (Ok a) h w = h
 test_only_memory s (Err e) h w = test_memory s e w h
 
@@ -112,7 +120,8 @@ require_cause_never : (P : Type 0) (s : MarkedPolynomials) (e : PolyError) → A
 require_cause_never P s e w (IsRequireCause.monic h) = w.forms e h
 require_cause_never P s e w (IsRequireCause.pairs r p h) = w.pairs e h
 
-pub paired_memory : (P : Type 0) (k : ℕ) (s : MarkedPolynomials) (e : CheckError) → HaveVariables s.variables s.items → AreChecksWithinLimits s → IsMarkedGroebnerBasis s.variables s.items → IsPairedRefusal P k s e → e ≡ check_errors.Memory
+pub paired_memory : (P : Type 0) (k : ℕ) (s : MarkedPolynomials) (e : CheckError) → HaveVariables s.variables s.items → AreChecksWithinLimits s →
+    IsMarkedGroebnerBasis s.variables s.items → IsPairedRefusal P k s e → e ≡ check_errors.Memory
 paired_memory P k s (check_errors.Overflow o) v w g h = let z = require_cause_never P s (errors.Overflow o) w h in absurd (cc)
 paired_memory P k s (check_errors.Exponent o) v w g h = let z = require_cause_never P s (errors.Exponent o) w h in absurd (cc)
 paired_memory P k s (check_errors.NotReduced set i x) v w g h = elim h [ ]
@@ -122,7 +131,8 @@ paired_memory P k s (check_errors.Cone o) v w g h = absurd (w.system o h)
 paired_memory P k s check_errors.Memory v w g h = refl
 
 -- what is the first of a list isn't excluded in it
-pub not_excluded : (bs : List MarkedPolynomial) (i : ℕ) (b : MarkedPolynomial) (x : Exponents) (earlier later xs : List Exponents) → xs ≡ earlier ++ x ∷ later → NoneOffends bs i b xs → IsOffending bs i b x → ⊥
+pub not_excluded : (bs : List MarkedPolynomial) (i : ℕ) (b : MarkedPolynomial) (x : Exponents) (earlier later xs : List Exponents) → xs ≡ earlier ++ x ∷ later →
+    NoneOffends bs i b xs → IsOffending bs i b x → ⊥
 not_excluded bs i b x earlier later xs e n o = at earlier (subst (NoneOffends bs i b) e n)
   where
     at : (ys : List Exponents) → NoneOffends bs i b (ys ++ x ∷ later) → ⊥
@@ -130,9 +140,11 @@ not_excluded bs i b x earlier later xs e n o = at earlier (subst (NoneOffends bs
     at (y ∷ ys) n = at ys n.1
 
 pub no_first : (bs : List MarkedPolynomial) (i : ℕ) (x : Exponents) → AreReduced bs → IsFirstOffending bs i x → ⊥
-no_first bs i x a f = not_excluded bs i f.first.member x f.first.earlier f.first.later (printed_monomials f.first.member) f.first.printed (a i f.first.member f.first.at) f.first.offends
+no_first bs i x a f = not_excluded bs i f.first.member x f.first.earlier f.first.later (printed_monomials f.first.member) f.first.printed
+    (a i f.first.member f.first.at) f.first.offends
 
-pub reduced_memory : (k : ℕ) (s : MarkedPolynomials) (e : CheckError) → HaveVariables s.variables s.items → AreChecksWithinLimits s → IsMarkedGroebnerBasis s.variables s.items → AreReduced s.items → IsReducedRefusal k s e → e ≡ check_errors.Memory
+pub reduced_memory : (k : ℕ) (s : MarkedPolynomials) (e : CheckError) → HaveVariables s.variables s.items → AreChecksWithinLimits s →
+    IsMarkedGroebnerBasis s.variables s.items → AreReduced s.items → IsReducedRefusal k s e → e ≡ check_errors.Memory
 reduced_memory k s (check_errors.Overflow o) v w g a h = paired_memory (AreReduced s.items) k s (check_errors.Overflow o) v w g h
 reduced_memory k s (check_errors.Exponent o) v w g a h = paired_memory (AreReduced s.items) k s (check_errors.Exponent o) v w g h
 reduced_memory k s (check_errors.NotReduced set i x) v w g a h = absurd (no_first s.items i x a h.2)
@@ -141,15 +153,19 @@ reduced_memory k s (check_errors.Inconsistent set ms) v w g a h = paired_memory 
 reduced_memory k s (check_errors.Cone o) v w g a h = paired_memory (AreReduced s.items) k s (check_errors.Cone o) v w g h
 reduced_memory k s check_errors.Memory v w g a h = refl
 
-pub basis_only_memory : {A : Type 0} (k : ℕ) (s : MarkedPolynomials) (t : Result A CheckError) → HaveVariables s.variables s.items → IfErr t (IsReducedBasisRefusal k s) → AreChecksWithinLimits s → IsMarkedGroebnerBasis s.variables s.items → IfErr t (λ e. e ≡ check_errors.Memory)
+pub basis_only_memory : {A : Type 0} (k : ℕ) (s : MarkedPolynomials) (t : Result A CheckError) → HaveVariables s.variables s.items →
+    IfErr t (IsReducedBasisRefusal k s) → AreChecksWithinLimits s → IsMarkedGroebnerBasis s.variables s.items → IfErr t (λ e. e ≡ check_errors.Memory)
 basis_only_memory k s (Ok a) v h w g = h
 basis_only_memory k s (Err e) v h w g = paired_memory (Unit {0}) k s e v w g h
 
-pub reduced_only_memory : {A : Type 0} (k : ℕ) (s : MarkedPolynomials) (t : Result A CheckError) → HaveVariables s.variables s.items → IfErr t (IsReducedRefusal k s) → AreChecksWithinLimits s → IsMarkedGroebnerBasis s.variables s.items → AreReduced s.items → IfErr t (λ e. e ≡ check_errors.Memory)
+pub reduced_only_memory : {A : Type 0} (k : ℕ) (s : MarkedPolynomials) (t : Result A CheckError) → HaveVariables s.variables s.items →
+    IfErr t (IsReducedRefusal k s) → AreChecksWithinLimits s → IsMarkedGroebnerBasis s.variables s.items → AreReduced s.items →
+    IfErr t (λ e. e ≡ check_errors.Memory)
 reduced_only_memory k s (Ok a) v h w g q = h
 reduced_only_memory k s (Err e) v h w g q = reduced_memory k s e v w g q h
 
-pub reduction_only_memory : {A : Type 0} (bs : List MarkedPolynomial) (f : Terms) (t : Result A PolyError) → IfErr t (IsReductionRefusal bs f) → IsReductionWithinLimits bs f → IfErr t (λ e. e ≡ errors.Memory)
+pub reduction_only_memory : {A : Type 0} (bs : List MarkedPolynomial) (f : Terms) (t : Result A PolyError) → IfErr t (IsReductionRefusal bs f) →
+    IsReductionWithinLimits bs f → IfErr t (λ e. e ≡ errors.Memory)
 reduction_only_memory bs f (Ok a) h w = h
 reduction_only_memory bs f (Err e) h w = w e h
 
@@ -170,14 +186,16 @@ weight_alone k s (check_errors.Cone o) h = h
 weight_alone k s check_errors.Memory h = tt
 
 -- where no rows are beside
-pub refused_alone : (k : ℕ) (s : MarkedPolynomials) (e : CheckError) → HaveVariables s.variables s.items → Each HasMarkedTerm s.items → IsReducedRefusalBeside [] k s e → IsReducedRefusal k s e
+pub refused_alone : (k : ℕ) (s : MarkedPolynomials) (e : CheckError) → HaveVariables s.variables s.items → Each HasMarkedTerm s.items →
+    IsReducedRefusalBeside [] k s e → IsReducedRefusal k s e
 refused_alone k s e v m (IsReducedRefusalBeside.at_forms d h q) = subst (IsReducedRefusal k s) (sym q) (forms_alone k s d h)
 refused_alone k s e v m (IsReducedRefusalBeside.at_weight h) = weight_alone k s e (weight_refused_alone k s e v m h)
 refused_alone k s e v m (IsReducedRefusalBeside.at_terms r h) = terms_required k s s.items e refl (realised_beside s.variables [] s.items v m r) h
 refused_alone k s e v m (IsReducedRefusalBeside.at_pairs r u h) =
     reduced_of_paired k s e (pairs_required (AreReduced s.items) k s (map monic_of s.items) e refl (realised_beside s.variables [] s.items v m r) u h)
 
-module _ (rows : List (List ℤ)) (k : ℕ) (s : MarkedPolynomials) (v : HaveVariables s.variables s.items) (w : AreChecksWithinLimitsBeside rows s) (r : IsRealisableBeside s.variables rows s.items)
+module _ (rows : List (List ℤ)) (k : ℕ) (s : MarkedPolynomials) (v : HaveVariables s.variables s.items) (w : AreChecksWithinLimitsBeside rows s)
+    (r : IsRealisableBeside s.variables rows s.items)
     (g : IsMarkedGroebnerBasis s.variables s.items) (a : AreReduced s.items) where
   weight_beside_memory : (e : CheckError) → IsWeightRefusalBeside rows k s e → e ≡ check_errors.Memory
   weight_beside_memory (check_errors.Overflow o) h = absurd h
@@ -212,7 +230,8 @@ module _ (rows : List (List ℤ)) (k : ℕ) (s : MarkedPolynomials) (v : HaveVar
   beside_memory e (IsReducedRefusalBeside.at_terms b h) = terms_beside_memory e h
   beside_memory e (IsReducedRefusalBeside.at_pairs b u h) = pairs_beside_memory e h
 
-pub beside_only_memory : {A : Type 0} (rows : List (List ℤ)) (k : ℕ) (s : MarkedPolynomials) (t : Result A CheckError) → HaveVariables s.variables s.items → IfErr t (IsReducedRefusalBeside rows k s) → AreChecksWithinLimitsBeside rows s →
-    IsRealisableBeside s.variables rows s.items → IsMarkedGroebnerBasis s.variables s.items → AreReduced s.items → IfErr t (λ e. e ≡ check_errors.Memory)
+pub beside_only_memory : {A : Type 0} (rows : List (List ℤ)) (k : ℕ) (s : MarkedPolynomials) (t : Result A CheckError) → HaveVariables s.variables s.items →
+    IfErr t (IsReducedRefusalBeside rows k s) → AreChecksWithinLimitsBeside rows s → IsRealisableBeside s.variables rows s.items →
+    IsMarkedGroebnerBasis s.variables s.items → AreReduced s.items → IfErr t (λ e. e ≡ check_errors.Memory)
 beside_only_memory rows k s (Ok a) v h w r g q = h
 beside_only_memory rows k s (Err e) v h w r g q = beside_memory rows k s v w r g q e h

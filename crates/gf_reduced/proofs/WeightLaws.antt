@@ -1,6 +1,7 @@
 -- What an elimination of the system of a marking answers: a solution is a positive weight that gives the marks, and multipliers
 -- show that there is none. The system's laws stand in gf_facets_theory.
--- To cite: realised_beside, realisable_beside, rows_beside, answer_beside, step_beside; answer_alone, inconsistent_alone, answers_alone, weight_refused_alone; found_beside,
+-- To cite: realised_beside, realisable_beside, rows_beside, answer_beside, step_beside; answer_alone, inconsistent_alone, answers_alone, weight_refused_alone;
+-- found_beside,
 -- refused_beside, step_refused_beside; step_refused, found_gives, found_realisable, found_inconsistent, weight_yes, weight_no. The rest are steps.
 use Rattle.std.specs.Prelude.{◌≡◌, ◌↔◌, ℕ, ◌+◌, true, false, List, [], ◌∷◌, ◌++◌, length, ℤ, pos, ◌<ℤ◌, Contains, IsTrue, Result, Ok, Err, IfOk}
 use Rattle.std.proofs.Common.{arith, refl, sym, subst}
@@ -25,7 +26,8 @@ use Rattle.gf_facets_theory.specs.MarkedBases.{AreCanonical}
 use Rattle.gf_facets_theory.proofs.ConeLaws.{rows_open, open_by_rows}
 use Rattle.gf_facets_theory.proofs.SystemLaws.{region_rows_wide, rows_of_region, region_of_rows, canonical_all, marked_system_wide, whole_of, whole-in_region}
 use Rattle.gf_facets_theory.proofs.SystemLaws.{open_of_weight, realisable_of_solution}
-use Rattle.gf_reduced.specs.Markings.{GivesMarks, IsInconsistent, IsWeightAnswer, IsMarkingStep, cut_by, system_beside, IsRealisableBeside, IsInconsistentBeside, IsAnswerBeside, IsStepBeside}
+use Rattle.gf_reduced.specs.Markings.{GivesMarks, IsInconsistent, IsWeightAnswer, IsMarkingStep, cut_by, system_beside, IsRealisableBeside}
+use Rattle.gf_reduced.specs.Markings.{IsInconsistentBeside, IsAnswerBeside, IsStepBeside}
 use Rattle.gf_reduced.specs.Refusals.{check_of_gordan, IsSetWeightRefusal, IsWeightRefusalBeside}
 use Rattle.gf_reduced.specs.declared.error.CheckError.{CheckError}
 use Rattle.gf_reduced.specs.declared.error.CheckError.TheVariants as check_errors
@@ -38,7 +40,8 @@ module _ (n : ℕ) (beside : List (List ℤ)) (bs : List MarkedPolynomial) (h : 
 
   wide : AreRows n beside → AreRows n (system_beside n beside bs)
   wide w = All-append (λ t. length t ≡ n) (rows_of_polynomials bs) (beside ++ units n n)
-      (all_by (λ t. length t ≡ n) (rows_of_polynomials bs) (λ t c. All-contains (λ t. length t ≡ n) (system_of n bs) t (marked_system_wide n bs h m) (Contains-append_left (rows_of_polynomials bs) (units n n) t c)))
+      (all_by (λ t. length t ≡ n) (rows_of_polynomials bs) (λ t c. All-contains (λ t. length t ≡ n) (system_of n bs) t (marked_system_wide n bs h m)
+      (Contains-append_left (rows_of_polynomials bs) (units n n) t c)))
       (region_rows_wide n (cut_by beside) w)
 
   -- its solutions are the vectors on which the rows are positive and that give the marks
@@ -52,7 +55,8 @@ module _ (n : ℕ) (beside : List (List ℤ)) (bs : List MarkedPolynomial) (h : 
 
   inside : (v : List ℤ) → IsSolution n (system_beside n beside bs) [] v → IsInRegion n (cut_by beside) v × IsInOpenCone v bs
   inside v s = (
-    region_of_rows n (cut_by beside) v s.width (all_by (λ t. pos 0 <ℤ dot t v) (beside ++ units n n) (λ t c. row t (Contains-append_right (rows_of_polynomials bs) (beside ++ units n n) t c))),
+    region_of_rows n (cut_by beside) v s.width (all_by (λ t. pos 0 <ℤ dot t v) (beside ++ units n n)
+        (λ t c. row t (Contains-append_right (rows_of_polynomials bs) (beside ++ units n n) t c))),
     open_by_rows n bs v canonical (λ t c. row t (Contains-append_left (rows_of_polynomials bs) (beside ++ units n n) t c)),
   )
     where
@@ -62,7 +66,8 @@ module _ (n : ℕ) (beside : List (List ℤ)) (bs : List MarkedPolynomial) (h : 
   pub rows_beside : (k : ℕ) (all : List (List ℤ)) → k ≡ n → AreRows n beside → all ≡ system_beside n beside bs → AreRows k all
   rows_beside k all q w e = subst (λ (j : ℕ). AreRows j all) (sym q) (subst (AreRows n) (sym e) (wide w))
 
-  pub answer_beside : (k : ℕ) (all : List (List ℤ)) (a : Answer) → GordansAlternative → AreRows n beside → all ≡ system_beside n beside bs → k ≡ n → IsAlternative k all [] a → IsAnswerBeside n beside bs a
+  pub answer_beside : (k : ℕ) (all : List (List ℤ)) (a : Answer) → GordansAlternative → AreRows n beside → all ≡ system_beside n beside bs → k ≡ n →
+      IsAlternative k all [] a → IsAnswerBeside n beside bs a
   answer_beside k all (Point v) g w e q p = inside v (subst (λ (r : List (List ℤ)). IsSolution n r [] v) e (subst (λ (j : ℕ). IsSolution j all [] v) q p))
   answer_beside k all (Farkas ms es) g w e q p = record {
     multipliers = subst (IsFarkas n (system_beside n beside bs) [] ms) (no_multipliers es f.equations_len) f;
@@ -77,9 +82,14 @@ module _ (n : ℕ) (beside : List (List ℤ)) (bs : List MarkedPolynomial) (h : 
       no_multipliers (x ∷ es) e = absurd (omega (arith, e))
 
 -- a weight on which other rows are positive is one
-pub realised_beside : (n : ℕ) (beside : List (List ℤ)) (bs : List MarkedPolynomial) → HaveVariables n bs → Each HasMarkedTerm bs → IsRealisableBeside n beside bs → IsRealisable n bs
+pub realised_beside : (n : ℕ) (beside : List (List ℤ)) (bs : List MarkedPolynomial) → HaveVariables n bs → Each HasMarkedTerm bs →
+    IsRealisableBeside n beside bs → IsRealisable n bs
 realised_beside n beside bs h m r =
-    realisable_of_solution n bs r.weight h m (solution n [] bs h m r.weight (record { width = r.inside.width; positive = r.inside.positive; rows = All-nil (λ c. pos 0 <ℤ dot c r.weight) }) r.marks)
+    realisable_of_solution n bs r.weight h m (solution n [] bs h m r.weight (record {
+      width = r.inside.width;
+      positive = r.inside.positive;
+      rows = All-nil (λ c. pos 0 <ℤ dot c r.weight);
+    }) r.marks)
 
 -- and each weight is one on which no rows are positive
 pub realisable_beside : (n : ℕ) (bs : List MarkedPolynomial) → HaveVariables n bs → Each HasMarkedTerm bs → IsRealisable n bs → IsRealisableBeside n [] bs
@@ -92,41 +102,50 @@ realisable_beside n bs h m r =
       marks = open_of_weight n r.0 bs (canonical_all n bs h m) r.2;
     }
 
-pub step_beside : (n k : ℕ) (beside : List (List ℤ)) (bs : List MarkedPolynomial) (all : List (List ℤ)) (e : GordanError) → all ≡ system_beside n beside bs → k ≡ n → Failed (IsStepOn (length all + 0) k all []) e → Failed (IsStepBeside n beside bs) e
+pub step_beside : (n k : ℕ) (beside : List (List ℤ)) (bs : List MarkedPolynomial) (all : List (List ℤ)) (e : GordanError) → all ≡ system_beside n beside bs →
+    k ≡ n → Failed (IsStepOn (length all + 0) k all []) e → Failed (IsStepBeside n beside bs) e
 step_beside n k beside bs all (Cone s) e q h =
     let l : length all + 0 ≡ length all = omega arith in
-    subst (λ (r : List (List ℤ)). IsStepOn (length r) n r [] s) e (subst (λ (j : ℕ). IsStepOn (length all) j all [] s) q (subst (λ (a : ℕ). IsStepOn a k all [] s) l h))
+    subst (λ (r : List (List ℤ)). IsStepOn (length r) n r [] s) e (subst (λ (j : ℕ). IsStepOn (length all) j all [] s) q
+    (subst (λ (a : ℕ). IsStepOn a k all [] s) l h))
 step_beside n k beside bs all Memory e q h = tt
 
 -- ---- the system alone
 
-pub inconsistent_alone : (n : ℕ) (bs : List MarkedPolynomial) (ms : List ℤ) → HaveVariables n bs → Each HasMarkedTerm bs → IsInconsistentBeside n [] bs ms → IsInconsistent n bs ms
+pub inconsistent_alone : (n : ℕ) (bs : List MarkedPolynomial) (ms : List ℤ) → HaveVariables n bs → Each HasMarkedTerm bs → IsInconsistentBeside n [] bs ms →
+    IsInconsistent n bs ms
 inconsistent_alone n bs ms h m i = record { multipliers = i.multipliers; none = λ r. i.none (realisable_beside n bs h m r) }
 
-pub answer_alone : (n : ℕ) (bs : List MarkedPolynomial) (a : Answer) → HaveVariables n bs → Each HasMarkedTerm bs → IsAnswerBeside n [] bs a → IsWeightAnswer n bs a
+pub answer_alone : (n : ℕ) (bs : List MarkedPolynomial) (a : Answer) → HaveVariables n bs → Each HasMarkedTerm bs → IsAnswerBeside n [] bs a →
+    IsWeightAnswer n bs a
 answer_alone n bs (Point v) h m q = (
   record { width = q.0.width; positive = q.0.positive; marks = q.1 },
   realised_beside n [] bs h m (record { weight = v; inside = q.0; marks = q.1 }),
 )
 answer_alone n bs (Farkas ms es) h m q = inconsistent_alone n bs ms h m q
 
-pub answers_alone : {E : Type 0} (n : ℕ) (bs : List MarkedPolynomial) (r : Result Answer E) → HaveVariables n bs → IfOk r (IsAnswerBeside n [] bs) → IfOk r (λ _. Each HasMarkedTerm bs) → IfOk r (IsWeightAnswer n bs)
+pub answers_alone : {E : Type 0} (n : ℕ) (bs : List MarkedPolynomial) (r : Result Answer E) → HaveVariables n bs → IfOk r (IsAnswerBeside n [] bs) →
+    IfOk r (λ _. Each HasMarkedTerm bs) → IfOk r (IsWeightAnswer n bs)
 answers_alone n bs (Ok a) h p m = answer_alone n bs a h m p
 answers_alone n bs (Err e) h p m = p
 
 -- ---- as a refusal of the checks, with rows beside
 
-pub step_refused_beside : (beside : List (List ℤ)) (k : ℕ) (s : MarkedPolynomials) (e : GordanError) → Failed (IsStepBeside s.variables beside s.items) e → IsWeightRefusalBeside beside k s (check_of_gordan e)
+pub step_refused_beside : (beside : List (List ℤ)) (k : ℕ) (s : MarkedPolynomials) (e : GordanError) → Failed (IsStepBeside s.variables beside s.items) e →
+    IsWeightRefusalBeside beside k s (check_of_gordan e)
 step_refused_beside beside k s (Cone o) h = h
 step_refused_beside beside k s Memory h = tt
 
-pub found_beside : (n : ℕ) (beside : List (List ℤ)) (bs : List MarkedPolynomial) (a : Answer) (v : List ℤ) → a ≡ Point v → IsAnswerBeside n beside bs a → IsRealisableBeside n beside bs
+pub found_beside : (n : ℕ) (beside : List (List ℤ)) (bs : List MarkedPolynomial) (a : Answer) (v : List ℤ) → a ≡ Point v → IsAnswerBeside n beside bs a →
+    IsRealisableBeside n beside bs
 found_beside n beside bs a v e h = let q = subst (IsAnswerBeside n beside bs) e h in record { weight = v; inside = q.0; marks = q.1 }
 
-pub refused_beside : (n : ℕ) (beside : List (List ℤ)) (bs : List MarkedPolynomial) (a : Answer) (ms es : List ℤ) → a ≡ Farkas ms es → IsAnswerBeside n beside bs a → IsInconsistentBeside n beside bs ms
+pub refused_beside : (n : ℕ) (beside : List (List ℤ)) (bs : List MarkedPolynomial) (a : Answer) (ms es : List ℤ) → a ≡ Farkas ms es →
+    IsAnswerBeside n beside bs a → IsInconsistentBeside n beside bs ms
 refused_beside n beside bs a ms es e h = subst (IsAnswerBeside n beside bs) e h
 
-pub weight_refused_alone : (k : ℕ) (s : MarkedPolynomials) (e : CheckError) → HaveVariables s.variables s.items → Each HasMarkedTerm s.items → IsWeightRefusalBeside [] k s e → IsSetWeightRefusal k s e
+pub weight_refused_alone : (k : ℕ) (s : MarkedPolynomials) (e : CheckError) → HaveVariables s.variables s.items → Each HasMarkedTerm s.items →
+    IsWeightRefusalBeside [] k s e → IsSetWeightRefusal k s e
 weight_refused_alone k s (check_errors.Overflow o) h m r = absurd r
 weight_refused_alone k s (check_errors.Exponent o) h m r = absurd r
 weight_refused_alone k s (check_errors.NotReduced set i x) h m r = absurd r

@@ -8,7 +8,8 @@ ghost use Rattle.gf_reduced.specs.Markings.{IsMarkedGroebnerBasis, IsBasisOf, Is
 ghost use Rattle.gf_reduced.specs.Pairs.{MembersShareVariables};
 ghost use Rattle.gf_reduced.specs.Criteria.{AreAllPassed};
 ghost use Rattle.gf_reduced.specs.Terms.{AreReduced};
-ghost use Rattle.gf_reduced.specs.Refusals.{IsTestRefusal, IsReducedBasisRefusal, IsReducedRefusal, IsReducedRefusalBeside, IsPairsFault, IsTermsFault, AreChecksWithinLimits, AreChecksWithinLimitsBeside};
+ghost use Rattle.gf_reduced.specs.Refusals.{IsTestRefusal, IsReducedBasisRefusal, IsReducedRefusal, IsReducedRefusalBeside, IsPairsFault, IsTermsFault};
+ghost use Rattle.gf_reduced.specs.Refusals.{AreChecksWithinLimits, AreChecksWithinLimitsBeside};
 ghost use Rattle.gf_reduced.specs.declared.error.CheckError.TheVariants.{Memory};
 
 use crate::criteria::are_all_passed;

@@ -14,4 +14,5 @@ AreSmallCones n b f = (k : FanCone) → Contains (maximal_of f) k → IsSmallSys
 -- where they are, and there is room for the rows of a maximal cone of the one and of one of the other, no operation leaves the range
 abbrev pub RefinementsWithRoomStayWithinLimits : Type 0
 RefinementsWithRoomStayWithinLimits = (n b : ℕ) (f g : FanLists) → 1 ≤ n → 1 ≤ b → f.ambient ≡ n → AreSmallCones n b f → AreSmallCones n b g →
-    ((k l : FanCone) → Contains (maximal_of f) k → Contains (maximal_of g) l → has_room n b (length k.cone.inequalities + length l.cone.inequalities) ≡ true) → has_room n b 0 ≡ true → IsRefinedWithinLimits f g
+    ((k l : FanCone) → Contains (maximal_of f) k → Contains (maximal_of g) l → has_room n b (length k.cone.inequalities + length l.cone.inequalities) ≡ true) →
+    has_room n b 0 ≡ true → IsRefinedWithinLimits f g

@@ -14,7 +14,8 @@ pub leads_on : {N L : Type 0} (up : N → L → N → Type 0) (s : N) (t z : Lis
 leads_on up s [] z x y h k = subst (λ w. Leads up w z y) (sym h) k
 leads_on up s (c ∷ t) z x y h k = (h.0, h.1, leads_on up h.0 t z x y h.2 k)
 
-pub leads_rest : {N L : Type 0} (up : N → L → N → Type 0) → IsTree up → (s : N) (t z : List L) (x y : N) → Leads up s t x → Leads up s (t ++ z) y → Leads up x z y
+pub leads_rest : {N L : Type 0} (up : N → L → N → Type 0) → IsTree up → (s : N) (t z : List L) (x y : N) → Leads up s t x → Leads up s (t ++ z) y →
+    Leads up x z y
 leads_rest up tree s [] z x y h k = subst (λ w. Leads up w z y) h k
 leads_rest up tree s (c ∷ t) z x y h k =
     let e : k.0 ≡ h.0 = tree.one_child k.0 h.0 s c k.1 h.1 in
@@ -67,9 +68,24 @@ record Cut {N L : Type 0} (lt : L → L → Type 0) (up : N → L → N → Type
   under : (z : List L) → Among zs z → Among ps (t ++ z)
   past : (q : List L) → Among rest q → Among ps q × IsOpen lt Finished t q
 
-module _ {N L : Type 0} (lt : L → L → Type 0) (up : N → L → N → Type 0) (strict : IsStrictOrder lt) (tree : IsTree up) (top x : N) (t : List L) (way : Leads up top t x) where
-  cut : (ps : List (List L)) (nodes : List N) → LeadTo up top ps nodes → Rises lt ps → ((q : List L) → Among ps q → Precedes lt t q) → Cut lt up top x t ps nodes
-  cut [] [] lead rises above = record { zs = []; rest = []; front = []; back = []; whole = refl; lead_under = tt; lead_past = tt; rises_under = tt; rises_past = tt; covers = λ q j. absurd j; under = λ z j. absurd j; past = λ q j. absurd j }
+module _ {N L : Type 0} (lt : L → L → Type 0) (up : N → L → N → Type 0) (strict : IsStrictOrder lt) (tree : IsTree up) (top x : N) (t : List L)
+    (way : Leads up top t x) where
+  cut : (ps : List (List L)) (nodes : List N) → LeadTo up top ps nodes → Rises lt ps → ((q : List L) → Among ps q → Precedes lt t q) →
+      Cut lt up top x t ps nodes
+  cut [] [] lead rises above = record {
+    zs = [];
+    rest = [];
+    front = [];
+    back = [];
+    whole = refl;
+    lead_under = tt;
+    lead_past = tt;
+    rises_under = tt;
+    rises_past = tt;
+    covers = λ q j. absurd j;
+    under = λ z j. absurd j;
+    past = λ q j. absurd j;
+  }
   cut [] (y ∷ ys) lead rises above = absurd lead
   cut (p ∷ ps) [] lead rises above = absurd lead
   cut (p ∷ ps) (y ∷ ys) lead rises above = elim (under_or_past lt strict t p (above p (inl refl))) [

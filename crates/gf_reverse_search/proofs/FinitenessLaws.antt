@@ -41,9 +41,21 @@ module _ {L : Type 0} (lt : L → L → Type 0) (strict : IsStrictOrder lt) wher
   insert : (p : List L) (qs : List (List L)) → Rises lt qs → Sorted (p ∷ qs)
   insert p [] rises = record { sorted = p ∷ []; rises = ((λ q j. absurd j), tt); covers = λ q j. j; only = λ q j. j; few = omega arith }
   insert p (q ∷ qs) rises = elim (precedes_total p q) [
-    | inl h ↦ record { sorted = p ∷ q ∷ qs; rises = ((λ x j. elim j [ inl e ↦ subst (Precedes lt p) e h | inr k ↦ precedes_trans lt strict p q x h (rises.0 x k) ]), rises); covers = λ x j. j; only = λ x j. j; few = omega arith }
+    | inl h ↦ record {
+      sorted = p ∷ q ∷ qs;
+      rises = ((λ x j. elim j [ inl e ↦ subst (Precedes lt p) e h | inr k ↦ precedes_trans lt strict p q x h (rises.0 x k) ]), rises);
+      covers = λ x j. j;
+      only = λ x j. j;
+      few = omega arith;
+    }
     | inr h ↦ elim h [
-      | inl e ↦ record { sorted = q ∷ qs; rises = rises; covers = λ x j. elim j [ inl f ↦ inl (sym e ∙ f) | inr k ↦ k ]; only = λ x j. inr j; few = omega arith }
+      | inl e ↦ record {
+        sorted = q ∷ qs;
+        rises = rises;
+        covers = λ x j. elim j [ inl f ↦ inl (sym e ∙ f) | inr k ↦ k ];
+        only = λ x j. inr j;
+        few = omega arith;
+      }
       | inr h ↦ (let s = insert p qs rises.1 in record {
         sorted = q ∷ s.sorted;
         rises = ((λ x j. elim (s.only x j) [ inl e ↦ subst (Precedes lt q) e h | inr k ↦ rises.0 x k ]), s.rises);
@@ -142,7 +154,8 @@ module _ {N L : Type 0} (lt : L → L → Type 0) (up : N → L → N → Type 0
 
 -- ---- from a list of the nodes below a root
 
-module _ {N L : Type 0} (lt : L → L → Type 0) (up : N → L → N → Type 0) (strict : IsStrictOrder lt) (tree : IsTree up) (root : N) (is_root : IsRoot up root) where
+module _ {N L : Type 0} (lt : L → L → Type 0) (up : N → L → N → Type 0) (strict : IsStrictOrder lt) (tree : IsTree up) (root : N)
+    (is_root : IsRoot up root) where
   record Paths (xs : List N) : Type 0 where
     paths : List (List L)
     covers : (x : N) (q : List L) → Among xs x → Leads up root q x → Among paths q
@@ -177,7 +190,8 @@ module _ {N L : Type 0} (lt : L → L → Type 0) (up : N → L → N → Type 0
       record { nodes = w.0 ∷ r.nodes; lead = (w.1, r.lead); long = ap suc r.long }
 
   -- from any list of the nodes below the root, each with a way up: the list in path order
-  whole_list : (xs : List N) → ((x : N) → Among xs x → (q : List L) × Leads up root q x) → ((x : N) (q : List L) → Leads up root q x → Among xs x) → (nodes : List N) × Lists lt up root Before [] nodes × (length nodes ≤ length xs)
+  whole_list : (xs : List N) → ((x : N) → Among xs x → (q : List L) × Leads up root q x) → ((x : N) (q : List L) → Leads up root q x → Among xs x) →
+      (nodes : List N) × Lists lt up root Before [] nodes × (length nodes ≤ length xs)
   whole_list xs way all =
       let ps = paths_of xs way in
       let s = sort lt strict ps.paths in
@@ -196,7 +210,8 @@ module _ {N L : Type 0} (lt : L → L → Type 0) (up : N → L → N → Type 0
 -- ---- below any node
 
 -- what the root's whole list says of a node below it: the node and its subtree are a stretch of the list
-below : {N L : Type 0} (lt : L → L → Type 0) (up : N → L → N → Type 0) (strict : IsStrictOrder lt) (tree : IsTree up) (root top : N) (r : List L) (nodes : List N) (most : ℕ) → Lists lt up root Before [] nodes → length nodes ≤ most → Leads up root r top → IsFinite lt up top most
+below : {N L : Type 0} (lt : L → L → Type 0) (up : N → L → N → Type 0) (strict : IsStrictOrder lt) (tree : IsTree up) (root top : N) (r : List L)
+    (nodes : List N) (most : ℕ) → Lists lt up root Before [] nodes → length nodes ≤ most → Leads up root r top → IsFinite lt up top most
 below lt up strict tree root top r nodes most l few way =
     let s = suffix lt up strict tree root top r way nodes l in
     let h = halves lt up strict tree root top r way s.rest s.lists in
@@ -218,12 +233,14 @@ record RootAbove {N L : Type 0} (up : N → L → N → Type 0) (is_node : N →
   path : List L
   leads : Leads up root path v
 
-module _ {N L : Type 0} (up : N → L → N → Type 0) (is_node : N → Type 0) (down : (v : N) (c : L) (u : N) → up v c u → is_node u → is_node v) (above : (v : N) (c : L) (u : N) → up v c u → is_node v → is_node u) where
+module _ {N L : Type 0} (up : N → L → N → Type 0) (is_node : N → Type 0) (down : (v : N) (c : L) (u : N) → up v c u → is_node u → is_node v)
+    (above : (v : N) (c : L) (u : N) → up v c u → is_node v → is_node u) where
   leads_node : (s : N) (q : List L) (x : N) → is_node s → Leads up s q x → is_node x
   leads_node s [] x h k = subst is_node k h
   leads_node s (c ∷ q) x h k = leads_node k.0 q x (down k.0 c s k.1 h) k.2
 
-  module _ (rank : N → ℕ) (falls : (v : N) (c : L) (u : N) → is_node v → up v c u → rank u < rank v) (climbs : (v : N) → is_node v → Parent up v ⊎ IsRoot up v) where
+  module _ (rank : N → ℕ) (falls : (v : N) (c : L) (u : N) → is_node v → up v c u → rank u < rank v) (climbs : (v : N) → is_node v →
+      Parent up v ⊎ IsRoot up v) where
     -- the way up ends, by a rank that falls
     root_above : (n : ℕ) (v : N) → is_node v → rank v ≤ n → RootAbove up is_node v
     root_above zero v node small = elim (climbs v node) [
@@ -233,15 +250,23 @@ module _ {N L : Type 0} (up : N → L → N → Type 0) (is_node : N → Type 0)
     root_above (suc n) v node small = elim (climbs v node) [
       | inr r ↦ record { root = v; is_root = r; at_node = node; path = []; leads = refl }
       | inl p ↦ (let w = root_above n p.node (above v p.label p.node p.is node) (let f = falls v p.label p.node node p.is in omega arith) in
-          record { root = w.root; is_root = w.is_root; at_node = w.at_node; path = w.path ++ p.label ∷ []; leads = Leads-snoc up w.root w.path p.node p.label v w.leads p.is })
+          record {
+            root = w.root;
+            is_root = w.is_root;
+            at_node = w.at_node;
+            path = w.path ++ p.label ∷ [];
+            leads = Leads-snoc up w.root w.path p.node p.label v w.leads p.is;
+          })
     ]
 
     -- the nodes hang together under one root, and are listed: what is below any of them can be listed
-    pub finite_tree : (lt : L → L → Type 0) → IsStrictOrder lt → IsTree up → (xs : List N) → ((x : N) → is_node x → Among xs x) → ((x : N) → Among xs x → is_node x) → ((a b : N) → is_node a → IsRoot up a → is_node b → IsRoot up b → a ≡ b) →
-        (top : N) → is_node top → IsFinite lt up top (length xs)
+    pub finite_tree : (lt : L → L → Type 0) → IsStrictOrder lt → IsTree up → (xs : List N) → ((x : N) → is_node x → Among xs x) →
+        ((x : N) → Among xs x → is_node x) → ((a b : N) → is_node a → IsRoot up a → is_node b → IsRoot up b → a ≡ b) → (top : N) → is_node top →
+        IsFinite lt up top (length xs)
     finite_tree lt strict tree xs all are one_root top node =
         let r = root_above (rank top) top node (omega arith) in
         let w = whole_list lt up strict tree r.root r.is_root xs
-        (λ x j. let s = root_above (rank x) x (are x j) (omega arith) in (s.path, subst (λ y. Leads up y s.path x) (one_root s.root r.root s.at_node s.is_root r.at_node r.is_root) s.leads))
+        (λ x j. let s = root_above (rank x) x (are x j) (omega arith) in
+        (s.path, subst (λ y. Leads up y s.path x) (one_root s.root r.root s.at_node s.is_root r.at_node r.is_root) s.leads))
         (λ x q h. all x (leads_node r.root q x r.at_node h)) in
         below lt up strict tree r.root top r.path w.0 (length xs) w.1 w.2 r.leads

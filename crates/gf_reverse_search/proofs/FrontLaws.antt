@@ -31,7 +31,8 @@ module _ {L : Type 0} (lt : L → L → Type 0) where
     left_over Before p r q (inl e) = inl (ap (λ w. p ++ w) e)
     left_over Before p r q (inr h) = inr (precedes_on p r q h)
     left_over Listed p r q h = precedes_on p r q h
-    left_over (After a) p r q h = (precedes_on p r q h.0, λ b l g. h.1 b l (begins_off p (r ++ b ∷ []) q (subst (λ w. Begins w (p ++ q)) (append_assoc p r (b ∷ [])) g)))
+    left_over (After a) p r q h =
+        (precedes_on p r q h.0, λ b l g. h.1 b l (begins_off p (r ++ b ∷ []) q (subst (λ w. Begins w (p ++ q)) (append_assoc p r (b ∷ [])) g)))
     left_over Finished p r q h = (precedes_on p r q h.0, λ g. h.1 (begins_off p r q g))
 
     -- and what is left behind that path is left below the node
@@ -39,5 +40,6 @@ module _ {L : Type 0} (lt : L → L → Type 0) where
     left_under Before p r q (inl e) = inl (append_cancel_left p r q e)
     left_under Before p r q (inr h) = inr (precedes_off p r q h)
     left_under Listed p r q h = precedes_off p r q h
-    left_under (After a) p r q h = (precedes_off p r q h.0, λ b l g. h.1 b l (subst (λ w. Begins w (p ++ q)) (sym (append_assoc p r (b ∷ []))) (begins_on p (r ++ b ∷ []) q g)))
+    left_under (After a) p r q h =
+        (precedes_off p r q h.0, λ b l g. h.1 b l (subst (λ w. Begins w (p ++ q)) (sym (append_assoc p r (b ∷ []))) (begins_on p (r ++ b ∷ []) q g)))
     left_under Finished p r q h = (precedes_off p r q h.0, λ g. h.1 (begins_on p r q g))

@@ -45,7 +45,8 @@ module _ {L : Type 0} (lt : L → L → Type 0) where
     | inr k ↦ inr (k.0, before_from r q (inr k.1))
   ]
 
-  open_after : (strict : IsStrictOrder lt) (a : L) (r q : List L) → Precedes lt r q → ((b : L) → (lt b a ⊎ (b ≡ a)) → Begins (r ++ b ∷ []) q → ⊥) → IsOpen lt (After a) r q
+  open_after : (strict : IsStrictOrder lt) (a : L) (r q : List L) → Precedes lt r q → ((b : L) → (lt b a ⊎ (b ≡ a)) → Begins (r ++ b ∷ []) q → ⊥) →
+      IsOpen lt (After a) r q
   open_after strict a [] [] h n = h
   open_after strict a [] (c ∷ q) h n = elim (strict.total c a) [
     | inl k ↦ absurd (n c (inl k) (q, refl))
@@ -53,9 +54,17 @@ module _ {L : Type 0} (lt : L → L → Type 0) where
   ]
   open_after strict a (c ∷ r) [] h n = h
   open_after strict a (c ∷ r) (b ∷ q) (inl h) n = inl h
-  open_after strict a (c ∷ r) (b ∷ q) (inr h) n = inr (h.0, open_after strict a r q h.1 (λ d k z. n d k (z.0, let e : (b ∷ q) ≡ c ∷ ((r ++ d ∷ []) ++ z.0) = (let f : b ≡ c = sym h.0 in let g : q ≡ (r ++ d ∷ []) ++ z.0 = z.1 in cc) in e)))
+  open_after strict a (c ∷ r) (b ∷ q) (inr h) n = inr (
+    h.0,
+    open_after strict a r q h.1 (λ d k z. n d k (
+      z.0,
+      let e : (b ∷ q) ≡ c ∷ ((r ++ d ∷ []) ++ z.0) =
+          (let f : b ≡ c = sym h.0 in let g : q ≡ (r ++ d ∷ []) ++ z.0 = z.1 in cc) in e,
+    )),
+  )
 
-  after_open : (strict : IsStrictOrder lt) (a : L) (r q : List L) → IsOpen lt (After a) r q → Precedes lt r q × ((b : L) → (lt b a ⊎ (b ≡ a)) → Begins (r ++ b ∷ []) q → ⊥)
+  after_open : (strict : IsStrictOrder lt) (a : L) (r q : List L) → IsOpen lt (After a) r q →
+      Precedes lt r q × ((b : L) → (lt b a ⊎ (b ≡ a)) → Begins (r ++ b ∷ []) q → ⊥)
   after_open strict a [] [] h = absurd h
   after_open strict a [] (c ∷ q) h = (
     tt,
@@ -81,7 +90,8 @@ module _ {L : Type 0} (lt : L → L → Type 0) where
   open_finished [] q h n = absurd (n (q, refl))
   open_finished (c ∷ r) [] h n = h
   open_finished (c ∷ r) (b ∷ q) (inl h) n = inl h
-  open_finished (c ∷ r) (b ∷ q) (inr h) n = inr (h.0, open_finished r q h.1 (λ z. n (z.0, let e : (b ∷ q) ≡ c ∷ (r ++ z.0) = (let f : c ≡ b = h.0 in let g : q ≡ r ++ z.0 = z.1 in cc) in e)))
+  open_finished (c ∷ r) (b ∷ q) (inr h) n =
+      inr (h.0, open_finished r q h.1 (λ z. n (z.0, let e : (b ∷ q) ≡ c ∷ (r ++ z.0) = (let f : c ≡ b = h.0 in let g : q ≡ r ++ z.0 = z.1 in cc) in e)))
 
   finished_open : (strict : IsStrictOrder lt) (r q : List L) → IsOpen lt Finished r q → Precedes lt r q × (Begins r q → ⊥)
   finished_open strict [] q h = absurd h

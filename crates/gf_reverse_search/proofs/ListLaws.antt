@@ -33,9 +33,9 @@ module _ {L : Type 0} (lt : L → L → Type 0) (strict : IsStrictOrder lt) wher
   precedes_trans (a ∷ p) (b ∷ q) (c ∷ r) (inr h) (inr k) = inr (h.0 ∙ k.0, precedes_trans p q r h.1 k.1)
 
 module _ {N L : Type 0} (lt : L → L → Type 0) (up : N → L → N → Type 0) (strict : IsStrictOrder lt) (tree : IsTree up) (top : N) (m : Mark L) (r : List L) where
-  next_at : (v : N) (new : Mark L) (here : N) (d : ℕ) → IsNext lt up top m r v new here d → (paths : List (List L)) (nodes : List N) → LeadTo up top paths nodes → Rises lt paths →
-      ((q : List L) → IsPath up top q → IsLeft lt m r q → Among paths q) → ((q : List L) → Among paths q → IsLeft lt m r q) →
-      IsFirstOf (Leaves lt up new here d) nodes (Some v)
+  next_at : (v : N) (new : Mark L) (here : N) (d : ℕ) → IsNext lt up top m r v new here d → (paths : List (List L)) (nodes : List N) →
+      LeadTo up top paths nodes → Rises lt paths → ((q : List L) → IsPath up top q → IsLeft lt m r q → Among paths q) →
+      ((q : List L) → Among paths q → IsLeft lt m r q) → IsFirstOf (Leaves lt up new here d) nodes (Some v)
   next_at v new here d n [] nodes lead rises all only = absurd (all n.path (here, n.at.leads) n.first.at_first)
   next_at v new here d n (p ∷ ps) [] lead rises all only = absurd lead
   next_at v new here d n (p ∷ ps) (x ∷ xs) lead rises all only =
@@ -71,22 +71,34 @@ module _ {N L : Type 0} (lt : L → L → Type 0) (up : N → L → N → Type 0
 
   done_at : (new : Mark L) (here : N) (d : ℕ) → IsDone lt up top m r new here d → (paths : List (List L)) (nodes : List N) → LeadTo up top paths nodes →
       ((q : List L) → Among paths q → IsLeft lt m r q) → IsFirstOf (Leaves lt up new here d) nodes None
-  done_at new here d n [] [] lead only = (refl, record { top = top; path = n.path; at = n.at; lists = record { paths = []; lead = tt; rises = tt; all = λ q path left. n.stays q path left; only = λ q j. absurd j } })
+  done_at new here d n [] [] lead only = (
+    refl,
+    record {
+      top = top;
+      path = n.path;
+      at = n.at;
+      lists = record { paths = []; lead = tt; rises = tt; all = λ q path left. n.stays q path left; only = λ q j. absurd j };
+    },
+  )
   done_at new here d n [] (x ∷ xs) lead only = absurd lead
   done_at new here d n (p ∷ ps) [] lead only = absurd lead
   done_at new here d n (p ∷ ps) (x ∷ xs) lead only = absurd (n.none p (x, lead.0) (only p (inl refl)))
 
-  answers_at : (new : Mark L) (here : N) (d : ℕ) (o : Option N) → Answers lt up top m r o new here d → (nodes : List N) → Lists lt up top m r nodes → IsFirstOf (Leaves lt up new here d) nodes o
+  answers_at : (new : Mark L) (here : N) (d : ℕ) (o : Option N) → Answers lt up top m r o new here d → (nodes : List N) → Lists lt up top m r nodes →
+      IsFirstOf (Leaves lt up new here d) nodes o
   answers_at new here d None n nodes l = done_at new here d n l.paths nodes l.lead l.only
   answers_at new here d (Some v) n nodes l = next_at v new here d n l.paths nodes l.lead l.rises l.all l.only
 
 -- a walker's step, said of lists
-pub gives : {N L : Type 0} (lt : L → L → Type 0) (up : N → L → N → Type 0) → IsStrictOrder lt → IsTree up → (m0 : Mark L) (here0 : N) (d0 : ℕ) (m1 : Mark L) (here1 : N) (d1 : ℕ) (o : Option N) →
-    Steps lt up m0 here0 d0 m1 here1 d1 o → (nodes : List N) → Leaves lt up m0 here0 d0 nodes → IsFirstOf (Leaves lt up m1 here1 d1) nodes o
-gives lt up strict tree m0 here0 d0 m1 here1 d1 o steps nodes l = answers_at lt up strict tree l.top m0 l.path m1 here1 d1 o (steps l.top l.path l.at) nodes l.lists
+pub gives : {N L : Type 0} (lt : L → L → Type 0) (up : N → L → N → Type 0) → IsStrictOrder lt → IsTree up →
+    (m0 : Mark L) (here0 : N) (d0 : ℕ) (m1 : Mark L) (here1 : N) (d1 : ℕ) (o : Option N) → Steps lt up m0 here0 d0 m1 here1 d1 o → (nodes : List N) →
+    Leaves lt up m0 here0 d0 nodes → IsFirstOf (Leaves lt up m1 here1 d1) nodes o
+gives lt up strict tree m0 here0 d0 m1 here1 d1 o steps nodes l =
+    answers_at lt up strict tree l.top m0 l.path m1 here1 d1 o (steps l.top l.path l.at) nodes l.lists
 
 -- what is left before a node is told by the node alone
-pub lists_of : {N L : Type 0} (lt : L → L → Type 0) (up : N → L → N → Type 0) (strict : IsStrictOrder lt) (tree : IsTree up) (top : N) (nodes : List N) → Leaves lt up Before top 0 nodes → Lists lt up top Before [] nodes
+pub lists_of : {N L : Type 0} (lt : L → L → Type 0) (up : N → L → N → Type 0) (strict : IsStrictOrder lt) (tree : IsTree up) (top : N) (nodes : List N) →
+    Leaves lt up Before top 0 nodes → Lists lt up top Before [] nodes
 lists_of lt up strict tree top nodes left =
     let e : left.path ≡ [] = none left.path left.at.long in
     let f : left.top ≡ top = (let w = subst (λ p. Leads up left.top p top) e left.at.leads in w) in

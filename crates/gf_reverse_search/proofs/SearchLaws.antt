@@ -11,7 +11,8 @@ use Rattle.gf_reverse_search.proofs.StepLaws.{finished_open}
 use Rattle.gf_reverse_search.proofs.ClimbLaws.{Stands}
 
 -- what is found further up is found from here
-pub Finds-same : {N L : Type 0} (lt : L → L → Type 0) (up : N → L → N → Type 0) (top : N) (m : Mark L) (r : List L) (node : N) (mark : Mark L) (d : ℕ) (s : Stands lt up top m r node mark d) (o : Option (N × ℕ)) → Finds lt up top mark s.path o → Finds lt up top m r o
+pub Finds-same : {N L : Type 0} (lt : L → L → Type 0) (up : N → L → N → Type 0) (top : N) (m : Mark L) (r : List L) (node : N) (mark : Mark L) (d : ℕ)
+    (s : Stands lt up top m r node mark d) (o : Option (N × ℕ)) → Finds lt up top mark s.path o → Finds lt up top m r o
 Finds-same lt up top m r node mark d s None h = λ q path k. h q path ((s.same q path).0 k)
 Finds-same lt up top m r node mark d s (Some p) h = (
   h.0,
@@ -45,5 +46,12 @@ module _ {N L : Type 0} (lt : L → L → Type 0) (up : N → L → N → Type 0
   }
 
 -- what stands before its node lists it
-pub listed_here : {N L : Type 0} (lt : L → L → Type 0) (up : N → L → N → Type 0) (top : N) (r : List L) (here v : N) (d : ℕ) → v ≡ here → StandsBelow up top r here d → IsNext lt up top Before r v Listed here d
-listed_here lt up top r here v d e at = record { path = r; at = at; node = e; listed = refl; first = record { at_first = inl refl; at_later = λ q path k. inr k; only = λ q path k. k } }
+pub listed_here : {N L : Type 0} (lt : L → L → Type 0) (up : N → L → N → Type 0) (top : N) (r : List L) (here v : N) (d : ℕ) → v ≡ here →
+    StandsBelow up top r here d → IsNext lt up top Before r v Listed here d
+listed_here lt up top r here v d e at = record {
+  path = r;
+  at = at;
+  node = e;
+  listed = refl;
+  first = record { at_first = inl refl; at_later = λ q path k. inr k; only = λ q path k. k };
+}

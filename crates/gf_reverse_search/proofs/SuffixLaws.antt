@@ -10,7 +10,8 @@ use Rattle.gf_reverse_search.proofs.LeftLaws.{left_from_open}
 use Rattle.gf_reverse_search.proofs.ClimbLaws.{last_step}
 use Rattle.gf_reverse_search.proofs.ListLaws.{precedes_itself, precedes_trans, leads_one, lists_of}
 
-module _ {N L : Type 0} (lt : L → L → Type 0) (up : N → L → N → Type 0) (strict : IsStrictOrder lt) (tree : IsTree up) (top x : N) (p : List L) (way : Leads up top p x) where
+module _ {N L : Type 0} (lt : L → L → Type 0) (up : N → L → N → Type 0) (strict : IsStrictOrder lt) (tree : IsTree up) (top x : N) (p : List L)
+    (way : Leads up top p x) where
   record Tail (ps : List (List L)) (nodes : List N) : Type 0 where
     front : List N
     rest : List N
@@ -43,7 +44,10 @@ module _ {N L : Type 0} (lt : L → L → Type 0) (up : N → L → N → Type 0
         whole = ap (λ z. y ∷ z) t.whole;
         lead = t.lead;
         rises = t.rises;
-        covers = λ q k h. elim k [ inl f ↦ absurd (precedes_itself lt strict p (precedes_trans lt strict p r p (subst (λ z. Precedes lt p z) (sym f) h) (rises.0 p j))) | inr i ↦ t.covers q i h ];
+        covers = λ q k h. elim k [
+          | inl f ↦ absurd (precedes_itself lt strict p (precedes_trans lt strict p r p (subst (λ z. Precedes lt p z) (sym f) h) (rises.0 p j)))
+          | inr i ↦ t.covers q i h
+        ];
         only = t.only;
       }
 
@@ -71,10 +75,13 @@ module _ {N L : Type 0} (lt : L → L → Type 0) (up : N → L → N → Type 0
       }
 
 -- two ways up from a node end at one root, and are one
-one_root : {N L : Type 0} (up : N → L → N → Type 0) (tree : IsTree up) (n : ℕ) (a b : N) (p q : List L) (x : N) → IsRoot up a → IsRoot up b → length p ≤ n → Leads up a p x → Leads up b q x → a ≡ b
+one_root : {N L : Type 0} (up : N → L → N → Type 0) (tree : IsTree up) (n : ℕ) (a b : N) (p q : List L) (x : N) → IsRoot up a → IsRoot up b → length p ≤ n →
+    Leads up a p x → Leads up b q x → a ≡ b
 one_root up tree n a b [] [] x at_a at_b small h k = h ∙ sym k
-one_root up tree n a b [] (c ∷ q) x at_a at_b small h k = absurd (let s = last_step up b c q x k in at_a s.label s.above (subst (λ y. up y s.label s.above) (sym h) s.step))
-one_root up tree n a b (c ∷ p) [] x at_a at_b small h k = absurd (let s = last_step up a c p x h in at_b s.label s.above (subst (λ y. up y s.label s.above) (sym k) s.step))
+one_root up tree n a b [] (c ∷ q) x at_a at_b small h k =
+    absurd (let s = last_step up b c q x k in at_a s.label s.above (subst (λ y. up y s.label s.above) (sym h) s.step))
+one_root up tree n a b (c ∷ p) [] x at_a at_b small h k =
+    absurd (let s = last_step up a c p x h in at_b s.label s.above (subst (λ y. up y s.label s.above) (sym k) s.step))
 one_root up tree zero a b (c ∷ p) (d ∷ q) x at_a at_b small h k = absurd (omega arith)
 one_root up tree (suc n) a b (c ∷ p) (d ∷ q) x at_a at_b small h k =
     let s = last_step up a c p x h in
@@ -84,10 +91,12 @@ one_root up tree (suc n) a b (c ∷ p) (d ∷ q) x at_a at_b small h k =
     one_root up tree n a b s.path t.path s.above at_a at_b l s.leads (subst (λ y. Leads up b t.path y) (sym e) t.leads)
 
 -- a walker that has listed a node and knows its depth goes on with the list of its root
-pub stands_after : {T N L : Type 0} (lt : L → L → Type 0) (up : T → N → L → N → Type 0) (strict : IsStrictOrder lt) (t : T) → IsTree (up t) → (node found : N) (depth : ℕ) → IsRootAt (up t) node found depth → (root : N) → IsRootOf (up t) node root →
+pub stands_after : {T N L : Type 0} (lt : L → L → Type 0) (up : T → N → L → N → Type 0) (strict : IsStrictOrder lt) (t : T) → IsTree (up t) →
+    (node found : N) (depth : ℕ) → IsRootAt (up t) node found depth → (root : N) → IsRootOf (up t) node root →
     StandsAfter lt up node root (record { tree = t; here = node; mark = Listed; depth = depth })
 stands_after lt up strict t tree node found depth at root other =
-    let e : found ≡ root = one_root (up t) tree (length at.path) found root at.path other.path node at.is_root other.is_root (omega arith) at.at.leads other.leads in
+    let e : found ≡ root = one_root (up t) tree (length at.path) found root at.path other.path node at.is_root other.is_root (omega arith)
+    at.at.leads other.leads in
     let a : StandsBelow (up t) root at.path node depth = subst (λ r. StandsBelow (up t) r at.path node depth) e at.at in
     record {
       path = at.path;

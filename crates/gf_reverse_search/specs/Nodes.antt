@@ -25,9 +25,13 @@ items_at_most count s = cond s.ended 0 (suc (count s.place.tree s.place.here - s
 
 -- one call: the first node of what was left, at which the walker now stands; or a refusal, after which the walker is as it was and no item comes; or
 -- the end, where nothing was left, and after which the walker stays at its node, done with all below it
-abbrev pub Gives : {T N L E : Type 0} → (L → L → Type 0) → (T → N → L → N → Type 0) → (T → N → E → Type 0) → Progress T N L → Option (Result N E) → Progress T N L → Type 0
+abbrev pub Gives : {T N L E : Type 0} → (L → L → Type 0) → (T → N → L → N → Type 0) → (T → N → E → Type 0) → Progress T N L → Option (Result N E) →
+    Progress T N L → Type 0
 Gives {N = N} lt up refuses s (Some (Ok v)) t =
-    (s.ended ≡ false) × (t.ended ≡ false) × (t.place.here ≡ v) × (t.place.tree ≡ s.place.tree) × ((nodes : List N) → IsLeftAt lt up s.place nodes → IsFirstOf (IsLeftAt lt up t.place) nodes (Some v))
-Gives {N = N} lt up refuses s (Some (Err e)) t = (s.ended ≡ false) × (t.ended ≡ true) × (t.place ≡ s.place) × IsRefused (up s.place.tree) (refuses s.place.tree) s.place.here s.place.depth e
+    (s.ended ≡ false) × (t.ended ≡ false) × (t.place.here ≡ v) × (t.place.tree ≡ s.place.tree) × ((nodes : List N) → IsLeftAt lt up s.place nodes →
+    IsFirstOf (IsLeftAt lt up t.place) nodes (Some v))
+Gives {N = N} lt up refuses s (Some (Err e)) t = (s.ended ≡ false) × (t.ended ≡ true) × (t.place ≡ s.place) × IsRefused (up s.place.tree) (refuses s.place.tree)
+    s.place.here s.place.depth e
 Gives {N = N} lt up refuses s None t =
-    (t.ended ≡ true) × (((s.ended ≡ true) × (t.place ≡ s.place)) ⊎ ((t.place ≡ record s.place { mark = Finished }) × ((nodes : List N) → IsLeftAt lt up s.place nodes → nodes ≡ [])))
+    (t.ended ≡ true) × (((s.ended ≡ true) × (t.place ≡ s.place)) ⊎ ((t.place ≡ record s.place { mark = Finished }) × ((nodes : List N) →
+    IsLeftAt lt up s.place nodes → nodes ≡ [])))

@@ -62,14 +62,16 @@ EndsAt {T} {N} {L} up w = (c : L) (u : N) → up w.tree w.here c u → 0 < w.dep
 
 -- what follows the children up to a walker's mark: nothing at the top, where no child is left; the walker a step up, where no child is left; the
 -- walker itself, where there are as many as may be, or where a call was refused so
-abbrev pub Follows : {T N L E : Type 0} → (L → L → Type 0) → (T → N → L → N → Type 0) → (Place T N L → E → Type 0) → Place T N L → Type 0 → List (Piece T N L E) → Type 0
+abbrev pub Follows : {T N L E : Type 0} → (L → L → Type 0) → (T → N → L → N → Type 0) → (Place T N L → E → Type 0) → Place T N L → Type 0 →
+    List (Piece T N L E) → Type 0
 Follows lt up refuses w Full [] = HasNoChild lt (up w.tree) w.here w.mark × EndsAt up w
 Follows lt up refuses w Full (Ready v ∷ ps) = ⊥
 Follows lt up refuses w Full (Under x ∷ ps) = (ps ≡ []) × (((x ≡ w) × Full) ⊎ (HasNoChild lt (up w.tree) w.here w.mark × HasRisen up w x))
 Follows lt up refuses w Full (Refused x e ∷ ps) = (ps ≡ []) × (x ≡ w) × refuses w e
 
 -- the children past a walker's mark, at most so many, and what follows them
-pub record GoesDown {T N L E : Type 0} (lt : L → L → Type 0) (up : T → N → L → N → Type 0) (refuses : Place T N L → E → Type 0) (most : ℕ) (w : Place T N L) (pieces : List (Piece T N L E)) : Type 0 where
+pub record GoesDown {T N L E : Type 0} (lt : L → L → Type 0) (up : T → N → L → N → Type 0) (refuses : Place T N L → E → Type 0) (most : ℕ) (w : Place T N L)
+    (pieces : List (Piece T N L E)) : Type 0 where
   pub below : List (Piece T N L E)
   pub rest : List (Piece T N L E)
   pub whole : pieces ≡ below ++ rest
@@ -80,15 +82,24 @@ pub record GoesDown {T N L E : Type 0} (lt : L → L → Type 0) (up : T → N �
   pub follows : Follows lt up refuses (record { tree = w.tree; here = w.here; mark = mark; depth = w.depth }) (most ≤ length below) rest
 
 -- what follows the children up to a walker's mark is put behind them, of which there are so many at most
-abbrev pub IsFollowed : {T N L E : Type 0} → (L → L → Type 0) → (T → N → L → N → Type 0) → (Place T N L → E → Type 0) → ℕ → Place T N L → List (Piece T N L E) → List (Piece T N L E) → Type 0
-IsFollowed {T} {N} {L} {E} lt up refuses most w olds news = (rest : List (Piece T N L E)) × (news ≡ olds ++ rest) × Follows lt up refuses w (most ≤ length olds) rest
+abbrev pub IsFollowed : {T N L E : Type 0} → (L → L → Type 0) → (T → N → L → N → Type 0) → (Place T N L → E → Type 0) → ℕ → Place T N L → List (Piece T N L E) →
+    List (Piece T N L E) → Type 0
+IsFollowed {T} {N} {L} {E} lt up refuses most w olds news = (rest : List (Piece T N L E)) × (news ≡ olds ++ rest) × Follows lt up refuses w (most ≤ length olds)
+    rest
 
 -- the node of a walker that stands before it, and then its children and what follows
-abbrev pub Opens : {T N L E : Type 0} → (L → L → Type 0) → (T → N → L → N → Type 0) → (Place T N L → E → Type 0) → ℕ → Place T N L → List (Piece T N L E) → Type 0
+abbrev pub Opens : {T N L E : Type 0} → (L → L → Type 0) → (T → N → L → N → Type 0) → (Place T N L → E → Type 0) → ℕ → Place T N L → List (Piece T N L E) →
+    Type 0
 Opens {T} {N} {L} {E} lt up refuses most w pieces =
-    (rest : List (Piece T N L E)) × (pieces ≡ Ready w.here ∷ rest) × GoesDown lt up refuses most (record { tree = w.tree; here = w.here; mark = Listed; depth = w.depth }) rest
+    (rest : List (Piece T N L E)) × (pieces ≡ Ready w.here ∷ rest) × GoesDown lt up refuses most (record {
+      tree = w.tree;
+      here = w.here;
+      mark = Listed;
+      depth = w.depth;
+    }) rest
 
 -- a walker's expansion: the node that it stands before, and then its children and what follows
-abbrev pub Expands : {T N L E : Type 0} → (L → L → Type 0) → (T → N → L → N → Type 0) → (Place T N L → E → Type 0) → ℕ → Place T N L → List (Piece T N L E) → Type 0
+abbrev pub Expands : {T N L E : Type 0} → (L → L → Type 0) → (T → N → L → N → Type 0) → (Place T N L → E → Type 0) → ℕ → Place T N L → List (Piece T N L E) →
+    Type 0
 Expands lt up refuses most w pieces =
     GoesDown lt up refuses most w pieces ⊎ ((w.mark ≡ Before) × Opens lt up refuses most w pieces)

@@ -38,7 +38,8 @@ IsTurn {N} {L} lt up u m d End = HasNoChild lt up u m × ((c : L) (w : N) → up
 -- where the search ends, what was left at r is the path found and what is left there once it is listed; or nothing was left
 abbrev pub Finds : {N L : Type 0} → (L → L → Type 0) → (N → L → N → Type 0) → N → Mark L → List L → Option (N × ℕ) → Type 0
 Finds {L = L} lt up top m r None = (q : List L) → IsPath up top q → IsOpen lt m r q → ⊥
-Finds {L = L} lt up top m r (Some p) = (t : List L) × StandsBelow up top t p.0 p.1 × ((q : List L) → IsPath up top q → (IsOpen lt m r q ↔ ((t ≡ q) ⊎ IsOpen lt Listed t q)))
+Finds {L = L} lt up top m r (Some p) = (t : List L) × StandsBelow up top t p.0 p.1 × ((q : List L) → IsPath up top q →
+    (IsOpen lt m r q ↔ ((t ≡ q) ⊎ IsOpen lt Listed t q)))
 
 -- the same below whatever top the walker has
 abbrev pub FindsNext : {N L : Type 0} → (L → L → Type 0) → (N → L → N → Type 0) → N → Mark L → ℕ → Option (N × ℕ) → Type 0
@@ -57,7 +58,8 @@ pub record IsFirst {N L : Type 0} (lt : L → L → Type 0) (up : N → L → N 
   pub only : (q : List L) → IsPath up top q → IsLeft lt m r q → (t ≡ q) ⊎ Precedes lt t q
 
 -- the walker answers v, stands at it, and has listed it: its path is the first of those that were left
-pub record IsNext {N L : Type 0} (lt : L → L → Type 0) (up : N → L → N → Type 0) (top : N) (old : Mark L) (r : List L) (v : N) (new : Mark L) (here : N) (depth : ℕ) : Type 0 where
+pub record IsNext {N L : Type 0} (lt : L → L → Type 0) (up : N → L → N → Type 0) (top : N) (old : Mark L) (r : List L) (v : N) (new : Mark L) (here : N)
+    (depth : ℕ) : Type 0 where
   pub path : List L
   pub at : StandsBelow up top path here depth
   pub node : v ≡ here
@@ -65,7 +67,8 @@ pub record IsNext {N L : Type 0} (lt : L → L → Type 0) (up : N → L → N �
   pub first : IsFirst lt up top old r path
 
 -- nothing was left, and nothing is
-pub record IsDone {N L : Type 0} (lt : L → L → Type 0) (up : N → L → N → Type 0) (top : N) (old : Mark L) (r : List L) (new : Mark L) (here : N) (depth : ℕ) : Type 0 where
+pub record IsDone {N L : Type 0} (lt : L → L → Type 0) (up : N → L → N → Type 0) (top : N) (old : Mark L) (r : List L) (new : Mark L) (here : N) (depth : ℕ) :
+    Type 0 where
   pub path : List L
   pub at : StandsBelow up top path here depth
   pub none : IsEmpty lt up top old r

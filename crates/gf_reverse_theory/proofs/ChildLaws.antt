@@ -14,17 +14,18 @@ use Rattle.gf_initial_theory.proofs.FlipLaws.{adjacent_unique, adjacent_turned}
 use Rattle.gf_facets_theory.proofs.VectorLaws.{negated-twice}
 
 -- the neighbour across b whose way up leads back is the child under b
-pub child_across : (k : Region) (u w : MarkedPolynomials) (b : List ℤ) → IsNode k u → w.variables ≡ u.variables → AreAdjacent u.variables (polys u.items) k u.items b w.items →
-    IsWayUp u.variables k w.items (negated b) → IsParent k w b u
-child_across k u w b h e a q = parent_moved (fan_of k u) (fan_of k w) w b u (own_fan (fan_of k u) w (record { fan = h.fan; variables = e; basis = a.there })) (record {
-  fan = h.fan;
-  child = e;
-  parent = refl;
-  normal = negated b;
-  way = q;
-  adjacent = adjacent_turned u.variables (polys u.items) k u.items b w.items a;
-  label = sym (negated-twice b);
-})
+pub child_across : (k : Region) (u w : MarkedPolynomials) (b : List ℤ) → IsNode k u → w.variables ≡ u.variables →
+    AreAdjacent u.variables (polys u.items) k u.items b w.items → IsWayUp u.variables k w.items (negated b) → IsParent k w b u
+child_across k u w b h e a q = parent_moved (fan_of k u) (fan_of k w) w b u (own_fan (fan_of k u) w (record { fan = h.fan; variables = e; basis = a.there }))
+    (record {
+      fan = h.fan;
+      child = e;
+      parent = refl;
+      normal = negated b;
+      way = q;
+      adjacent = adjacent_turned u.variables (polys u.items) k u.items b w.items a;
+      label = sym (negated-twice b);
+    })
 
 -- a child is across a flippable facet
 pub child_flippable : (k : Region) (u v : MarkedPolynomials) (b : List ℤ) → IsParent k v b u → IsFlippable u.variables k u.items b

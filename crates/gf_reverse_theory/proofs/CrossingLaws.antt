@@ -1,6 +1,7 @@
 -- What enters and what leaves the leading monomials where a facet is crossed.
 -- To cite: something_enters, what_enters_pulls. The rest are steps.
-use Rattle.std.proofs.Common.{◌≡◌, ◌⊎◌, ℕ, zero, suc, ◌+◌, ◌<◌, Bool, true, false, if◌then◌else◌, List, [], Contains, get_or, ℤ, pos, ◌+ℤ◌, ◌*ℤ◌, ◌<ℤ◌, arith, refl, sym, ap, ◌∙◌, inl, inr}
+use Rattle.std.proofs.Common.{◌≡◌, ◌⊎◌, ℕ, zero, suc, ◌+◌, ◌<◌, Bool, true, false, if◌then◌else◌, List, [], Contains, get_or, ℤ, pos, ◌+ℤ◌, ◌*ℤ◌, ◌<ℤ◌, arith}
+use Rattle.std.proofs.Common.{refl, sym, ap, ◌∙◌, inl, inr}
 use Rattle.std.proofs.lemmas.Int.{ints}
 use Rattle.gf_frac.specs.Fraction.{◌+ℚ◌, zero_ℚ, one_ℚ}
 use Rattle.gf_frac.proofs.FractionLaws.{+ℚ-zero, zero-+ℚ, zero_or_not, zero-not-one}
@@ -115,7 +116,8 @@ what_enters_pulls n a bs cs x h r out enters =
 
         member : IsMember n h.ideal f
         member = member_of_spans n h.ideal f h.variables in_ring
-            (spans_value h.ideal (Contains h.there) (λ c k. spans_of_member n h.ideal c.poly (h.basis_there.members c k)) q.pieces (Each-weaker (IsPieceIn (Contains h.there) B) (λ (p : Piece). Contains h.there p.of) (λ p k. k.member) q.pieces q.inside))
+            (spans_value h.ideal (Contains h.there) (λ c k. spans_of_member n h.ideal c.poly (h.basis_there.members c k)) q.pieces
+            (Each-weaker (IsPieceIn (Contains h.there) B) (λ (p : Piece). Contains h.there p.of) (λ p k. k.member) q.pieces q.inside))
           where
             in_ring : IsInVariables n f
             in_ring y m = elim (zero_or_not (coefficient q.remainder y)) [
@@ -124,7 +126,8 @@ what_enters_pulls n a bs cs x h r out enters =
             ]
 
         there : HasMonomial f x
-        there z = zero-not-one (sym (+ℚ-zero zero_ℚ) ∙ ap (λ w. w +ℚ zero_ℚ) (sym gone) ∙ ap (λ w. coefficient q.remainder x +ℚ w) (sym z) ∙ sym (q.equal x) ∙ coefficient-at x x (same-refl x))
+        there z = zero-not-one (sym (+ℚ-zero zero_ℚ) ∙ ap (λ w. w +ℚ zero_ℚ) (sym gone) ∙ ap (λ w. coefficient q.remainder x +ℚ w) (sym z) ∙ sym (q.equal x) ∙
+            coefficient-at x x (same-refl x))
 
         found : IsIrreducible (Contains h.here) f ⊎ ((y : Exponents) × HasMonomial f y × IsDivisible (Contains h.here) y) → IsPulledOut a bs cs x
         found (inl i) = absurd (there (h.basis_here.decides f member i x))
@@ -191,7 +194,8 @@ something_enters n a bs cs nz h = at ((top_greatest (Lower a) (row-order (negate
       contained = whole.1;
       there = whole.2;
       not_led = λ d. away (h.reduced h.member h.contained t.0 t.1.there ((h.lead_here t.0).1 d));
-      led = (h.lead_there t.0).0 (basis_greatest n h.ideal h.there (Lower a) h.member.poly t.0 h.variables h.basis_there (row-order (negated_row_of a)).strict marked (h.basis_here.members h.member h.contained) t.1);
+      led = (h.lead_there t.0).0 (basis_greatest n h.ideal h.there (Lower a) h.member.poly t.0 h.variables h.basis_there (row-order (negated_row_of a)).strict
+          marked (h.basis_here.members h.member h.contained) t.1);
     }
       where
         whole : (b : MarkedPolynomial) × Contains bs b × HasMonomial b.poly t.0
@@ -206,5 +210,6 @@ something_enters n a bs cs nz h = at ((top_greatest (Lower a) (row-order (negate
         ]
           where
             down : (k : ℕ) → IsStepsFrom k a h.other h.member.head → Lower a h.other h.member.head → ⊥
-            down zero p l = absurd (let c : same h.other h.member.head ≡ true = same_by_entries h.other h.member.head (λ i. omega (arith, ints, p i)) in let u = h.unmarked in cc)
+            down zero p l = absurd (let c : same h.other h.member.head ≡ true = same_by_entries h.other h.member.head (λ i. omega (arith, ints, p i)) in let u =
+                h.unmarked in cc)
             down (suc k) p l = not_lower (suc k) a h.other h.member.head nz (omega arith) p l

@@ -31,7 +31,8 @@ use Rattle.gf_reverse_theory.proofs.LeftLaws.{advance_answers, advance_ends}
 
 pub negative_normals_can_be_crossed : NegativeNormalsCanBeCrossed
 negative_normals_can_be_crossed n fs k r bs b wide w basis q m =
-    negative_gives_flippable n k r bs basis.weight b wide w basis.arranged.canonical basis.inside (open_of_marks n k bs basis.weight basis.inside basis.marked) q m
+    negative_gives_flippable n k r bs basis.weight b wide w basis.arranged.canonical basis.inside (open_of_marks n k bs basis.weight basis.inside basis.marked)
+    q m
 
 pub root_has_no_way_up : RootHasNoWayUp
 root_has_no_way_up = record {
@@ -43,8 +44,10 @@ root_has_no_way_up = record {
 
 -- ---- crossings
 
-something : (n : ℕ) (fs : List Terms) (k : Region) (bs cs : List MarkedPolynomial) (a : List ℤ) → AreInVariables n fs → AreAdjacent n fs k bs a cs → Enters bs cs
-something n fs k bs cs a v h = something_enters n a bs cs (normal-nonzero n bs a h.here.arranged.canonical h.facet.normal) (parts_of_neighbours n fs k bs cs a v h)
+something : (n : ℕ) (fs : List Terms) (k : Region) (bs cs : List MarkedPolynomial) (a : List ℤ) → AreInVariables n fs → AreAdjacent n fs k bs a cs →
+    Enters bs cs
+something n fs k bs cs a v h = something_enters n a bs cs (normal-nonzero n bs a h.here.arranged.canonical h.facet.normal)
+    (parts_of_neighbours n fs k bs cs a v h)
 
 pulled : (n : ℕ) (fs : List Terms) (k : Region) (r : List ℤ) (bs cs : List MarkedPolynomial) (a : List ℤ) (x : Exponents) → AreInVariables n fs →
     All (λ c. pos 0 ≤ℤ c) r → AreAdjacent n fs k bs a cs → IsNegative r a → IsInRing n x → (IsDivisible (Contains bs) x → ⊥) → IsDivisible (Contains cs) x →
@@ -70,15 +73,18 @@ no_cycles = no_cycle
 up_or_root : (k : Region) (v : MarkedPolynomials) → IsNode k v → ((c : List ℤ) × (u : MarkedPolynomials) × IsParent k v c u) ⊎ IsRoot (IsParent k) v
 up_or_root k v h = at (parents_climb (fan_of k v) v h)
   where
-    at : Parent (IsParentIn (fan_of k v)) v ⊎ IsRoot (IsParentIn (fan_of k v)) v → ((c : List ℤ) × (u : MarkedPolynomials) × IsParent k v c u) ⊎ IsRoot (IsParent k) v
+    at : Parent (IsParentIn (fan_of k v)) v ⊎ IsRoot (IsParentIn (fan_of k v)) v →
+        ((c : List ℤ) × (u : MarkedPolynomials) × IsParent k v c u) ⊎ IsRoot (IsParent k) v
     at (inl p) = inl (p.label, p.node, p.is)
     at (inr r) = inr r
 
 root_exactly : (k : Region) (v : MarkedPolynomials) → IsNode k v →
     IsRoot (IsParent k) v ↔ IsReducedBasisFor v.variables (polys v.items) (IsWeightedBelow (gains k.root)) v.items
 root_exactly k v h = (
-  λ r. root_basis v.variables (polys v.items) k k.root v.items h.fan.ideal h.fan.region.widths (root_weight v.variables k h.fan.region) h.basis (root_has_no_way (fan_of k v) v h r),
-  λ b c u p. root_is_top v.variables (polys v.items) k k.root v.items (root_weight v.variables k h.fan.region).natural h.basis.arranged.canonical b p.normal p.way.leads,
+  λ r. root_basis v.variables (polys v.items) k k.root v.items h.fan.ideal h.fan.region.widths (root_weight v.variables k h.fan.region) h.basis
+      (root_has_no_way (fan_of k v) v h r),
+  λ b c u p. root_is_top v.variables (polys v.items) k k.root v.items (root_weight v.variables k h.fan.region).natural h.basis.arranged.canonical b p.normal
+      p.way.leads,
 )
 
 pub bases_make_a_tree : BasesMakeATree

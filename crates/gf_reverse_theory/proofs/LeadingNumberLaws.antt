@@ -1,6 +1,7 @@
 -- The reading number falls where a facet with a negative normal is crossed.
 -- To cite: leading_number_falls.
-use Rattle.std.proofs.Common.{◌≡◌, ◌⊎◌, ℕ, ◌<◌, ◌≤◌, Bool, true, false, List, [], ◌∷◌, length, Contains, get_or, All, ℤ, pos, ◌*ℤ◌, ◌<ℤ◌, ◌≤ℤ◌, arith, refl, sym, ap, ◌∙◌, subst, inl, inr}
+use Rattle.std.proofs.Common.{◌≡◌, ◌⊎◌, ℕ, ◌<◌, ◌≤◌, Bool, true, false, List, [], ◌∷◌, length, Contains, get_or, All, ℤ, pos, ◌*ℤ◌, ◌<ℤ◌, ◌≤ℤ◌, arith, refl}
+use Rattle.std.proofs.Common.{sym, ap, ◌∙◌, subst, inl, inr}
 use Rattle.std.proofs.lemmas.Int.{ints}
 use Rattle.std.proofs.Math.IntN.{*ℤ-zero}
 use Rattle.std.proofs.lemmas.List.{get_or_past}
@@ -45,7 +46,13 @@ divisible-led [] x d = absurd (let l = d.contained.1 in omega arith)
 divisible-led (b ∷ bs) x d = at (Contains-cases b d.member bs d.contained) (divisible-led bs x)
   where
     quotient : (u h : Exponents) → same x (plus u h) ≡ true → same x (plus (minus x h) h) ≡ true
-    quotient u h s = same_by_entries x (plus (minus x h) h) (λ i. omega (arith, entries_same x (plus u h) s i, entry-plus u h i, entry-plus (minus x h) h i, entry-minus x h i))
+    quotient u h s = same_by_entries x (plus (minus x h) h) (λ i. omega (
+      arith,
+      entries_same x (plus u h) s i,
+      entry-plus u h i,
+      entry-plus (minus x h) h i,
+      entry-minus x h i,
+    ))
 
     at : (b ≡ d.member) ⊎ Contains bs d.member → (IsDivisible (Contains bs) x → is_led bs x ≡ true) → is_led (b ∷ bs) x ≡ true
     at (inl e) rec = or_left _ _ (quotient d.rest b.head (subst (λ (c : MarkedPolynomial). same x (plus d.rest c.head) ≡ true) (sym e) d.divides))
@@ -76,13 +83,15 @@ not_above r x y (inl l) = omega arith
 not_above r x y (inr e) = omega (arith, e.0)
 
 -- crossing a facet with a negative normal makes the number of leading monomials smaller, wherever it counts the monomials of the first basis
-pub leading_number_falls : (n : ℕ) (root : List ℤ) (d : ℕ) (a : List ℤ) (bs cs : List MarkedPolynomial) → length root ≡ n → All (λ c. pos 0 <ℤ c) root → length a ≡ n → IsNonzero a → IsNegative root a →
-    HaveParts n a bs cs → ((b : MarkedPolynomial) → Contains bs b → (x : Exponents) → HasMonomial b.poly x → IsInRing n x × (weight (gains root) x < d)) →
-    leading_number (gains root) d cs < leading_number (gains root) d bs
+pub leading_number_falls : (n : ℕ) (root : List ℤ) (d : ℕ) (a : List ℤ) (bs cs : List MarkedPolynomial) → length root ≡ n → All (λ c. pos 0 <ℤ c) root →
+    length a ≡ n → IsNonzero a → IsNegative root a → HaveParts n a bs cs → ((b : MarkedPolynomial) → Contains bs b → (x : Exponents) → HasMonomial b.poly x →
+    IsInRing n x × (weight (gains root) x < d)) → leading_number (gains root) d cs < leading_number (gains root) d bs
 unfolding leading_number
 leading_number_falls n root d a bs cs lr p la nz neg h small =
-    binary_falls (IsWeightedBelow r) (λ x l. o.irreflexive x x (same-refl x) l) o.transitive (is_led bs) (is_led cs) (below_weight r d) (below-ascends r d) (padded n e.at) (listed e.at s.0 s.1)
-    (λ q. let f : is_led bs (padded n e.at) ≡ false = undivided-led bs (padded n e.at) (λ v. e.not_led (back (Contains bs) e.at s.0 v)) in let g : is_led cs (padded n e.at) ≡ true = divisible-led cs (padded n e.at) (onto (Contains cs) e.at s.0 e.led) in absurd (cc))
+    binary_falls (IsWeightedBelow r) (λ x l. o.irreflexive x x (same-refl x) l) o.transitive (is_led bs) (is_led cs) (below_weight r d) (below-ascends r d)
+    (padded n e.at) (listed e.at s.0 s.1)
+    (λ q. let f : is_led bs (padded n e.at) ≡ false = undivided-led bs (padded n e.at) (λ v. e.not_led (back (Contains bs) e.at s.0 v)) in
+    let g : is_led cs (padded n e.at) ≡ true = divisible-led cs (padded n e.at) (onto (Contains cs) e.at s.0 e.led) in absurd (cc))
     (λ x j f g. leaves x (below-is r d x j) f g)
   where
     r : List ℕ
@@ -107,10 +116,13 @@ leading_number_falls n root d a bs cs lr p la nz neg h small =
     back by x i v = divisible_along by (padded n x) x (same_flip x (padded n x) (same-padded n x i)) v
 
     listed : (x : Exponents) → IsInRing n x → weight r x < d → Among (below_weight r d) (padded n x)
-    listed x i l = among_below r d (padded n x) (subst (λ k. IsPositive k r) (sym (length-gains root)) (positive-gains root (at_least_one root p))) (length-padded n x ∙ sym wide) (omega (arith, weight-same r x (padded n x) (same-padded n x i)))
+    listed x i l = among_below r d (padded n x) (subst (λ k. IsPositive k r) (sym (length-gains root)) (positive-gains root (at_least_one root p)))
+        (length-padded n x ∙ sym wide) (omega (arith, weight-same r x (padded n x) (same-padded n x i)))
 
-    leaves : (x : Exponents) → (weight r x < d) × (length x ≡ length r) → is_led bs x ≡ false → is_led cs x ≡ true → Turns (IsWeightedBelow r) (is_led bs) (is_led cs) (below_weight r d) x
-    leaves x m f g = turned (what_enters_pulls n a bs cs x h ring (λ v. let t : is_led bs x ≡ true = divisible-led bs x v in absurd (cc)) (led-divisible cs x g))
+    leaves : (x : Exponents) → (weight r x < d) × (length x ≡ length r) → is_led bs x ≡ false → is_led cs x ≡ true →
+        Turns (IsWeightedBelow r) (is_led bs) (is_led cs) (below_weight r d) x
+    leaves x m f g =
+        turned (what_enters_pulls n a bs cs x h ring (λ v. let t : is_led bs x ≡ true = divisible-led bs x v in absurd (cc)) (led-divisible cs x g))
       where
         ring : IsInRing n x
         ring i l = entry-past x i (let u = m.1 in let v = wide in omega arith)

@@ -56,12 +56,14 @@ same_root F a b h r m s = roots_one F a b h (own_root F a h r) m (own_root F b m
 -- each basis has one path
 pub path_one : (k : Region) (v : MarkedPolynomials) (p q : List (List ℤ)) → IsNode k v → IsPathOf k v p → IsPathOf k v q → p ≡ q
 path_one k v p q h a b =
-    let e = same_root (fan_of k v) b.root a.root (over_node (fan_of k v) b.root q v h b.leads) b.is_root (over_node (fan_of k v) a.root p v h a.leads) a.is_root in
-    one_path (IsParent k) (upward_tree k) a.root (no_loop-rank (IsParent k) (rank k) (upward_falls k) a.root) (length p) p q v (omega arith) a.leads (subst (λ r. Leads (IsParent k) r q v) e b.leads)
+    let e = same_root (fan_of k v) b.root a.root (over_node (fan_of k v) b.root q v h b.leads) b.is_root (over_node (fan_of k v) a.root p v h a.leads)
+    a.is_root in
+    one_path (IsParent k) (upward_tree k) a.root (no_loop-rank (IsParent k) (rank k) (upward_falls k) a.root) (length p) p q v (omega arith) a.leads
+    (subst (λ r. Leads (IsParent k) r q v) e b.leads)
 
 -- the nodes at the paths are below the root
-lead_below : (k : Region) (root : MarkedPolynomials) (ps : List (List (List ℤ))) (nodes : List MarkedPolynomials) (x : MarkedPolynomials) → LeadTo (IsParent k) root ps nodes → Among nodes x →
-    (p : List (List ℤ)) × Leads (IsParent k) root p x
+lead_below : (k : Region) (root : MarkedPolynomials) (ps : List (List (List ℤ))) (nodes : List MarkedPolynomials) (x : MarkedPolynomials) →
+    LeadTo (IsParent k) root ps nodes → Among nodes x → (p : List (List ℤ)) × Leads (IsParent k) root p x
 lead_below k root [] [] x l j = elim j [ ]
 lead_below k root [] (y ∷ ys) x l j = absurd l
 lead_below k root (p ∷ ps) [] x l j = absurd l
@@ -69,8 +71,8 @@ lead_below k root (p ∷ ps) (y ∷ ys) x l (inl e) = (p, subst (Leads (IsParent
 lead_below k root (p ∷ ps) (y ∷ ys) x l (inr j) = lead_below k root ps ys x l.1 j
 
 -- what is listed below the root are all bases of the ideal of any of them
-pub list_of_bases : (k : Region) (root v : MarkedPolynomials) (nodes : List MarkedPolynomials) → IsNode k v → IsNodeIn (fan_of k v) root → IsRoot (IsParent k) root →
-    IsWholeList IsBefore (IsParent k) root nodes → IsListOfBases k v nodes
+pub list_of_bases : (k : Region) (root v : MarkedPolynomials) (nodes : List MarkedPolynomials) → IsNode k v → IsNodeIn (fan_of k v) root →
+    IsRoot (IsParent k) root → IsWholeList IsBefore (IsParent k) root nodes → IsListOfBases k v nodes
 list_of_bases k root v nodes h n r w = record {
   only = λ x j. (let q = lead_below k root w.paths nodes x w.lead j in below_node (fan_of k v) root q.0 x n q.1);
   all = λ x m. (let p = path_exists k x (own k (fan_of k v) x refl m) in
@@ -100,13 +102,16 @@ pub path_below : (k : Region) (top x : MarkedPolynomials) (p q : List (List ℤ)
 path_below k top x p q a l = record { root = a.root; is_root = a.is_root; leads = leads_on (IsParent k) a.root p q top x a.leads l }
 
 -- each prefix of a path is a path
-path_prefix : (k : Region) (s x : MarkedPolynomials) (p q : List (List ℤ)) → Leads (IsParent k) s (p ++ q) x → (t : MarkedPolynomials) × Leads (IsParent k) s p t × Leads (IsParent k) t q x
+path_prefix : (k : Region) (s x : MarkedPolynomials) (p q : List (List ℤ)) → Leads (IsParent k) s (p ++ q) x →
+    (t : MarkedPolynomials) × Leads (IsParent k) s p t × Leads (IsParent k) t q x
 path_prefix k s x [] q l = (s, refl, l)
 path_prefix k s x (c ∷ p) q l = let r = path_prefix k l.0 x p q l.2 in (r.0, (l.0, l.1, r.1), r.2)
 
 -- a basis whose path begins with that of a top is below the top
-pub below_top : (k : Region) (top x : MarkedPolynomials) (p q : List (List ℤ)) → IsNode k top → IsNodeIn (fan_of k top) x → IsPathOf k top p → IsPathOf k x (p ++ q) → Leads (IsParent k) top q x
+pub below_top : (k : Region) (top x : MarkedPolynomials) (p q : List (List ℤ)) → IsNode k top → IsNodeIn (fan_of k top) x → IsPathOf k top p →
+    IsPathOf k x (p ++ q) → Leads (IsParent k) top q x
 below_top k top x p q h m a b =
     let r = path_prefix k b.root x p q b.leads in
-    let e = same_root (fan_of k top) b.root a.root (over_node (fan_of k top) b.root (p ++ q) x m b.leads) b.is_root (over_node (fan_of k top) a.root p top h a.leads) a.is_root in
+    let e = same_root (fan_of k top) b.root a.root (over_node (fan_of k top) b.root (p ++ q) x m b.leads) b.is_root
+    (over_node (fan_of k top) a.root p top h a.leads) a.is_root in
     subst (λ t. Leads (IsParent k) t q x) (leads_one (IsParent k) (upward_tree k) a.root p r.0 top (subst (λ s. Leads (IsParent k) s p r.0) e r.1) a.leads) r.2

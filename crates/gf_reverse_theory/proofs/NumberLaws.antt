@@ -35,7 +35,8 @@ module _ {X : Type 0} (lt : X → X → Type 0) (irreflexive : (x : X) → lt x 
     where
       -- the same for the rest
       Rest : Type 0
-      Rest = (y : X) → Among zs y → (f y ≡ g y → ⊥) → ((w : X) → Among zs w → f w ≡ false → g w ≡ true → Turns lt f g zs w) → binary (map g zs) < binary (map f zs)
+      Rest = (y : X) → Among zs y → (f y ≡ g y → ⊥) → ((w : X) → Among zs w → f w ≡ false → g w ≡ true → Turns lt f g zs w) →
+          binary (map g zs) < binary (map f zs)
 
       later : f z ≡ g z → (y : X) → Turns lt f g (z ∷ zs) y → Turns lt f g zs y
       later e y r = elim r.among [

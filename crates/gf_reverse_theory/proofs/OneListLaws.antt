@@ -26,7 +26,8 @@ use Rattle.gf_reverse_theory.proofs.ListLaws.{own, over_node, same_root, list_of
 
 -- two lists that rise and have the same paths are one
 module _ {L : Type 0} (lt : L → L → Type 0) (strict : IsStrictOrder lt) where
-  rising_one : (ps qs : List (List L)) → Rises lt ps → Rises lt qs → ((p : List L) → Among ps p → Among qs p) → ((q : List L) → Among qs q → Among ps q) → ps ≡ qs
+  rising_one : (ps qs : List (List L)) → Rises lt ps → Rises lt qs → ((p : List L) → Among ps p → Among qs p) → ((q : List L) → Among qs q → Among ps q) →
+      ps ≡ qs
   rising_one [] [] r s there back = refl
   rising_one [] (q ∷ qs) r s there back = absurd (back q (inl refl))
   rising_one (p ∷ ps) [] r s there back = absurd (there p (inl refl))
@@ -95,13 +96,15 @@ list_for F v nodes h l = record {
 -- ---- there is one at most
 
 -- what is listed in one is listed in the other, by the same path
-same_paths : (F : Fan) (a b : List MarkedPolynomials) (root : MarkedPolynomials) (ps qs : List (List (List ℤ))) → ((x : MarkedPolynomials) → Among a x → Among b x) →
-    LeadTo (IsParent F.region) root ps a → LeadTo (IsParent F.region) root qs b → (p : List (List ℤ)) → Among ps p → Among qs p
+same_paths : (F : Fan) (a b : List MarkedPolynomials) (root : MarkedPolynomials) (ps qs : List (List (List ℤ))) →
+    ((x : MarkedPolynomials) → Among a x → Among b x) → LeadTo (IsParent F.region) root ps a → LeadTo (IsParent F.region) root qs b → (p : List (List ℤ)) →
+    Among ps p → Among qs p
 same_paths F a b root ps qs there lead leads p j =
     let u = IsParent F.region in
     let x = node_at u (upward_tree F.region) root ps a lead p j in
     let y = path_at u (upward_tree F.region) root qs b leads x.0 (there x.0 x.1) in
-    subst (Among qs) (one_path u (upward_tree F.region) root (no_loop-rank u (rank F.region) (upward_falls F.region) root) (length y.0) y.0 p x.0 (omega arith) y.2 x.2) y.1
+    subst (Among qs) (one_path u (upward_tree F.region) root (no_loop-rank u (rank F.region) (upward_falls F.region) root) (length y.0) y.0 p x.0 (omega arith)
+    y.2 x.2) y.1
 
 -- the root that a list goes down from is a basis of the ideal
 root_node : (F : Fan) (nodes : List MarkedPolynomials) (l : IsListFor F nodes) (x : MarkedPolynomials) → Among nodes x → IsNodeIn F l.root
@@ -114,7 +117,8 @@ one_below F a b la lb roots =
     let u = IsParent F.region in
     let lead : LeadTo u lb.root la.paths a = subst (λ r. LeadTo u r la.paths a) roots la.lead in
     let paths : la.paths ≡ lb.paths = rising_one IsBefore before_strict la.paths lb.paths la.rises lb.rises
-    (same_paths F a b lb.root la.paths lb.paths (λ x j. lb.all x (la.only x j)) lead lb.lead) (same_paths F b a lb.root lb.paths la.paths (λ x j. la.all x (lb.only x j)) lb.lead lead) in
+    (same_paths F a b lb.root la.paths lb.paths (λ x j. lb.all x (la.only x j)) lead lb.lead)
+    (same_paths F b a lb.root lb.paths la.paths (λ x j. la.all x (lb.only x j)) lb.lead lead) in
     nodes_one u (upward_tree F.region) lb.root lb.paths a b (subst (λ ps. LeadTo u lb.root ps a) paths lead) lb.lead
 
 pub one_list : (F : Fan) (a b : List MarkedPolynomials) → IsListFor F a → IsListFor F b → a ≡ b
@@ -122,14 +126,16 @@ one_list F [] [] la lb = refl
 one_list F [] (y ∷ ys) la lb = absurd (la.all y (lb.only y (inl refl)))
 one_list F (x ∷ xs) [] la lb = absurd (lb.all x (la.only x (inl refl)))
 one_list F (x ∷ xs) (y ∷ ys) la lb =
-    one_below F (x ∷ xs) (y ∷ ys) la lb (same_root F la.root lb.root (root_node F (x ∷ xs) la x (inl refl)) la.is_root (root_node F (y ∷ ys) lb y (inl refl)) lb.is_root)
+    one_below F (x ∷ xs) (y ∷ ys) la lb (same_root F la.root lb.root (root_node F (x ∷ xs) la x (inl refl)) la.is_root (root_node F (y ∷ ys) lb y (inl refl))
+    lb.is_root)
 
 -- ---- there is one
 
 pub list_exists : (F : Fan) → IsFanOfIdeal F → (nodes : List MarkedPolynomials) × IsListFor F nodes
 list_exists F fan = (finite.nodes, list_for F root finite.nodes node (list_of_bases F.region root root finite.nodes mine mine top whole))
   where
-    found : (bs : List MarkedPolynomial) × IsBasisInRegion F.variables F.ideal F.region bs × AreMarked (IsWeightedBelow (gains F.region.root)) bs × IsInClosedCone F.region.root bs
+    found : (bs : List MarkedPolynomial) × IsBasisInRegion F.variables F.ideal F.region bs × AreMarked (IsWeightedBelow (gains F.region.root)) bs ×
+        IsInClosedCone F.region.root bs
     found = basis_at F.variables F.region F.ideal F.region.root fan.ideal fan.region.root
 
     root : MarkedPolynomials
@@ -142,13 +148,16 @@ list_exists F fan = (finite.nodes, list_for F root finite.nodes node (list_of_ba
     mine = own F.region F root refl node
 
     reduced : IsReducedBasisFor F.variables F.ideal (IsWeightedBelow (gains F.region.root)) found.0
-    reduced = (marked_bases_are_reduced.at_order (MonomialOrder.weighted (gains F.region.root)) F.variables F.ideal found.0 fan.ideal (record { reduced = found.1.reduced; arranged = found.1.arranged })).1 found.2
+    reduced = (marked_bases_are_reduced.at_order (MonomialOrder.weighted (gains F.region.root)) F.variables F.ideal found.0 fan.ideal
+        (record { reduced = found.1.reduced; arranged = found.1.arranged })).1 found.2
 
     top : IsRoot (IsParent F.region) root
-    top c u p = root_is_top F.variables F.ideal F.region F.region.root found.0 (region-natural F.variables F.region F.region.root fan.region.root) found.1.arranged.canonical reduced p.normal p.way.leads
+    top c u p = root_is_top F.variables F.ideal F.region F.region.root found.0 (region-natural F.variables F.region F.region.root fan.region.root)
+        found.1.arranged.canonical reduced p.normal p.way.leads
 
     finite : IsFinite IsBefore (IsParent F.region) root (count F.region root)
     finite = upward_finite F.region root mine
 
     whole : IsWholeList IsBefore (IsParent F.region) root finite.nodes
-    whole = whole_below IsBefore (IsParent F.region) before_strict (upward_tree F.region) root (no_loop-rank (IsParent F.region) (rank F.region) (upward_falls F.region) root) finite.nodes finite.leaves
+    whole = whole_below IsBefore (IsParent F.region) before_strict (upward_tree F.region) root
+        (no_loop-rank (IsParent F.region) (rank F.region) (upward_falls F.region) root) finite.nodes finite.leaves

@@ -1,7 +1,8 @@
 -- A basis with a normal that is negative at a root weight has a facet with such a normal that a flip may cross: some vector
 -- of the region gives each normal the sign that it has at the root weight, and on the way to it a facet is crossed.
 -- To cite: sign_or, normal_sign, root_weight, weight_everywhere, near_root, negative_at, normal-signable, negative_gives_flippable.
-use Rattle.std.proofs.Common.{◌≡◌, ◌⊎◌, ℕ, zero, suc, ◌<◌, List, [], ◌∷◌, ◌++◌, length, Contains, All, ℤ, pos, negsuc, ◌<ℤ◌, ◌≤ℤ◌, arith, refl, sym, ap, ◌∙◌, subst, inl, inr}
+use Rattle.std.proofs.Common.{◌≡◌, ◌⊎◌, ℕ, zero, suc, ◌<◌, List, [], ◌∷◌, ◌++◌, length, Contains, All, ℤ, pos, negsuc, ◌<ℤ◌, ◌≤ℤ◌, arith, refl, sym, ap, ◌∙◌}
+use Rattle.std.proofs.Common.{subst, inl, inr}
 use Rattle.std.proofs.lemmas.Int.{ints}
 use Rattle.std.proofs.lemmas.List.Elements.{All-nil, All-append, All-contains, Contains-append_left, Contains-append_right}
 use Rattle.gf_int_theory.specs.Content.{AllZero, scaled}
@@ -72,7 +73,8 @@ units-positive n r w p = all_by (λ t. IsLexPositive (rooted r t)) (units n n) (
     lexed i (negsuc d) l h = absurd (omega (arith, ints, h))
 
     at : (t : List ℤ) → ((i : ℕ) × (i < n) × (t ≡ unit n i)) → IsLexPositive (rooted r t)
-    at t u = subst (λ z. IsLexPositive (rooted r z)) (sym u.2) (lexed u.0 (dot (unit n u.0) r) u.1 (subst (λ (d : ℤ). pos 0 ≤ℤ d) (sym (dot-unit n u.0 r u.1 w)) (p u.0 (pos 0) (let l = u.1 in omega arith))))
+    at t u = subst (λ z. IsLexPositive (rooted r z)) (sym u.2)
+        (lexed u.0 (dot (unit n u.0) r) u.1 (subst (λ (d : ℤ). pos 0 ≤ℤ d) (sym (dot-unit n u.0 r u.1 w)) (p u.0 (pos 0) (let l = u.1 in omega arith))))
 
 -- ---- a vector of the region with the same signs
 
@@ -100,7 +102,12 @@ record SignedVectors (n : ℕ) (r : List ℤ) (ns : List (List ℤ)) : Type 0 wh
   each : (a : List ℤ) → Contains ns a → (IsLexPositive (rooted r a) × Contains list a) ⊎ (IsNegative r a × Contains list (negated a))
 
 signed_vectors : (n : ℕ) (r : List ℤ) (ns : List (List ℤ)) → AreSignable n ns → SignedVectors n r ns
-signed_vectors n r [] h = record { list = []; widths = λ t c. absurd (omega (arith, c.1)); positive = λ t c. absurd (omega (arith, c.1)); each = λ a c. absurd (omega (arith, c.1)) }
+signed_vectors n r [] h = record {
+  list = [];
+  widths = λ t c. absurd (omega (arith, c.1));
+  positive = λ t c. absurd (omega (arith, c.1));
+  each = λ a c. absurd (omega (arith, c.1));
+}
 signed_vectors n r (b ∷ ns) h = at (sign_or r b (h b (Contains-here b ns)).1) (signed_vectors n r ns (λ a c. h a (Contains-there b a ns c)))
   where
     wide : length b ≡ n
@@ -118,11 +125,20 @@ signed_vectors n r (b ∷ ns) h = at (sign_or r b (h b (Contains-here b ns)).1) 
     }
     at (inr m) g = record {
       list = negated b ∷ g.list;
-      widths = λ t c. elim (Contains-cases (negated b) t g.list c) [ inl e ↦ subst (λ (z : List ℤ). length z ≡ n) e (length-negated b ∙ wide) | inr i ↦ g.widths t i ];
-      positive = λ t c. elim (Contains-cases (negated b) t g.list c) [ inl e ↦ subst (λ z. IsLexPositive (rooted r z)) e (subst IsLexPositive (sym (rooted-negated r b)) m) | inr i ↦ g.positive t i ];
+      widths = λ t c. elim (Contains-cases (negated b) t g.list c) [
+        | inl e ↦ subst (λ (z : List ℤ). length z ≡ n) e (length-negated b ∙ wide)
+        | inr i ↦ g.widths t i
+      ];
+      positive = λ t c. elim (Contains-cases (negated b) t g.list c) [
+        | inl e ↦ subst (λ z. IsLexPositive (rooted r z)) e (subst IsLexPositive (sym (rooted-negated r b)) m)
+        | inr i ↦ g.positive t i
+      ];
       each = λ a c. elim (Contains-cases b a ns c) [
         | inl e ↦ inr (subst (IsNegative r) e m, subst (λ z. Contains (negated b ∷ g.list) (negated z)) e (Contains-here (negated b) g.list))
-        | inr i ↦ elim (g.each a i) [ inl u ↦ inl (u.0, Contains-there (negated b) a g.list u.1) | inr u ↦ inr (u.0, Contains-there (negated b) (negated a) g.list u.1) ]
+        | inr i ↦ elim (g.each a i) [
+          | inl u ↦ inl (u.0, Contains-there (negated b) a g.list u.1)
+          | inr u ↦ inr (u.0, Contains-there (negated b) (negated a) g.list u.1)
+        ]
       ];
     }
 
@@ -147,14 +163,16 @@ near_root n k r ns wide rw h = with_signs (signed_vectors n r ns h)
         found : IsSolvable n (s.list ++ (k.rows ++ units n n)) [] → NearRoot n k r ns
         found v = record {
           point = v.0;
-          region = region_of_rows n k v.0 v.1.width (all_by (λ t. pos 0 <ℤ dot t v.0) (k.rows ++ units n n) (λ t i. on t (Contains-append_right s.list (k.rows ++ units n n) t i)));
+          region = region_of_rows n k v.0 v.1.width (all_by (λ t. pos 0 <ℤ dot t v.0) (k.rows ++ units n n)
+              (λ t i. on t (Contains-append_right s.list (k.rows ++ units n n) t i)));
           positive = λ a q p. elim (s.each a q) [
             | inl u ↦ on a (Contains-append_left s.list (k.rows ++ units n n) a u.1)
             | inr u ↦ absurd (lex-not_both (rooted r a) p u.0)
           ];
           negative = λ a q m. elim (s.each a q) [
             | inl u ↦ absurd (lex-not_both (rooted r a) u.0 m)
-            | inr u ↦ (let l = on (negated a) (Contains-append_left s.list (k.rows ++ units n n) (negated a) u.1) in let e = dot-negated a v.0 in omega (arith, ints, l, e))
+            | inr u ↦ (let l = on (negated a) (Contains-append_left s.list (k.rows ++ units n n) (negated a) u.1) in let e = dot-negated a v.0 in
+                omega (arith, ints, l, e))
           ];
         }
           where
@@ -180,18 +198,27 @@ negative_gives_flippable n k r bs w b wide rw c iw o q neg = at (normals_listed 
     at l = towards (near_root n k r l.list wide rw (λ a h. normal-signable n bs a c (l.only a h)))
       where
         towards : NearRoot n k r l.list → (a : List ℤ) × LeadsTowards n k r bs a
-        towards p = found (flippable_towards_root n K bs w b (record { widths = wide; root = record { width = p.region.width; positive = p.region.positive; rows = p.region.rows } }) c
+        towards p = found (flippable_towards_root n K bs w b
+            (record { widths = wide; root = record { width = p.region.width; positive = p.region.positive; rows = p.region.rows } }) c
             (record { width = iw.width; positive = iw.positive; rows = iw.rows }) o q (negative_at b p.point (p.negative b (l.all b q) neg)))
           where
             K : Region
             K = record { rows = k.rows; root = p.point }
 
-            found : ((a : List ℤ) × IsFlippable n (record { rows = k.rows; root = p.point }) bs a × IsNegative p.point a) → (a : List ℤ) × LeadsTowards n k r bs a
+            found : ((a : List ℤ) × IsFlippable n (record { rows = k.rows; root = p.point }) bs a × IsNegative p.point a) →
+                (a : List ℤ) × LeadsTowards n k r bs a
             found f = (
               f.0,
               record {
-                flippable = record { point = f.1.point; region = record { width = f.1.region.width; positive = f.1.region.positive; rows = f.1.region.rows }; inside = f.1.inside };
-                negative = elim (normal_sign n bs r f.0 c f.1.inside.normal) [ inl s ↦ absurd (clash (p.positive f.0 (l.all f.0 f.1.inside.normal) s) f.2) | inr m ↦ m ];
+                flippable = record {
+                  point = f.1.point;
+                  region = record { width = f.1.region.width; positive = f.1.region.positive; rows = f.1.region.rows };
+                  inside = f.1.inside;
+                };
+                negative = elim (normal_sign n bs r f.0 c f.1.inside.normal) [
+                  | inl s ↦ absurd (clash (p.positive f.0 (l.all f.0 f.1.inside.normal) s) f.2)
+                  | inr m ↦ m
+                ];
               },
             )
               where

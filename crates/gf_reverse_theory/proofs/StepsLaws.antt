@@ -29,7 +29,8 @@ back_step : (p q k c : ℤ) → q ≡ p +ℤ k *ℤ c → p ≡ q +ℤ k *ℤ ne
 back_step p q k c e = let f : k *ℤ neg_ℤ c ≡ neg_ℤ (k *ℤ c) = *ℤ-neg k c in omega (arith, ints, e, f)
 
 pub steps-back : (k : ℕ) (a : List ℤ) (x y : Exponents) → IsStepsFrom k a x y → IsStepsFrom k (negated a) y x
-steps-back k a x y h i = back_step (pos (entry x i)) (pos (entry y i)) (pos k) (get_or a i (pos 0)) (h i) ∙ ap (λ z. pos (entry y i) +ℤ pos k *ℤ z) (sym (get-negated a i))
+steps-back k a x y h i = back_step (pos (entry x i)) (pos (entry y i)) (pos k) (get_or a i (pos 0)) (h i) ∙
+    ap (λ z. pos (entry y i) +ℤ pos k *ℤ z) (sym (get-negated a i))
 
 -- ---- how they compare
 grows : (p q k c : ℤ) → q ≡ p +ℤ k *ℤ c → pos 0 <ℤ k → pos 0 <ℤ c → p <ℤ q
@@ -45,7 +46,8 @@ lex_by_steps k (c ∷ a) x y l h (inl p) = record {
   before = λ i m. absurd (omega (arith, m));
   here = (let g = grows (pos (entry x 0)) (pos (entry y 0)) (pos k) c (h 0) (omega (arith, ints)) p in omega (arith, ints, g));
 }
-lex_by_steps k (c ∷ a) x y l h (inr p) = further (lex_by_steps k a (rest x) (rest y) l (λ i. ap pos (entry-rest y i) ∙ h (suc i) ∙ ap (λ z. pos z +ℤ pos k *ℤ get_or a i (pos 0)) (sym (entry-rest x i))) p.1)
+lex_by_steps k (c ∷ a) x y l h (inr p) = further (lex_by_steps k a (rest x) (rest y) l
+    (λ i. ap pos (entry-rest y i) ∙ h (suc i) ∙ ap (λ z. pos z +ℤ pos k *ℤ get_or a i (pos 0)) (sym (entry-rest x i))) p.1)
   where
     first : entry x 0 ≡ entry y 0
     first = let g = stays (pos (entry x 0)) (pos (entry y 0)) (pos k) c (h 0) p.0 in omega (arith, ints, g)
@@ -62,10 +64,15 @@ lex_by_steps k (c ∷ a) x y l h (inr p) = further (lex_by_steps k a (rest x) (r
         early (suc i) m = sym (entry-rest x i) ∙ r.before i (omega arith) ∙ entry-rest y i
 
 -- the root order goes up along a positive vector
-pub below_by_positive : (r : List ℤ) (k : ℕ) (a : List ℤ) (x y : Exponents) → All (λ c. pos 0 ≤ℤ c) r → 0 < k → IsStepsFrom k a x y → IsLexPositive (rooted r a) →
-    IsWeightedBelow (gains r) x y
-below_by_positive r k a x y q l h (inl p) = inl (let e = grows (pos (weight (gains r) x)) (pos (weight (gains r) y)) (pos k) (dot a r) (weight-steps r k a x y q h) (omega (arith, ints)) p in omega (arith, ints, e))
-below_by_positive r k a x y q l h (inr p) = inr ((let e = stays (pos (weight (gains r) x)) (pos (weight (gains r) y)) (pos k) (dot a r) (weight-steps r k a x y q h) p.0 in omega (arith, ints, e)), lex_by_steps k a x y l h p.1)
+pub below_by_positive : (r : List ℤ) (k : ℕ) (a : List ℤ) (x y : Exponents) → All (λ c. pos 0 ≤ℤ c) r → 0 < k → IsStepsFrom k a x y →
+    IsLexPositive (rooted r a) → IsWeightedBelow (gains r) x y
+below_by_positive r k a x y q l h (inl p) = inl (let e = grows (pos (weight (gains r) x)) (pos (weight (gains r) y)) (pos k) (dot a r)
+    (weight-steps r k a x y q h) (omega (arith, ints)) p in omega (arith, ints, e))
+below_by_positive r k a x y q l h (inr p) = inr (
+  (let e = stays (pos (weight (gains r) x)) (pos (weight (gains r) y)) (pos k) (dot a r)
+      (weight-steps r k a x y q h) p.0 in omega (arith, ints, e)),
+  lex_by_steps k a x y l h p.1,
+)
 
 -- what the negative gives at the root
 pub rooted-negated : (r a : List ℤ) → rooted r (negated a) ≡ negated (rooted r a)

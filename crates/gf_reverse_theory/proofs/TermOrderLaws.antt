@@ -3,7 +3,8 @@
 -- To cite: term_order_exists, term_orders_have_bases. The rest are steps.
 -- Source: Sturmfels, Gröbner Bases and Convex Polytopes, 1 (a weight in place of an order).
 use Rattle.std.specs.List.{AllByRecursion}
-use Rattle.std.proofs.Common.{◌≡◌, ◌⊎◌, ℕ, zero, suc, ◌+◌, ◌<◌, ◌≤◌, true, List, [], ◌∷◌, ◌++◌, map, length, unsigned_abs, ℤ, pos, negsuc, ◌+ℤ◌, ◌-ℤ◌, ◌*ℤ◌, ◌<ℤ◌, ◌≤ℤ◌, arith, refl, sym, ap, ap₂, ◌∙◌, subst, inl, inr}
+use Rattle.std.proofs.Common.{◌≡◌, ◌⊎◌, ℕ, zero, suc, ◌+◌, ◌<◌, ◌≤◌, true, List, [], ◌∷◌, ◌++◌, map, length, unsigned_abs, ℤ, pos, negsuc, ◌+ℤ◌, ◌-ℤ◌, ◌*ℤ◌}
+use Rattle.std.proofs.Common.{◌<ℤ◌, ◌≤ℤ◌, arith, refl, sym, ap, ap₂, ◌∙◌, subst, inl, inr}
 use Rattle.std.proofs.lemmas.Bool.{cases_eq}
 use Rattle.std.proofs.lemmas.Int.{ints}
 use Rattle.std.proofs.lemmas.List.Elements.{All-nil, All-from_recursion, recursion_from_All}
@@ -79,7 +80,8 @@ module _ (n : ℕ) (below : Exponents → Exponents → Type 0) (o : IsMonomialO
   below_up x y u v l (inr k) = o.strict.transitive (plus x u) (plus y u) (plus y v) (shifted u x y l) (o.strict.invariant y u v k)
 
   up_below : (x y u v : Exponents) → UpTo x y → below u v → below (plus x u) (plus y v)
-  up_below x y u v (inl e) k = o.strict.along_left (plus y u) (plus x u) (plus y v) (same_flip (plus x u) (plus y u) (same_shift_right u x y e)) (o.strict.invariant y u v k)
+  up_below x y u v (inl e) k = o.strict.along_left (plus y u) (plus x u) (plus y v) (same_flip (plus x u) (plus y u) (same_shift_right u x y e))
+      (o.strict.invariant y u v k)
   up_below x y u v (inr l) k = below_up x y u v l (inr k)
 
   up_up : (x y u v : Exponents) → UpTo x y → UpTo u v → UpTo (plus x u) (plus y v)
@@ -114,19 +116,23 @@ module _ (n : ℕ) (below : Exponents → Exponents → Type 0) (o : IsMonomialO
   products_up : (ms : List ℤ) (ps : List (Exponents × Exponents)) → ArePairs ps → UpTo (lowers ms ps) (uppers ms ps)
   products_up [] ps t = inl refl
   products_up (m ∷ ms) [] t = inl refl
-  products_up (m ∷ ms) (p ∷ ps) t = up_up (power (unsigned_abs m) p.0) (power (unsigned_abs m) p.1) (lowers ms ps) (uppers ms ps) (power_up (unsigned_abs m) p.0 p.1 t.0.rises) (products_up ms ps t.1)
+  products_up (m ∷ ms) (p ∷ ps) t = up_up (power (unsigned_abs m) p.0) (power (unsigned_abs m) p.1) (lowers ms ps) (uppers ms ps)
+      (power_up (unsigned_abs m) p.0 p.1 t.0.rises) (products_up ms ps t.1)
 
-  positive_power : (m : ℤ) (x y u v : Exponents) → pos 0 <ℤ m → below x y → UpTo u v → below (plus (power (unsigned_abs m) x) u) (plus (power (unsigned_abs m) y) v)
+  positive_power : (m : ℤ) (x y u v : Exponents) → pos 0 <ℤ m → below x y → UpTo u v →
+      below (plus (power (unsigned_abs m) x) u) (plus (power (unsigned_abs m) y) v)
   positive_power (pos zero) x y u v l b k = absurd (omega (arith, ints, l))
   positive_power (pos (suc m)) x y u v l b k = below_up (power (suc m) x) (power (suc m) y) u v (below_up x y (power m x) (power m y) b (power_up m x y b)) k
   positive_power (negsuc m) x y u v l b k = absurd (omega (arith, ints, l))
 
-  products_rise : (ms : List ℤ) (ps : List (Exponents × Exponents)) → length ms ≡ length ps → SomePositive ms → ArePairs ps → below (lowers ms ps) (uppers ms ps)
+  products_rise : (ms : List ℤ) (ps : List (Exponents × Exponents)) → length ms ≡ length ps → SomePositive ms → ArePairs ps →
+      below (lowers ms ps) (uppers ms ps)
   products_rise [] ps e s t = absurd s
   products_rise (m ∷ ms) [] e s t = absurd (omega arith)
   products_rise (m ∷ ms) (p ∷ ps) e (inl l) t = positive_power m p.0 p.1 (lowers ms ps) (uppers ms ps) l t.0.rises (products_up ms ps t.1)
   products_rise (m ∷ ms) (p ∷ ps) e (inr s) t =
-      up_below (power (unsigned_abs m) p.0) (power (unsigned_abs m) p.1) (lowers ms ps) (uppers ms ps) (power_up (unsigned_abs m) p.0 p.1 t.0.rises) (products_rise ms ps (omega arith) s t.1)
+      up_below (power (unsigned_abs m) p.0) (power (unsigned_abs m) p.1) (lowers ms ps) (uppers ms ps) (power_up (unsigned_abs m) p.0 p.1 t.0.rises)
+      (products_rise ms ps (omega arith) s t.1)
 
   -- ---- their rows: the upper exponents less the lower ones
 
@@ -161,7 +167,8 @@ module _ (n : ℕ) (below : Exponents → Exponents → Type 0) (o : IsMonomialO
   products-differ (m ∷ ms) (p ∷ ps) i a t =
       ap₂ (λ (x y : ℕ). pos x -ℤ pos y) (entry-plus (power k p.1) (uppers ms ps) i) (entry-plus (power k p.0) (lowers ms ps) i)
       ∙ ap₂ (λ (x y : ℤ). x -ℤ y) (whole-sum (entry (power k p.1) i) (entry (uppers ms ps) i)) (whole-sum (entry (power k p.0) i) (entry (lowers ms ps) i))
-      ∙ sum_of (pos (entry (power k p.1) i)) (pos (entry (power k p.0) i)) (pos (entry (uppers ms ps) i)) (pos (entry (lowers ms ps) i)) (entry_at (scaled m row) i) (entry_at (combined n ms (rows ps)) i) first (products-differ ms ps i a.1 t.1)
+      ∙ sum_of (pos (entry (power k p.1) i)) (pos (entry (power k p.0) i)) (pos (entry (uppers ms ps) i)) (pos (entry (lowers ms ps) i))
+      (entry_at (scaled m row) i) (entry_at (combined n ms (rows ps)) i) first (products-differ ms ps i a.1 t.1)
       ∙ sym (entry_plus (scaled m row) (combined n ms (rows ps)) i (length-times m row ∙ wide.0 ∙ sym (length-combined n ms (rows ps) wide.1)))
     where
       k : ℕ
@@ -188,7 +195,8 @@ module _ (n : ℕ) (below : Exponents → Exponents → Type 0) (o : IsMonomialO
 
   -- no multipliers make the zero vector of the rows
   not_refutable : (ps : List (Exponents × Exponents)) → ArePairs ps → IsRefutable n (rows ps) [] → ⊥
-  not_refutable ps t (ms, es, f) = o.strict.irreflexive (lowers ms ps) (uppers ms ps) (same_by_entries (lowers ms ps) (uppers ms ps) equal) (products_rise ms ps (f.rows_len ∙ length-rows ps) f.not_all_zero t)
+  not_refutable ps t (ms, es, f) = o.strict.irreflexive (lowers ms ps) (uppers ms ps) (same_by_entries (lowers ms ps) (uppers ms ps) equal)
+      (products_rise ms ps (f.rows_len ∙ length-rows ps) f.not_all_zero t)
     where
       zero_at : (i : ℕ) → entry_at (combined n ms (rows ps)) i ≡ pos 0
       zero_at i =
@@ -212,9 +220,11 @@ module _ (n : ℕ) (below : Exponents → Exponents → Type 0) (o : IsMonomialO
       at (inr r) = absurd (not_refutable ps t r)
 
   -- it weighs the upper one more
-  heavier : (v : List ℤ) (ps : List (Exponents × Exponents)) → ArePairs ps → AllByRecursion (λ s. pos 0 <ℤ dot s v) (rows ps) → (p : Exponents × Exponents) → Among ps p → whole_weight v p.0 <ℤ whole_weight v p.1
+  heavier : (v : List ℤ) (ps : List (Exponents × Exponents)) → ArePairs ps → AllByRecursion (λ s. pos 0 <ℤ dot s v) (rows ps) → (p : Exponents × Exponents) →
+      Among ps p → whole_weight v p.0 <ℤ whole_weight v p.1
   heavier v [] t h p j = absurd j
-  heavier v (q ∷ ps) t h p (inl e) = subst (λ z. whole_weight v z.0 <ℤ whole_weight v z.1) e (omega (arith, ints, h.0, dot-differences v q.1 q.0 (t.0.upper ∙ sym t.0.lower)))
+  heavier v (q ∷ ps) t h p (inl e) =
+      subst (λ z. whole_weight v z.0 <ℤ whole_weight v z.1) e (omega (arith, ints, h.0, dot-differences v q.1 q.0 (t.0.upper ∙ sym t.0.lower)))
   heavier v (q ∷ ps) t h p (inr j) = heavier v ps t.1 h.1 p j
 
   -- ---- all pairs of a list
@@ -242,7 +252,8 @@ module _ (n : ℕ) (below : Exponents → Exponents → Type 0) (o : IsMonomialO
   with_one x [] e w = ([], record { pairs = tt; all = λ a b j k. absurd k })
   with_one x (y ∷ ys) e w = at (below_or_not x y) (with_one x ys e w.1)
     where
-      at : below x y ⊎ (below x y → ⊥) → ((ps : List (Exponents × Exponents)) × AreAllPairs (x ∷ []) ys ps) → (ps : List (Exponents × Exponents)) × AreAllPairs (x ∷ []) (y ∷ ys) ps
+      at : below x y ⊎ (below x y → ⊥) → ((ps : List (Exponents × Exponents)) × AreAllPairs (x ∷ []) ys ps) →
+          (ps : List (Exponents × Exponents)) × AreAllPairs (x ∷ []) (y ∷ ys) ps
       at (inl l) (ps, r) = ((x, y) ∷ ps, record { pairs = (record { lower = e; upper = w.0; rises = l }, r.pairs); all = all })
         where
           all : (a b : Exponents) → Among (x ∷ []) a → Among (y ∷ ys) b → below a b → Among ((x, y) ∷ ps) (a, b)
@@ -273,7 +284,8 @@ module _ (n : ℕ) (below : Exponents → Exponents → Type 0) (o : IsMonomialO
   all_pairs [] ys w u = ([], record { pairs = tt; all = λ a b j k. absurd j })
   all_pairs (x ∷ xs) ys w u = at (with_one x ys w.0 u) (all_pairs xs ys w.1 u)
     where
-      at : ((ps : List (Exponents × Exponents)) × AreAllPairs (x ∷ []) ys ps) → ((ps : List (Exponents × Exponents)) × AreAllPairs xs ys ps) → (ps : List (Exponents × Exponents)) × AreAllPairs (x ∷ xs) ys ps
+      at : ((ps : List (Exponents × Exponents)) × AreAllPairs (x ∷ []) ys ps) → ((ps : List (Exponents × Exponents)) × AreAllPairs xs ys ps) →
+          (ps : List (Exponents × Exponents)) × AreAllPairs (x ∷ xs) ys ps
       at (ps, r) (qs, s) = (ps ++ qs, record { pairs = append_pairs ps qs r.pairs s.pairs; all = all })
         where
           all : (a b : Exponents) → Among (x ∷ xs) a → Among ys b → below a b → Among (ps ++ qs) (a, b)
@@ -296,7 +308,8 @@ mapped_wide : (n a : ℕ) (xs : List Exponents) → AllByRecursion (λ x. length
 mapped_wide n a [] w = tt
 mapped_wide n a (x ∷ xs) w = (ap suc w.0, mapped_wide n a xs w.1)
 
-joined_wide : (n : ℕ) (xs ys : List Exponents) → AllByRecursion (λ x. length x ≡ n) xs → AllByRecursion (λ x. length x ≡ n) ys → AllByRecursion (λ x. length x ≡ n) (xs ++ ys)
+joined_wide : (n : ℕ) (xs ys : List Exponents) → AllByRecursion (λ x. length x ≡ n) xs → AllByRecursion (λ x. length x ≡ n) ys →
+    AllByRecursion (λ x. length x ≡ n) (xs ++ ys)
 joined_wide n [] ys a b = b
 joined_wide n (x ∷ xs) ys a b = (a.0, joined_wide n xs ys a.1 b)
 
@@ -328,7 +341,8 @@ in_spread zero (suc a) xs x l j = absurd (omega arith)
 in_spread (suc k) a xs x l j = at (cases_eq a (suc k)) (λ m. in_spread k a xs x m j)
   where
     at : (a ≡ suc k) ⊎ (a ≡ suc k → ⊥) → (a ≤ k → Among (spread k xs) (a ∷ x)) → Among (spread (suc k) xs) (a ∷ x)
-    at (inl e) r = left_of (map (λ y. suc k ∷ y) xs) (spread k xs) (a ∷ x) (subst (λ b. Among (map (λ y. suc k ∷ y) xs) (b ∷ x)) (sym e) (in_map (suc k) xs x j))
+    at (inl e) r = left_of (map (λ y. suc k ∷ y) xs) (spread k xs) (a ∷ x) (subst (λ b. Among (map (λ y. suc k ∷ y) xs) (b ∷ x)) (sym e)
+        (in_map (suc k) xs x j))
     at (inr d) r = right_of (map (λ y. suc k ∷ y) xs) (spread k xs) (a ∷ x) (r (omega (arith, l, d)))
 
 -- the first n exponents
@@ -398,7 +412,10 @@ variable_small (suc i) (suc j) = variable_small i j
 -- a vector that is positive on each variable is positive
 positive_at : (v : List ℤ) → ((i : ℕ) → i < length v → pos 0 <ℤ whole_weight v (variable i)) → AllByRecursion (λ x. pos 0 <ℤ x) v
 positive_at [] h = tt
-positive_at (a ∷ v) h = (subst (λ z. pos 0 <ℤ z) (ap (λ z. a *ℤ pos 1 +ℤ z) (nothing v) ∙ one_part a) (h 0 (omega arith)), positive_at v (λ i l. subst (λ z. pos 0 <ℤ z) (rest_part a (whole_weight v (variable i))) (h (suc i) (omega arith))))
+positive_at (a ∷ v) h = (
+  subst (λ z. pos 0 <ℤ z) (ap (λ z. a *ℤ pos 1 +ℤ z) (nothing v) ∙ one_part a) (h 0 (omega arith)),
+  positive_at v (λ i l. subst (λ z. pos 0 <ℤ z) (rest_part a (whole_weight v (variable i))) (h (suc i) (omega arith))),
+)
   where
     nothing : (v : List ℤ) → whole_weight v [] ≡ pos 0
     nothing [] = refl
@@ -435,7 +452,8 @@ module _ (n : ℕ) (below : Exponents → Exponents → Type 0) (t : IsTermOrder
 
       at : below u v ⊎ (same u v ≡ true) ⊎ below v u → below u v
       at (inl k) = k
-      at (inr (inl e)) = absurd (t.order.strict.irreflexive x y (same_trans x (plus z u) y (same_flip (plus z u) x of_x) (same_trans (plus z u) (plus z v) y (same_shift z u v e) of_y)) l)
+      at (inr (inl e)) = absurd (t.order.strict.irreflexive x y (same_trans x (plus z u) y (same_flip (plus z u) x of_x)
+          (same_trans (plus z u) (plus z v) y (same_shift z u v e) of_y)) l)
       at (inr (inr g)) = absurd (t.order.strict.irreflexive x x (same_itself x) (t.order.strict.transitive x y x l
           (t.order.strict.along_left (plus z v) y x of_y (t.order.strict.along_right (plus z v) (plus z u) x of_x (t.order.strict.invariant z v u g)))))
 
@@ -458,9 +476,11 @@ module _ (n : ℕ) (below : Exponents → Exponents → Type 0) (t : IsTermOrder
       weigh : (x : Exponents) → whole_weight v (trimmed n x) ≡ whole_weight v x
       weigh x = subst (λ m. whole_weight v (trimmed m x) ≡ whole_weight v x) solution.1.width (weight-trimmed v x)
 
-      whole_below : (x y : Exponents) → ((i : ℕ) → entry x i ≤ suc k) → ((i : ℕ) → entry y i ≤ suc k) → ((i : ℕ) → n ≤ i → entry x i ≡ entry y i) → below x y → whole_weight v x <ℤ whole_weight v y
+      whole_below : (x y : Exponents) → ((i : ℕ) → entry x i ≤ suc k) → ((i : ℕ) → entry y i ≤ suc k) → ((i : ℕ) → n ≤ i → entry x i ≡ entry y i) → below x y →
+          whole_weight v x <ℤ whole_weight v y
       whole_below x y p q a l =
-          let h = heavier n below t.order v ps.0 ps.1.pairs (recursion_from_All (λ s. pos 0 <ℤ dot s v) (rows n below t.order ps.0) solution.1.positive) (trimmed n x, trimmed n y)
+          let h = heavier n below t.order v ps.0 ps.1.pairs (recursion_from_All (λ s. pos 0 <ℤ dot s v) (rows n below t.order ps.0) solution.1.positive)
+          (trimmed n x, trimmed n y)
           (ps.1.all (trimmed n x) (trimmed n y) (in_box n (suc k) x p) (in_box n (suc k) y q) (trimmed_below x y a l)) in
           subst (λ z. z <ℤ whole_weight v y) (weigh x) (subst (λ z. whole_weight v (trimmed n x) <ℤ z) (weigh y) h)
 
@@ -480,7 +500,8 @@ module _ (n : ℕ) (below : Exponents → Exponents → Type 0) (t : IsTermOrder
         width = solution.1.width;
         positive = All-from_recursion (λ x. pos 0 <ℤ x) v (positive_at v (λ i l.
             let m : i < n = subst (λ z. i < z) solution.1.width l in
-            subst (λ z. z <ℤ whole_weight v (variable i)) (nothing v) (whole_below [] (variable i) (λ j. omega arith) (λ j. omega (arith, variable_small i j)) (λ j o. sym (variable_past n i j m o)) (above_one i m))));
+            subst (λ z. z <ℤ whole_weight v (variable i)) (nothing v) (whole_below [] (variable i) (λ j. omega arith) (λ j. omega (arith, variable_small i j))
+            (λ j o. sym (variable_past n i j m o)) (above_one i m))));
         rows = All-nil (λ c. pos 0 <ℤ dot c v);
       }
 
@@ -492,10 +513,12 @@ module _ (n : ℕ) (below : Exponents → Exponents → Type 0) (t : IsTermOrder
   -- ---- the reduced basis
 
   -- there is one, and a positive weight gives it
-  pub term_order_exists : (fs : List Terms) → AreInVariables n fs → (bs : List MarkedPolynomial) × IsMarkedReducedBasis n fs bs × IsReducedBasisFor n fs below bs
+  pub term_order_exists : (fs : List Terms) → AreInVariables n fs →
+      (bs : List MarkedPolynomial) × IsMarkedReducedBasis n fs bs × IsReducedBasisFor n fs below bs
   term_order_exists fs v = at (basis_exists n fs below (IsOfGrade n []) v t.order (grading n []) term_weights (homogeneous_in_ring n fs v))
     where
-      at : ((bs : List MarkedPolynomial) × AreMarked below bs × IsBasis n fs bs) → (bs : List MarkedPolynomial) × IsMarkedReducedBasis n fs bs × IsReducedBasisFor n fs below bs
+      at : ((bs : List MarkedPolynomial) × AreMarked below bs × IsBasis n fs bs) →
+          (bs : List MarkedPolynomial) × IsMarkedReducedBasis n fs bs × IsReducedBasisFor n fs below bs
       at b =
           let r = reduced_form n fs b.0 below v t.order.strict b.2 b.1 in
           (r.0, r.1, reduced_by_order n fs r.0 below v r.1.reduced.basis t.order.strict r.2 r.1.reduced.tails r.1.reduced.heads)

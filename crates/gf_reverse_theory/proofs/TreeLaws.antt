@@ -31,7 +31,8 @@ pub record SameFan (F G : Fan) : Type 0 where
   pub other : IsFanOfIdeal G
 
 -- a basis in one is a basis in the other
-basis_moved : (F G : Fan) (bs : List MarkedPolynomial) → SameFan F G → IsBasisInRegion F.variables F.ideal F.region bs → IsBasisInRegion G.variables G.ideal G.region bs
+basis_moved : (F G : Fan) (bs : List MarkedPolynomial) → SameFan F G → IsBasisInRegion F.variables F.ideal F.region bs →
+    IsBasisInRegion G.variables G.ideal G.region bs
 basis_moved F G bs s b =
     only_ideals_count.in_region G.variables F.ideal G.ideal G.region bs s.ideal
     (subst (λ k. IsBasisInRegion G.variables F.ideal k bs) s.region (subst (λ n. IsBasisInRegion n F.ideal F.region bs) s.variables b))
@@ -40,7 +41,8 @@ pub node_moved : (F G : Fan) (v : MarkedPolynomials) → SameFan F G → IsNodeI
 node_moved F G v s h = record { fan = s.other; variables = h.variables ∙ s.variables; basis = basis_moved F G v.items s h.basis }
 
 pub parent_moved : (F G : Fan) (v : MarkedPolynomials) (c : List ℤ) (u : MarkedPolynomials) → SameFan F G → IsParentIn F v c u → IsParentIn G v c u
-parent_moved F G v c u s p = subst (λ k. IsParentIn (record { variables = G.variables; ideal = G.ideal; region = k }) v c u) s.region (onto F.variables s.variables refl)
+parent_moved F G v c u s p = subst (λ k. IsParentIn (record { variables = G.variables; ideal = G.ideal; region = k }) v c u) s.region
+    (onto F.variables s.variables refl)
   where
     H : Fan
     H = record { variables = G.variables; ideal = G.ideal; region = F.region }
@@ -75,7 +77,10 @@ own_fan F v h =
       ideal = w;
       back = record { inside = w.back; back = w.inside };
       fan = h.fan;
-      other = record { ideal = subst (λ m. AreInVariables m (polys v.items)) (sym h.variables) i.0; region = subst (λ m. IsRegion m F.region) (sym h.variables) h.fan.region };
+      other = record {
+        ideal = subst (λ m. AreInVariables m (polys v.items)) (sym h.variables) i.0;
+        region = subst (λ m. IsRegion m F.region) (sym h.variables) h.fan.region;
+      };
     }
 
 pub back_fan : (F G : Fan) → SameFan F G → SameFan G F
@@ -100,7 +105,8 @@ pub above_node : (F : Fan) (v : MarkedPolynomials) (c : List ℤ) (u : MarkedPol
 above_node F v c u p h = (parent_nodes F v c u (in_ideal F v c u h p)).1
 
 pub down_node : (F : Fan) (v : MarkedPolynomials) (c : List ℤ) (u : MarkedPolynomials) → IsParent F.region v c u → IsNodeIn F u → IsNodeIn F v
-down_node F v c u p h = node_moved (fan_of F.region u) F v (back_fan F (fan_of F.region u) (own_fan F u h)) (parent_nodes (fan_of F.region u) v c u (from_above F.region v c u p)).0
+down_node F v c u p h = node_moved (fan_of F.region u) F v (back_fan F (fan_of F.region u) (own_fan F u h))
+    (parent_nodes (fan_of F.region u) v c u (from_above F.region v c u p)).0
 
 -- ---- a tree
 pub upward_nodes : (k : Region) (v : MarkedPolynomials) (c : List ℤ) (u : MarkedPolynomials) → IsParent k v c u → IsNode k v × IsNode k u
@@ -114,18 +120,21 @@ upward_tree k = record {
 }
 
 -- ---- numbers that go by the ideal alone
-heights_within : (r : List ℕ) (xs ys : List (List MarkedPolynomial)) → ((bs : List MarkedPolynomial) → Among xs bs → Among ys bs) → above_bases r xs ≤ above_bases r ys
+heights_within : (r : List ℕ) (xs ys : List (List MarkedPolynomial)) → ((bs : List MarkedPolynomial) → Among xs bs → Among ys bs) →
+    above_bases r xs ≤ above_bases r ys
 heights_within r [] ys h = omega arith
 heights_within r (bs ∷ xs) ys h = (let a = basis_below r ys bs (h bs (inl refl)) in let b = heights_within r xs ys (λ c j. h c (inr j)) in omega arith)
 
 bases_within : (F G : Fan) → SameFan F G → (bs : List MarkedPolynomial) → Among (bases_of F) bs → Among (bases_of G) bs
-bases_within F G s bs j = basis_listed G (record { variables = G.variables; items = bs }) (record { fan = s.other; variables = refl; basis = basis_moved F G bs s (listed_basis F bs s.fan j) })
+bases_within F G s bs j = basis_listed G (record { variables = G.variables; items = bs })
+    (record { fan = s.other; variables = refl; basis = basis_moved F G bs s (listed_basis F bs s.fan j) })
 
 rank_same : (F G : Fan) (bs : List MarkedPolynomial) → SameFan F G → rank_in F bs ≡ rank_in G bs
 unfolding rank_in
 rank_same F G bs s =
     ap (λ k. leading_number (gains k.root) (above_bases (gains k.root) (bases_of F)) bs) s.region
-    ∙ ap (λ d. leading_number (gains G.region.root) d bs) (let a = heights_within (gains G.region.root) (bases_of F) (bases_of G) (bases_within F G s) in let b = heights_within (gains G.region.root) (bases_of G) (bases_of F) (bases_within G F (back_fan F G s)) in omega arith)
+    ∙ ap (λ d. leading_number (gains G.region.root) d bs) (let a = heights_within (gains G.region.root) (bases_of F) (bases_of G) (bases_within F G s) in
+    let b = heights_within (gains G.region.root) (bases_of G) (bases_of F) (bases_within G F (back_fan F G s)) in omega arith)
 
 -- how far a node is below its root at most
 pub rank : Region → MarkedPolynomials → ℕ
@@ -153,9 +162,10 @@ unfolding least_from
 least_from-is f best [] = (inl refl, λ y j. elim j [ inl e ↦ (let g : f best ≡ f y = ap f e in omega arith) | inr k ↦ absurd k ])
 least_from-is f best (x ∷ xs) = at (cases_lt (f x) (f best)) (least_from-is f x xs) (least_from-is f best xs)
   where
-    at : (r : (f x < f best) ⊎ (f best ≤ f x)) → (Among (x ∷ xs) (least_from f x xs) × ((y : List MarkedPolynomial) → Among (x ∷ xs) y → f (least_from f x xs) ≤ f y)) →
-        (Among (best ∷ xs) (least_from f best xs) × ((y : List MarkedPolynomial) → Among (best ∷ xs) y → f (least_from f best xs) ≤ f y)) →
-        Among (best ∷ (x ∷ xs)) (elim r [ inl l ↦ least_from f x xs | inr g ↦ least_from f best xs ]) × ((y : List MarkedPolynomial) → Among (best ∷ (x ∷ xs)) y → f (elim r [ inl l ↦ least_from f x xs | inr g ↦ least_from f best xs ]) ≤ f y)
+    at : (r : (f x < f best) ⊎ (f best ≤ f x)) → (Among (x ∷ xs) (least_from f x xs) × ((y : List MarkedPolynomial) → Among (x ∷ xs) y →
+        f (least_from f x xs) ≤ f y)) → (Among (best ∷ xs) (least_from f best xs) × ((y : List MarkedPolynomial) → Among (best ∷ xs) y →
+        f (least_from f best xs) ≤ f y)) → Among (best ∷ (x ∷ xs)) (elim r [ inl l ↦ least_from f x xs | inr g ↦ least_from f best xs ]) ×
+        ((y : List MarkedPolynomial) → Among (best ∷ (x ∷ xs)) y → f (elim r [ inl l ↦ least_from f x xs | inr g ↦ least_from f best xs ]) ≤ f y)
     at (inl l) a b = (inr a.0, λ y j. elim j [ inl e ↦ (let g : f best ≡ f y = ap f e in let h = a.1 x (inl refl) in omega arith) | inr k ↦ a.1 y k ])
     at (inr g) a b = (
       elim b.0 [ inl e ↦ inl e | inr k ↦ inr (inr k) ],
@@ -181,7 +191,8 @@ root_is F v h =
     let l = least_of-is (rank_in F) (bases_of F) v.items (basis_listed F v h) in (
       record { fan = h.fan; variables = refl; basis = listed_basis F (least_of (rank_in F) (bases_of F)) h.fan l.0 },
       λ c u p. (let f = parents_fall F (record { variables = F.variables; items = least_of (rank_in F) (bases_of F) }) c u p in
-          let g = l.1 u.items (basis_listed F u (parent_nodes F (record { variables = F.variables; items = least_of (rank_in F) (bases_of F) }) c u p).1) in absurd (omega arith)),
+          let g = l.1 u.items (basis_listed F u (parent_nodes F (record { variables = F.variables; items = least_of (rank_in F) (bases_of F) }) c u p).1) in
+          absurd (omega arith)),
     )
 
 root_same : (F G : Fan) (v : MarkedPolynomials) → SameFan F G → IsNodeIn F v → root_of F ≡ root_of G
@@ -206,7 +217,8 @@ upward_level k v c u p =
 
 -- what is below a node of a fan can be listed
 pub finite_in : (F : Fan) (top : MarkedPolynomials) → IsNodeIn F top → IsFinite IsBefore (IsParent F.region) top (length (node_list F))
-finite_in F top h = finite_tree (IsParent F.region) (IsNodeIn F) (down_node F) (above_node F) (rank F.region) (λ v c u n p. upward_falls F.region v c u p) climbs IsBefore before_strict (upward_tree F.region)
+finite_in F top h = finite_tree (IsParent F.region) (IsNodeIn F) (down_node F) (above_node F) (rank F.region) (λ v c u n p. upward_falls F.region v c u p)
+    climbs IsBefore before_strict (upward_tree F.region)
     (node_list F) (node_listed F) (listed_node F h.fan) roots top h
   where
     own : (v : MarkedPolynomials) → IsNodeIn F v → IsNode F.region v
@@ -215,16 +227,19 @@ finite_in F top h = finite_tree (IsParent F.region) (IsNodeIn F) (down_node F) (
     climbs : (v : MarkedPolynomials) → IsNodeIn F v → Parent (IsParent F.region) v ⊎ IsRoot (IsParent F.region) v
     climbs v n = climbs_own v (parents_climb (fan_of F.region v) v (own v n))
       where
-        climbs_own : (v : MarkedPolynomials) → Parent (IsParentIn (fan_of F.region v)) v ⊎ IsRoot (IsParentIn (fan_of F.region v)) v → Parent (IsParent F.region) v ⊎ IsRoot (IsParent F.region) v
+        climbs_own : (v : MarkedPolynomials) → Parent (IsParentIn (fan_of F.region v)) v ⊎ IsRoot (IsParentIn (fan_of F.region v)) v →
+            Parent (IsParent F.region) v ⊎ IsRoot (IsParent F.region) v
         climbs_own v (inl p) = inl (record { label = p.label; node = p.node; is = p.is })
         climbs_own v (inr q) = inr q
 
     roots : (a b : MarkedPolynomials) → IsNodeIn F a → IsRoot (IsParent F.region) a → IsNodeIn F b → IsRoot (IsParent F.region) b → a ≡ b
-    roots a b na ra nb rb = roots_one F a b na (λ c u p. ra c u (parent_moved F (fan_of F.region a) a c u (own_fan F a na) p)) nb (λ c u p. rb c u (parent_moved F (fan_of F.region b) b c u (own_fan F b nb) p))
+    roots a b na ra nb rb = roots_one F a b na (λ c u p. ra c u (parent_moved F (fan_of F.region a) a c u (own_fan F a na) p)) nb
+        (λ c u p. rb c u (parent_moved F (fan_of F.region b) b c u (own_fan F b nb) p))
 
 -- by the count of a node
 pub upward_finite : (k : Region) (top : MarkedPolynomials) → IsNode k top → IsFinite IsBefore (IsParent k) top (count k top)
 unfolding count whole_fan
 upward_finite k top h =
     let r = root_is (fan_of k top) top h in
-    finite_in (fan_of k (root_of (fan_of k top))) top (node_moved (fan_of k top) (fan_of k (root_of (fan_of k top))) top (own_fan (fan_of k top) (root_of (fan_of k top)) r.0) h)
+    finite_in (fan_of k (root_of (fan_of k top))) top (node_moved (fan_of k top) (fan_of k (root_of (fan_of k top))) top
+    (own_fan (fan_of k top) (root_of (fan_of k top)) r.0) h)

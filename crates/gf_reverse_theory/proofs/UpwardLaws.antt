@@ -25,9 +25,11 @@ pub same_list : (v w : MarkedPolynomials) → v.variables ≡ w.variables → v.
 same_list v w e f = ap₂ (λ (n : ℕ) (bs : List MarkedPolynomial). record { variables = n; items = bs }) e f
 
 -- seen from the parent: the child is across the label
-pub from_parent : (F : Fan) (v : MarkedPolynomials) (c : List ℤ) (u : MarkedPolynomials) → IsParentIn F v c u → AreAdjacent F.variables F.ideal F.region u.items c v.items
+pub from_parent : (F : Fan) (v : MarkedPolynomials) (c : List ℤ) (u : MarkedPolynomials) → IsParentIn F v c u →
+    AreAdjacent F.variables F.ideal F.region u.items c v.items
 from_parent F v c u p =
-    subst (λ b. AreAdjacent F.variables F.ideal F.region u.items b v.items) (sym p.label) (adjacent_turned F.variables F.ideal F.region v.items p.normal u.items p.adjacent)
+    subst (λ b. AreAdjacent F.variables F.ideal F.region u.items b v.items) (sym p.label)
+    (adjacent_turned F.variables F.ideal F.region v.items p.normal u.items p.adjacent)
 
 -- ---- the tree
 pub parents_tree : (F : Fan) → IsTree (IsParentIn F)
@@ -40,11 +42,13 @@ parents_tree F = record { one_label = one_label; one_parent = one_parent; one_ch
     one_parent v u w b c p q =
         let e = one_way F.variables F.region v.items p.normal q.normal p.way q.way in
         same_list u w (p.parent ∙ sym q.parent)
-        (adjacent_unique F.variables F.ideal F.region F.region v.items q.normal u.items w.items p.fan.ideal (subst (λ a. AreAdjacent F.variables F.ideal F.region v.items a u.items) e p.adjacent) q.adjacent)
+        (adjacent_unique F.variables F.ideal F.region F.region v.items q.normal u.items w.items p.fan.ideal
+        (subst (λ a. AreAdjacent F.variables F.ideal F.region v.items a u.items) e p.adjacent) q.adjacent)
 
     one_child : (v w u : MarkedPolynomials) (c : List ℤ) → IsParentIn F v c u → IsParentIn F w c u → v ≡ w
     one_child v w u c p q =
-        same_list v w (p.child ∙ sym q.child) (adjacent_unique F.variables F.ideal F.region F.region u.items c v.items w.items p.fan.ideal (from_parent F v c u p) (from_parent F w c u q))
+        same_list v w (p.child ∙ sym q.child) (adjacent_unique F.variables F.ideal F.region F.region u.items c v.items w.items p.fan.ideal
+        (from_parent F v c u p) (from_parent F w c u q))
 
 -- parents and children are nodes
 pub parent_nodes : (F : Fan) (v : MarkedPolynomials) (c : List ℤ) (u : MarkedPolynomials) → IsParentIn F v c u → IsNodeIn F v × IsNodeIn F u

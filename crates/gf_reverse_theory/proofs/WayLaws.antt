@@ -26,17 +26,27 @@ module _ (n : ℕ) (k : Region) (bs : List MarkedPolynomial) (wide : AreRows n k
 
   -- the least of a list that leads up, or none does
   least_in : (ns : List (List ℤ)) → ((a : List ℤ) → Contains ns a → IsNormal bs a) →
-      ((a : List ℤ) × LeadsUp n k bs a × ((b : List ℤ) → Contains ns b → LeadsUp n k bs b → (a ≡ b) ⊎ IsBefore a b)) ⊎ ((a : List ℤ) → Contains ns a → LeadsUp n k bs a → ⊥)
+      ((a : List ℤ) × LeadsUp n k bs a × ((b : List ℤ) → Contains ns b → LeadsUp n k bs b → (a ≡ b) ⊎ IsBefore a b)) ⊎ ((a : List ℤ) → Contains ns a →
+      LeadsUp n k bs a → ⊥)
   least_in [] h = inr (λ a c. absurd (omega (arith, c.1)))
   least_in (b ∷ ns) h = at (leads_or_not b (h b (Contains-here b ns))) (least_in ns (λ a c. h a (Contains-there b a ns c)))
     where
-      at : LeadsUp n k bs b ⊎ (LeadsUp n k bs b → ⊥) → ((a : List ℤ) × LeadsUp n k bs a × ((c : List ℤ) → Contains ns c → LeadsUp n k bs c → (a ≡ c) ⊎ IsBefore a c)) ⊎ ((a : List ℤ) → Contains ns a → LeadsUp n k bs a → ⊥) →
-          ((a : List ℤ) × LeadsUp n k bs a × ((c : List ℤ) → Contains (b ∷ ns) c → LeadsUp n k bs c → (a ≡ c) ⊎ IsBefore a c)) ⊎ ((a : List ℤ) → Contains (b ∷ ns) a → LeadsUp n k bs a → ⊥)
+      at : LeadsUp n k bs b ⊎ (LeadsUp n k bs b → ⊥) → ((a : List ℤ) × LeadsUp n k bs a × ((c : List ℤ) → Contains ns c → LeadsUp n k bs c →
+          (a ≡ c) ⊎ IsBefore a c)) ⊎ ((a : List ℤ) → Contains ns a → LeadsUp n k bs a → ⊥) →
+          ((a : List ℤ) × LeadsUp n k bs a × ((c : List ℤ) → Contains (b ∷ ns) c → LeadsUp n k bs c → (a ≡ c) ⊎ IsBefore a c)) ⊎ ((a : List ℤ) →
+          Contains (b ∷ ns) a → LeadsUp n k bs a → ⊥)
       at (inr m) (inr none) = inr (λ a c u. elim (Contains-cases b a ns c) [ inl e ↦ m (subst (LeadsUp n k bs) (sym e) u) | inr l ↦ none a l u ])
       at (inr m) (inl r) = inl (r.0, r.1, λ c l u. elim (Contains-cases b c ns l) [ inl e ↦ absurd (m (subst (LeadsUp n k bs) (sym e) u)) | inr i ↦ r.2 c i u ])
       at (inl u) (inr none) = inl (b, u, λ c l w. elim (Contains-cases b c ns l) [ inl e ↦ inl e | inr i ↦ absurd (none c i w) ])
       at (inl u) (inl r) = elim (before_strict.total b r.0) [
-        | inl l ↦ inl (b, u, λ c i w. elim (Contains-cases b c ns i) [ inl e ↦ inl e | inr j ↦ elim (r.2 c j w) [ inl f ↦ inr (subst (IsBefore b) f l) | inr m ↦ inr (before_strict.transitive b r.0 c l m) ] ])
+        | inl l ↦ inl (
+          b,
+          u,
+          λ c i w. elim (Contains-cases b c ns i) [
+            | inl e ↦ inl e
+            | inr j ↦ elim (r.2 c j w) [ inl f ↦ inr (subst (IsBefore b) f l) | inr m ↦ inr (before_strict.transitive b r.0 c l m) ]
+          ],
+        )
         | inr t ↦ elim t [
           | inl e ↦ inl (b, u, λ c i w. elim (Contains-cases b c ns i) [ inl f ↦ inl f | inr j ↦ subst (λ a. (a ≡ c) ⊎ IsBefore a c) (sym e) (r.2 c j w) ])
           | inr l ↦ inl (r.0, r.1, λ c i w. elim (Contains-cases b c ns i) [ inl f ↦ inr (subst (IsBefore r.0) f l) | inr j ↦ r.2 c j w ])

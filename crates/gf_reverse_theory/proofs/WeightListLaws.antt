@@ -1,6 +1,7 @@
 -- The list of the monomials up to a weight: what is in it, and that it ascends.
 -- To cite: among_below, below-weight, below-long, below-ascends. The rest are steps.
-use Rattle.std.proofs.Common.{◌≡◌, ◌⊎◌, if◌then◌else◌, ℕ, zero, suc, ◌+◌, ◌-◌, ◌*◌, ◌<◌, ◌≤◌, ◌==◌, Bool, true, false, List, [], ◌∷◌, ◌++◌, map, length, arith, refl, sym, ap, ◌∙◌, subst, inl, inr}
+use Rattle.std.proofs.Common.{◌≡◌, ◌⊎◌, if◌then◌else◌, ℕ, zero, suc, ◌+◌, ◌-◌, ◌*◌, ◌<◌, ◌≤◌, ◌==◌, Bool, true, false, List, [], ◌∷◌, ◌++◌, map, length, arith}
+use Rattle.std.proofs.Common.{refl, sym, ap, ◌∙◌, subst, inl, inr}
 use Rattle.std.proofs.lemmas.Bool.{cases_lt}
 use Rattle.std.proofs.lemmas.Bool.Decides.{nat_tests}
 use Rattle.gf_exponents_theory.specs.Exponents.{Exponents, weight}
@@ -82,14 +83,16 @@ fits_or_not a d = at ((a - d) == 0) refl
 
 by_first-is : (others : ℕ → List Exponents) (r d k : ℕ) (x : Exponents) → Among (by_first others r d k) x → IsByFirst others r d k x
 by_first-is others r d zero x j = elim j [ ]
-by_first-is others r d (suc k) x j = at (among-append (by_first others r d k) (if (r * k - d) == 0 then map (λ (y : Exponents). k ∷ y) (others (d - r * k)) else []) x j) (λ i. by_first-is others r d k x i)
+by_first-is others r d (suc k) x j = at (among-append (by_first others r d k) (if (r * k - d) == 0 then map (λ (y : Exponents). k ∷ y) (others (d - r * k)) else
+    []) x j) (λ i. by_first-is others r d k x i)
   where
     at : Among (by_first others r d k) x ⊎ Among (if (r * k - d) == 0 then map (λ (y : Exponents). k ∷ y) (others (d - r * k)) else []) x →
         (Among (by_first others r d k) x → IsByFirst others r d k x) → IsByFirst others r d (suc k) x
     at (inl i) rec = let q = rec i in record { first = q.first; small = omega (arith, q.small); fits = q.fits; rest = q.rest; among = q.among; is = q.is }
     at (inr i) rec = elim (fits_or_not (r * k) d) [
       | inr f ↦ absurd (subst (λ (b : Bool). Among (if b then map (λ (y : Exponents). k ∷ y) (others (d - r * k)) else []) x) f.0 i)
-      | inl f ↦ (let q = among-map (λ (y : Exponents). k ∷ y) (others (d - r * k)) x (subst (λ (b : Bool). Among (if b then map (λ (y : Exponents). k ∷ y) (others (d - r * k)) else []) x) f.0 i) in
+      | inl f ↦ (let q = among-map (λ (y : Exponents). k ∷ y) (others (d - r * k)) x
+          (subst (λ (b : Bool). Among (if b then map (λ (y : Exponents). k ∷ y) (others (d - r * k)) else []) x) f.0 i) in
           record { first = k; small = omega arith; fits = f.1; rest = q.0; among = q.1; is = q.2 })
     ]
 
@@ -101,7 +104,8 @@ among_by_first others r d (suc k) a y l f j = at (cases_lt a k) (λ m. among_by_
     last : a ≡ k → Among (if (r * k - d) == 0 then map (λ (z : Exponents). k ∷ z) (others (d - r * k)) else []) (a ∷ y)
     last e = subst (λ c. Among (if (r * c - d) == 0 then map (λ (z : Exponents). c ∷ z) (others (d - r * c)) else []) (a ∷ y)) e
         (elim (fits_or_not (r * a) d) [
-          | inl g ↦ subst (λ (b : Bool). Among (if b then map (λ (z : Exponents). a ∷ z) (others (d - r * a)) else []) (a ∷ y)) (sym g.0) (among-mapped (λ (z : Exponents). a ∷ z) (others (d - r * a)) y j)
+          | inl g ↦ subst (λ (b : Bool). Among (if b then map (λ (z : Exponents). a ∷ z) (others (d - r * a)) else []) (a ∷ y)) (sym g.0)
+              (among-mapped (λ (z : Exponents). a ∷ z) (others (d - r * a)) y j)
           | inr g ↦ absurd (let m = g.1 in omega arith)
         ])
 
@@ -112,7 +116,9 @@ among_by_first others r d (suc k) a y l f j = at (cases_lt a k) (λ m. among_by_
 by_first-ascends : (others : ℕ → List Exponents) → ((d : ℕ) → AscendsBy IsLexBelow (others d)) → (r d k : ℕ) → AscendsBy IsLexBelow (by_first others r d k)
 by_first-ascends others h r d zero = tt
 by_first-ascends others h r d (suc k) =
-    ascends-append IsLexBelow (by_first others r d k) (if (r * k - d) == 0 then map (λ (y : Exponents). k ∷ y) (others (d - r * k)) else []) (by_first-ascends others h r d k) (last ((r * k - d) == 0)) (λ x y i j. cross x y (by_first-is others r d k x i) (among-last ((r * k - d) == 0) y j))
+    ascends-append IsLexBelow (by_first others r d k) (if (r * k - d) == 0 then map (λ (y : Exponents). k ∷ y) (others (d - r * k)) else
+    []) (by_first-ascends others h r d k) (last ((r * k - d) == 0)) (λ x y i j. cross x y (by_first-is others r d k x i)
+    (among-last ((r * k - d) == 0) y j))
   where
     last : (b : Bool) → AscendsBy IsLexBelow (if b then map (λ (y : Exponents). k ∷ y) (others (d - r * k)) else [])
     last true = ascends-map IsLexBelow IsLexBelow (λ (y : Exponents). k ∷ y) (λ x y l. lex-later k k x y refl l) (others (d - r * k)) (h (d - r * k))
@@ -123,7 +129,8 @@ by_first-ascends others h r d (suc k) =
     among-last false y j = elim j [ ]
 
     cross : (x y : Exponents) → IsByFirst others r d k x → ((z : Exponents) × (k ∷ z ≡ y)) → IsLexBelow x y
-    cross x y q z = subst (λ (u : Exponents). IsLexBelow u y) q.is (subst (λ (v : Exponents). IsLexBelow (q.first ∷ q.rest) v) z.1 (lex-first q.first k q.rest z.0 q.small))
+    cross x y q z = subst (λ (u : Exponents). IsLexBelow u y) q.is (subst (λ (v : Exponents). IsLexBelow (q.first ∷ q.rest) v) z.1
+        (lex-first q.first k q.rest z.0 q.small))
 
 -- ---- of one weight
 of_weight-is : (r : List ℕ) (d : ℕ) (x : Exponents) → Among (of_weight r d) x → (weight r x ≡ d) × (length x ≡ length r)
@@ -135,7 +142,10 @@ of_weight-is (r ∷ rs) d x j = at (by_first-is (of_weight rs) r d (suc d) x j) 
     at : IsByFirst (of_weight rs) r d (suc d) x → ((e : ℕ) (y : Exponents) → Among (of_weight rs e) y → (weight rs y ≡ e) × (length y ≡ length rs)) →
         (weight (r ∷ rs) x ≡ d) × (length x ≡ length (r ∷ rs))
     at q rec = let p = rec (d - r * q.first) q.rest q.among in
-        subst (λ (z : Exponents). (weight (r ∷ rs) z ≡ d) × (length z ≡ length (r ∷ rs))) q.is ((let f = q.fits in let e = p.0 in omega arith), (let e = p.1 in omega arith))
+        subst (λ (z : Exponents). (weight (r ∷ rs) z ≡ d) × (length z ≡ length (r ∷ rs))) q.is (
+          (let f = q.fits in let e = p.0 in omega arith),
+          (let e = p.1 in omega arith),
+        )
 
 pub among_of : (r : List ℕ) (x : Exponents) → IsPositive (length r) r → length x ≡ length r → Among (of_weight r (weight r x)) x
 among_of [] [] p e = inl refl
@@ -172,5 +182,6 @@ pub below-ascends : (r : List ℕ) (d : ℕ) → AscendsBy (IsWeightedBelow r) (
 below-ascends r zero = tt
 below-ascends r (suc d) =
     ascends-append (IsWeightedBelow r) (below_weight r d) (of_weight r d) (below-ascends r d)
-    (ascends-within IsLexBelow (IsWeightedBelow r) (of_weight r d) (λ x y i j l. inr ((of_weight-is r d x i).0 ∙ sym (of_weight-is r d y j).0, l)) (of_weight-ascends r d))
+    (ascends-within IsLexBelow (IsWeightedBelow r) (of_weight r d) (λ x y i j l. inr ((of_weight-is r d x i).0 ∙ sym (of_weight-is r d y j).0, l))
+    (of_weight-ascends r d))
     (λ x y i j. inl (let p = (below-is r d x i).0 in let q = (of_weight-is r d y j).0 in omega arith))

@@ -85,7 +85,8 @@ pub record CrossingsFall : Type 0 where
       length r ≡ n → All (λ c. pos 0 <ℤ c) r → AreAdjacent n fs k bs a cs → IsNegative r a → above_members (gains r) bs ≤ d →
       leading_number (gains r) d cs < leading_number (gains r) d bs
   pub ends : (n : ℕ) (fs : List Terms) (k : Region) (r : List ℤ) → AreInVariables n fs → AreRows n k.rows → IsRootWeight n k r →
-      (height : List MarkedPolynomial → ℕ) × ((bs cs : List MarkedPolynomial) (a : List ℤ) → AreAdjacent n fs k bs a cs → IsNegative r a → height cs < height bs)
+      (height : List MarkedPolynomial → ℕ) × ((bs cs : List MarkedPolynomial) (a : List ℤ) → AreAdjacent n fs k bs a cs → IsNegative r a →
+      height cs < height bs)
 
 -- no way along parents leads back to where it began
 abbrev pub NoCycles : Type 0

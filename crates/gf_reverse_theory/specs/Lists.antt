@@ -50,4 +50,5 @@ pub record AnswersBasis (k : Region) (old : Mark (List ℤ)) (top here : List (L
 
 -- a walker at r below a top with the path p answers v, in the words of whole paths
 abbrev pub AnswersByPaths : Region → Mark (List ℤ) → MarkedPolynomials → ℕ → MarkedPolynomials → Type 0
-AnswersByPaths k old here depth v = (top : MarkedPolynomials) (p r : List (List ℤ)) → StandsBelow (IsParent k) top r here depth → IsNode k top → IsPathOf k top p → (then : List (List ℤ)) × AnswersBasis k old p (p ++ r) v then
+AnswersByPaths k old here depth v = (top : MarkedPolynomials) (p r : List (List ℤ)) → StandsBelow (IsParent k) top r here depth → IsNode k top →
+    IsPathOf k top p → (then : List (List ℤ)) × AnswersBasis k old p (p ++ r) v then

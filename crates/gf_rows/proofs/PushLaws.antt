@@ -15,5 +15,6 @@ terms_push n old new t e h l = subst (HasVariables n) (sym e) (HasVariables-push
 pub polys_push : (n : ℕ) (old new : List Terms) (f : Terms) → new ≡ old ++ f ∷ [] → Each (HasVariables n) old → HasVariables n f → Each (HasVariables n) new
 polys_push n old new f e h p = subst (Each (HasVariables n)) (sym e) (each_push (HasVariables n) old f h p)
 
-pub members_push : (n : ℕ) (old new : List MarkedPolynomial) (b : MarkedPolynomial) → new ≡ old ++ b ∷ [] → HaveVariables n old → HasVariables n b.poly → HaveVariables n new
+pub members_push : (n : ℕ) (old new : List MarkedPolynomial) (b : MarkedPolynomial) → new ≡ old ++ b ∷ [] → HaveVariables n old → HasVariables n b.poly →
+    HaveVariables n new
 members_push n old new b e h p = subst (HaveVariables n) (sym e) (each_push (λ (c : MarkedPolynomial). HasVariables n c.poly) old b h p)

@@ -53,5 +53,6 @@ told_by_marks n fs s v h =
     variables : AreInVariables n (polys s.items)
     variables f c = let b = Contains-marked s.items f c in subst (IsInVariables n) b.2 (variables_by_terms n b.0.poly (h.arranged.canonical b.0 b.1).variables)
 
-pub told_as : (n : ℕ) (fs : List Terms) (s : MarkedPolynomials) (answer : Bool) → HaveRingVariables n fs → IsSaturation n fs s → IsTrue answer ↔ HasUnitMark s.items → IsTrue answer ↔ HasOneTermMember n fs
+pub told_as : (n : ℕ) (fs : List Terms) (s : MarkedPolynomials) (answer : Bool) → HaveRingVariables n fs → IsSaturation n fs s →
+    IsTrue answer ↔ HasUnitMark s.items → IsTrue answer ↔ HasOneTermMember n fs
 told_as n fs s answer v h y = let m = told_by_marks n fs s v h in (λ t. m.0 (y.0 t), λ k. y.1 (m.1 k))

@@ -12,7 +12,8 @@ found_here P xs i x l e p = (x, (i, l, sym e), p)
 
 pub not_yet : {A : Type 0} (P : A → Type 0) (xs : List A) (i : ℕ) (x : A) → i < length xs → x ≡ get_or xs i x → (P x → ⊥) →
     (HasSuch P (take i xs) → ⊥) → HasSuch P (take (i + 1) xs) → ⊥
-not_yet {A} P xs i x l e n h o = at (Contains-last (take i xs) x o.0 (subst (λ (z : List A). Contains z o.0) (take_more xs i x l ∙ ap (λ (y : A). take i xs ++ y ∷ []) (sym e)) o.1))
+not_yet {A} P xs i x l e n h o =
+    at (Contains-last (take i xs) x o.0 (subst (λ (z : List A). Contains z o.0) (take_more xs i x l ∙ ap (λ (y : A). take i xs ++ y ∷ []) (sym e)) o.1))
   where
     at : Contains (take i xs) o.0 ⊎ (o.0 ≡ x) → ⊥
     at (inl k) = h (o.0, k, o.2)

@@ -44,7 +44,8 @@ pub divided_out : (m : ℕ) (gs : List Terms) (bs : List MarkedPolynomial) (B : 
 divided_out m gs bs B u f v b closed inside ring still within member = at (divided bs b.marked.0 B f b.marked.2 closed within)
   where
     at : Divided bs B f → IsMember m gs f
-    at d = member_of_spans m gs f v (λ x h. inside x (within x h)) (Spans-equal gs p f (λ e. sym (d.equal e ∙ ap (λ z. z +ℚ coefficient p e) (none e) ∙ zero-+ℚ _)) spans_p)
+    at d = member_of_spans m gs f v (λ x h. inside x (within x h))
+        (Spans-equal gs p f (λ e. sym (d.equal e ∙ ap (λ z. z +ℚ coefficient p e) (none e) ∙ zero-+ℚ _)) spans_p)
       where
         r : Terms
         r = d.remainder
@@ -53,7 +54,8 @@ divided_out m gs bs B u f v b closed inside ring still within member = at (divid
         p = value d.pieces
 
         spans_p : Spans gs p
-        spans_p = spans_value gs (Contains bs) (λ c k. spans_of_member m gs c.poly (b.members c k)) d.pieces (Each-weaker (IsPieceIn (Contains bs) B) (λ (q : Piece). Contains bs q.of) (λ q k. k.member) d.pieces d.inside)
+        spans_p = spans_value gs (Contains bs) (λ c k. spans_of_member m gs c.poly (b.members c k)) d.pieces
+            (Each-weaker (IsPieceIn (Contains bs) B) (λ (q : Piece). Contains bs q.of) (λ q k. k.member) d.pieces d.inside)
 
         taken : SamePolynomial r (f ++ times (neg_ℚ one_ℚ) [] p)
         taken e =
@@ -63,8 +65,10 @@ divided_out m gs bs B u f v b closed inside ring still within member = at (divid
 
         multiple : Spans gs (times one_ℚ u r)
         multiple = Spans-equal gs (times one_ℚ u f ++ times one_ℚ u (times (neg_ℚ one_ℚ) [] p)) (times one_ℚ u r)
-            (λ e. ap (λ g. coefficient g e) (sym (times-++ one_ℚ u f (times (neg_ℚ one_ℚ) [] p))) ∙ sym (SamePolynomial-times one_ℚ u r (f ++ times (neg_ℚ one_ℚ) [] p) taken e))
-            (Spans-++ gs (times one_ℚ u f) (times one_ℚ u (times (neg_ℚ one_ℚ) [] p)) (spans_of_member m gs (times one_ℚ u f) member) (Spans-times gs (times (neg_ℚ one_ℚ) [] p) one_ℚ u (Spans-times gs p (neg_ℚ one_ℚ) [] spans_p)))
+            (λ e. ap (λ g. coefficient g e) (sym (times-++ one_ℚ u f (times (neg_ℚ one_ℚ) [] p))) ∙
+            sym (SamePolynomial-times one_ℚ u r (f ++ times (neg_ℚ one_ℚ) [] p) taken e))
+            (Spans-++ gs (times one_ℚ u f) (times one_ℚ u (times (neg_ℚ one_ℚ) [] p)) (spans_of_member m gs (times one_ℚ u f) member)
+            (Spans-times gs (times (neg_ℚ one_ℚ) [] p) one_ℚ u (Spans-times gs p (neg_ℚ one_ℚ) [] spans_p)))
 
         r_within : IsWithin B r
         r_within = by_terms B r closed.along d.kept
@@ -81,7 +85,8 @@ divided_out m gs bs B u f v b closed inside ring still within member = at (divid
             }))
 
         vanishes : SamePolynomial (times one_ℚ u r) []
-        vanishes = b.decides (times one_ℚ u r) (member_of_spans m gs (times one_ℚ u r) v (variables-times m one_ℚ u r ring (λ x h. inside x (r_within x h))) multiple) irreducible
+        vanishes = b.decides (times one_ℚ u r) (member_of_spans m gs (times one_ℚ u r) v (variables-times m one_ℚ u r ring (λ x h. inside x (r_within x h)))
+            multiple) irreducible
 
         none : SamePolynomial r []
         none y = sym (one-*ℚ _) ∙ sym (coefficient-times one_ℚ u r y) ∙ vanishes (plus u y)
@@ -156,7 +161,8 @@ left_over_spared n k gs hs bs l v r o none f s =
     w = variables_of_saturated n hs (next_variable k) f (left_over_variables n bs hs o) s
 
     b : IsBasis (suc n) gs bs
-    b = basis_of_groebner_for (suc n) gs bs (IsWeightedBelow (last_weight n)) (weighted-order (last_weight n)) (marks_have_weights.by_weighted (suc n) (last_weight n) bs r.basis.marked) r.basis
+    b = basis_of_groebner_for (suc n) gs bs (IsWeightedBelow (last_weight n)) (weighted-order (last_weight n))
+        (marks_have_weights.by_weighted (suc n) (last_weight n) bs r.basis.marked) r.basis
 
     without_last : (c : MarkedPolynomial) → Contains bs c → IsInRing n c.head → IsInVariables n c.poly
     without_last c m h = free_by_head n c (variables_of_member (suc n) gs c.poly v (r.basis.members c m)) (r.basis.marked c m) (h n (omega arith))
@@ -168,4 +174,11 @@ left_over_spared n k gs hs bs l v r o none f s =
     closed = record { along = ring-along n; lower = λ c m x t q h. ring-plus n x t (ring-left n x c.head h) (without_last c m (right x c.head h) t q) }
 
     free : (y : Exponents) → IsInRing n y → (c : MarkedPolynomial) (z : Exponents) → same (plus u y) (plus z c.head) ≡ true → entry c.head n ≡ 0
-    free y h c z e = omega (arith, entries_same (plus u y) (plus z c.head) e n, entry-plus u y n, entry-plus z c.head n, zero-powered s.power (next_variable k) n (ring-next k n (omega (arith, l))), h n (omega arith))
+    free y h c z e = omega (
+      arith,
+      entries_same (plus u y) (plus z c.head) e n,
+      entry-plus u y n,
+      entry-plus z c.head n,
+      zero-powered s.power (next_variable k) n (ring-next k n (omega (arith, l))),
+      h n (omega arith),
+    )

@@ -1,7 +1,8 @@
 -- The lists that the code makes are those of the laws.
 -- To cite: extended, extended-ring, left_over-are, left_over-ring, member-back, length-last, to_eliminate, reduced_of,
 -- contains_at. The rest are steps.
-use Rattle.std.specs.Prelude.{◌≡◌, ◌⊎◌, ℕ, zero, suc, ◌+◌, ◌<◌, ◌≤◌, ◌==◌, Bool, true, false, if◌then◌else◌, List, [], ◌∷◌, ◌++◌, map, take, length, replicate, Contains, ℤ, pos, All, unsigned_abs, ◌^◌}
+use Rattle.std.specs.Prelude.{◌≡◌, ◌⊎◌, ℕ, zero, suc, ◌+◌, ◌<◌, ◌≤◌, ◌==◌, Bool, true, false, if◌then◌else◌, List, [], ◌∷◌, ◌++◌, map, take, length, replicate}
+use Rattle.std.specs.Prelude.{Contains, ℤ, pos, All, unsigned_abs, ◌^◌}
 use Rattle.std.proofs.Common.{arith, refl, sym, ap, ◌∙◌, subst, inl, inr, append_assoc, length-append, set, get_or}
 use Rattle.std.proofs.lemmas.Bool.Decides.{nat_tests}
 use Rattle.std.proofs.lemmas.List.{take_more, take_more_set, take-replicate, length-replicate}
@@ -45,7 +46,8 @@ mapped-from : (change : Terms → Terms) (fs : List Terms) (g : Terms) → Conta
 mapped-from change [] g c = absurd (omega (arith, c.1))
 mapped-from change (h ∷ fs) g c = at (Contains-cases (change h) g (map change fs) c) (λ k. mapped-from change fs g k)
   where
-    at : (change h ≡ g) ⊎ Contains (map change fs) g → (Contains (map change fs) g → (f : Terms) × Contains fs f × (change f ≡ g)) → (f : Terms) × Contains (h ∷ fs) f × (change f ≡ g)
+    at : (change h ≡ g) ⊎ Contains (map change fs) g → (Contains (map change fs) g → (f : Terms) × Contains fs f × (change f ≡ g)) →
+        (f : Terms) × Contains (h ∷ fs) f × (change f ≡ g)
     at (inl e) r = (h, Contains-here h fs, e)
     at (inr k) r = let q = r k in (q.0, Contains-there h q.0 fs q.1, q.2)
 
@@ -64,8 +66,10 @@ last (x ∷ xs) f = Contains-there x f (xs ++ f ∷ []) (last xs f)
 -- the relation as it is kept is the relation
 relation-same : (n : ℕ) (u : Exponents) → length u ≡ n → SamePolynomial (rabinowitsch n u) (rabinowitsch_terms u)
 relation-same n u l e =
-    ap (λ b. (if b then one_ℚ else zero_ℚ) +ℚ ((if same e [] then neg_ℚ one_ℚ else zero_ℚ) +ℚ zero_ℚ)) (along e (plus u (next_variable n)) (u ++ 1 ∷ []) (same_by_entries (plus u (next_variable n)) (u ++ 1 ∷ []) (λ i. entry-plus u (next_variable n) i ∙ tail u n i l)))
-    ∙ ap (λ b. (if same e (u ++ 1 ∷ []) then one_ℚ else zero_ℚ) +ℚ ((if b then neg_ℚ one_ℚ else zero_ℚ) +ℚ zero_ℚ)) (along e [] (replicate (length u + 1) 0) (same_by_entries [] (replicate (length u + 1) 0) (λ i. sym (entry-ones (length u + 1) i))))
+    ap (λ b. (if b then one_ℚ else zero_ℚ) +ℚ ((if same e [] then neg_ℚ one_ℚ else zero_ℚ) +ℚ zero_ℚ)) (along e (plus u (next_variable n))
+    (u ++ 1 ∷ []) (same_by_entries (plus u (next_variable n)) (u ++ 1 ∷ []) (λ i. entry-plus u (next_variable n) i ∙ tail u n i l)))
+    ∙ ap (λ b. (if same e (u ++ 1 ∷ []) then one_ℚ else zero_ℚ) +ℚ ((if b then neg_ℚ one_ℚ else zero_ℚ) +ℚ zero_ℚ)) (along e [] (replicate (length u + 1) 0)
+    (same_by_entries [] (replicate (length u + 1) 0) (λ i. sym (entry-ones (length u + 1) i))))
   where
     along : (e x y : Exponents) → same x y ≡ true → same e x ≡ same e y
     along e x y h = same-sym e x ∙ same_along x y e h ∙ same-sym y e
@@ -80,12 +84,18 @@ relation-same n u l e =
 
 pub extended : (n : ℕ) (u : Exponents) (fs : List Terms) → length u ≡ n → AreExtended n u fs (extended_list u fs)
 extended n u fs l = record {
-  each = λ f c. (map widened_term f, front (map (map widened_term) fs) (rabinowitsch_terms u ∷ []) (map widened_term f) (mapped-contains (map widened_term) fs f c), same-widened f);
+  each = λ f c. (
+    map widened_term f,
+    front (map (map widened_term) fs) (rabinowitsch_terms u ∷ []) (map widened_term f)
+        (mapped-contains (map widened_term) fs f c),
+    same-widened f,
+  );
   trick = (rabinowitsch_terms u, last (map (map widened_term) fs) (rabinowitsch_terms u), relation-same n u l);
   only = λ g c. at g (Contains-last (map (map widened_term) fs) (rabinowitsch_terms u) g c);
 }
   where
-    at : (g : Terms) → Contains (map (map widened_term) fs) g ⊎ (g ≡ rabinowitsch_terms u) → ((f : Terms) × Contains fs f × SamePolynomial f g) ⊎ SamePolynomial (rabinowitsch n u) g
+    at : (g : Terms) → Contains (map (map widened_term) fs) g ⊎ (g ≡ rabinowitsch_terms u) →
+        ((f : Terms) × Contains fs f × SamePolynomial f g) ⊎ SamePolynomial (rabinowitsch n u) g
     at g (inl k) = let q = mapped-from (map widened_term) fs g k in inl (q.0, q.1, λ e. same-widened q.0 e ∙ ap (λ z. coefficient z e) q.2)
     at g (inr e) = inr (λ x. relation-same n u l x ∙ ap (λ z. coefficient z x) (sym e))
 
@@ -112,7 +122,9 @@ left_over-push n [] b = nothing (if entry b.head n == 0 then (map (narrowed_term
     nothing : (xs : List Terms) → xs ++ [] ≡ xs
     nothing [] = refl
     nothing (x ∷ xs) = ap (λ z. x ∷ z) (nothing xs)
-left_over-push n (a ∷ bs) b = ap (λ z. (if entry a.head n == 0 then (map (narrowed_term n) a.poly ∷ []) else []) ++ z) (left_over-push n bs b) ∙ sym (append_assoc (if entry a.head n == 0 then (map (narrowed_term n) a.poly ∷ []) else []) (left_over n bs) (if entry b.head n == 0 then (map (narrowed_term n) b.poly ∷ []) else []))
+left_over-push n (a ∷ bs) b = ap (λ z. (if entry a.head n == 0 then (map (narrowed_term n) a.poly ∷ []) else []) ++ z) (left_over-push n bs b) ∙
+    sym (append_assoc (if entry a.head n == 0 then (map (narrowed_term n) a.poly ∷ []) else []) (left_over n bs)
+    (if entry b.head n == 0 then (map (narrowed_term n) b.poly ∷ []) else []))
 
 in_one_more : (n : ℕ) (f : Terms) → HasVariables (n + 1) f → IsInVariables (suc n) f
 in_one_more n f v = let e : n + 1 ≡ suc n = omega arith in subst (λ k. IsInVariables k f) e (variables_by_terms (n + 1) f v)
@@ -126,7 +138,8 @@ member-back n bs b h c z = narrowed-back n b.poly (h.variables b c) listed
     free = free_by_head n b (in_one_more n b.poly (h.variables b c)) (h.marked b c) (eq_by (entry b.head n) 0 z)
 
     listed : Each (λ (t : Term). entry t.mono n ≡ 0) b.poly
-    listed = each_contained (λ (t : Term). entry t.mono n ≡ 0) b.poly (λ t i. free t.mono (term_there (n + 1) b.poly t (h.variables b c) (h.descending b c) i) n (omega arith))
+    listed = each_contained (λ (t : Term). entry t.mono n ≡ 0) b.poly (λ t i. free t.mono (term_there (n + 1) b.poly t (h.variables b c) (h.descending b c) i) n
+        (omega arith))
 
 not_equal : (a b : ℕ) → (a == b) ≡ false → a ≡ b → ⊥
 not_equal a b h e = let t : (a == b) ≡ true = ap (λ z. z == b) e ∙ same_number b in absurd (cc)
@@ -134,7 +147,8 @@ not_equal a b h e = let t : (a == b) ≡ true = ap (λ z. z == b) e ∙ same_num
     same_number : (b : ℕ) → (b == b) ≡ true
     same_number b = grind (arith, nat_tests)
 
-pub left_over-are : (n : ℕ) (all bs : List MarkedPolynomial) → IsToEliminate n all → ((b : MarkedPolynomial) → Contains bs b → Contains all b) → AreLeftOver n bs (left_over n bs)
+pub left_over-are : (n : ℕ) (all bs : List MarkedPolynomial) → IsToEliminate n all → ((b : MarkedPolynomial) → Contains bs b → Contains all b) →
+    AreLeftOver n bs (left_over n bs)
 left_over-are n all [] h k = record { each = λ b c v. absurd (omega (arith, c.1)); only = λ g c. absurd (omega (arith, c.1)) }
 left_over-are n all (a ∷ bs) h k = at (entry a.head n == 0) refl (left_over-are n all bs h (λ b c. k b (Contains-there a b bs c)))
   where
@@ -154,12 +168,20 @@ left_over-are n all (a ∷ bs) h k = at (entry a.head n == 0) refl (left_over-ar
         first_same : SamePolynomial a.poly g_first
         first_same e = ap (λ f. coefficient f e) (sym (member-back n all a h inside z)) ∙ sym (same-widened g_first e)
 
-        there : (b : MarkedPolynomial) → (a ≡ b) ⊎ Contains bs b → IsInVariables n b.poly → (g : Terms) × Contains (g_first ∷ left_over n bs) g × SamePolynomial b.poly g
+        there : (b : MarkedPolynomial) → (a ≡ b) ⊎ Contains bs b → IsInVariables n b.poly →
+            (g : Terms) × Contains (g_first ∷ left_over n bs) g × SamePolynomial b.poly g
         there b (inl q) v = (g_first, Contains-here g_first (left_over n bs), λ e. ap (λ c. coefficient c.poly e) (sym q) ∙ first_same e)
         there b (inr c) v = let g = r.each b c v in (g.0, Contains-there g_first g.0 (left_over n bs) g.1, g.2)
 
-        back : (g : Terms) → (g_first ≡ g) ⊎ Contains (left_over n bs) g → (b : MarkedPolynomial) × Contains (a ∷ bs) b × IsInVariables n b.poly × SamePolynomial b.poly g
-        back g (inl q) = (a, Contains-here a bs, free_by_head n a (in_one_more n a.poly (h.variables a inside)) (h.marked a inside) (eq_by (entry a.head n) 0 z), λ e. first_same e ∙ ap (λ f. coefficient f e) q)
+        back : (g : Terms) → (g_first ≡ g) ⊎ Contains (left_over n bs) g →
+            (b : MarkedPolynomial) × Contains (a ∷ bs) b × IsInVariables n b.poly × SamePolynomial b.poly g
+        back g (inl q) = (
+          a,
+          Contains-here a bs,
+          free_by_head n a (in_one_more n a.poly (h.variables a inside)) (h.marked a inside)
+              (eq_by (entry a.head n) 0 z),
+          λ e. first_same e ∙ ap (λ f. coefficient f e) q,
+        )
         back g (inr c) = let b = r.only g c in (b.0, Contains-there a b.0 bs b.1, b.2, b.3)
     at false z r = record {
       each = λ b c v. there b (Contains-cases a b bs c) v;
@@ -167,10 +189,12 @@ left_over-are n all (a ∷ bs) h k = at (entry a.head n == 0) refl (left_over-ar
     }
       where
         there : (b : MarkedPolynomial) → (a ≡ b) ⊎ Contains bs b → IsInVariables n b.poly → (g : Terms) × Contains (left_over n bs) g × SamePolynomial b.poly g
-        there b (inl q) v = absurd (not_equal (entry a.head n) 0 z (bound_by_head n a (h.marked a inside) (subst (λ (c : MarkedPolynomial). IsInVariables n c.poly) (sym q) v)))
+        there b (inl q) v =
+            absurd (not_equal (entry a.head n) 0 z (bound_by_head n a (h.marked a inside) (subst (λ (c : MarkedPolynomial). IsInVariables n c.poly) (sym q) v)))
         there b (inr c) v = r.each b c v
 
-pub left_over-ring : (n : ℕ) (bs : List MarkedPolynomial) → ((b : MarkedPolynomial) → Contains bs b → HasVariables (n + 1) b.poly) → HaveRingVariables n (left_over n bs)
+pub left_over-ring : (n : ℕ) (bs : List MarkedPolynomial) → ((b : MarkedPolynomial) → Contains bs b → HasVariables (n + 1) b.poly) →
+    HaveRingVariables n (left_over n bs)
 left_over-ring n [] v = record { each = λ f c. absurd (omega (arith, c.1)) }
 left_over-ring n (a ∷ bs) v = at (entry a.head n == 0) (left_over-ring n bs (λ b c. v b (Contains-there a b bs c)))
   where
@@ -193,7 +217,8 @@ length-last zero = omega arith
 length-last (suc n) = omega (arith, length-last n)
 
 one_at_last : (n m : ℕ) → n < m → take (n + 1) (set (replicate m (pos 0)) n (pos 1)) ≡ replicate n (pos 0) ++ pos 1 ∷ []
-one_at_last n m l = take_more_set (replicate m (pos 0)) n (pos 1) (omega (arith, length-replicate m (pos 0), l)) ∙ ap (λ (z : List ℤ). z ++ pos 1 ∷ []) (take-replicate n m (pos 0) (omega (arith, l)))
+one_at_last n m l = take_more_set (replicate m (pos 0)) n (pos 1) (omega (arith, length-replicate m (pos 0), l)) ∙
+    ap (λ (z : List ℤ). z ++ pos 1 ∷ []) (take-replicate n m (pos 0) (omega (arith, l)))
 
 pub entries-all : (P : ℤ → Type 0) → P (pos 0) → P (pos 1) → (n m : ℕ) → n < m → All P (take (n + 1) (set (replicate m (pos 0)) n (pos 1)))
 entries-all P h k n m l = subst (All P) (sym (one_at_last n m l)) (All-push P (replicate n (pos 0)) (pos 1) (All-replicate P n (pos 0) h) k)
@@ -211,7 +236,8 @@ pub contains_at : {A : Type 0} (xs : List A) (i : ℕ) (x : A) → i < length xs
 contains_at xs i x l e = (i, l, sym e)
 
 pub kept-more : (n : ℕ) (bs : List MarkedPolynomial) (out next : List Terms) (i : ℕ) (b : MarkedPolynomial) (f : Terms) → i < length bs → b ≡ get_or bs i b →
-    (entry b.head n == 0) ≡ true → f ≡ map (narrowed_term n) b.poly → next ≡ out ++ f ∷ [] → out ≡ left_over n (take i bs) → next ≡ left_over n (take (i + 1) bs)
+    (entry b.head n == 0) ≡ true → f ≡ map (narrowed_term n) b.poly → next ≡ out ++ f ∷ [] → out ≡ left_over n (take i bs) →
+    next ≡ left_over n (take (i + 1) bs)
 kept-more n bs out next i b f l e z q h k =
     h ∙ ap (λ (z : List Terms). z ++ f ∷ []) k ∙ ap (λ (z : Terms). left_over n (take i bs) ++ z ∷ []) q
     ∙ ap (λ c. left_over n (take i bs) ++ (if c then (map (narrowed_term n) b.poly ∷ []) else [])) (sym z)
@@ -230,7 +256,8 @@ kept-skip n bs out next i b l e z h k =
     nothing [] = refl
     nothing (x ∷ xs) = ap (λ z. x ∷ z) (nothing xs)
 
-pub arranged-as : (o p : MonomialOrder) (n : ℕ) (gs hs : List Terms) (s : MarkedPolynomials) → o ≡ p → gs ≡ hs → IsArrangedBasis o n gs s → IsArrangedBasis p n hs s
+pub arranged-as : (o p : MonomialOrder) (n : ℕ) (gs hs : List Terms) (s : MarkedPolynomials) → o ≡ p → gs ≡ hs → IsArrangedBasis o n gs s →
+    IsArrangedBasis p n hs s
 arranged-as o p n gs hs s e f b = subst (λ (q : MonomialOrder). IsArrangedBasis q n hs s) e (subst (λ (z : List Terms). IsArrangedBasis o n z s) f b)
 
 pub refusal-as : (o p : MonomialOrder) (n k : ℕ) (gs hs : List Terms) (e : BasisError) → o ≡ p → gs ≡ hs → IsBasisRefusal o n gs k e → IsBasisRefusal p n hs k e

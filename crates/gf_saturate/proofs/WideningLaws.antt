@@ -33,7 +33,9 @@ lex-push (a ∷ x) [] l = absurd (omega arith)
 lex-push (a ∷ x) (b ∷ y) l = ap (ordering_then (nat_cmp a b)) (lex-push x y (omega arith))
 
 pub deglex-push : (x y : Exponents) → length x ≡ length y → deglex (x ++ 0 ∷ []) (y ++ 0 ∷ []) ≡ deglex x y
-deglex-push x y l = ap (λ d. ordering_then (nat_cmp d (degree (y ++ 0 ∷ []))) (lex (x ++ 0 ∷ []) (y ++ 0 ∷ []))) (degree-push x) ∙ ap (λ d. ordering_then (nat_cmp (degree x) d) (lex (x ++ 0 ∷ []) (y ++ 0 ∷ []))) (degree-push y) ∙ ap (ordering_then (nat_cmp (degree x) (degree y))) (lex-push x y l)
+deglex-push x y l = ap (λ d. ordering_then (nat_cmp d (degree (y ++ 0 ∷ []))) (lex (x ++ 0 ∷ []) (y ++ 0 ∷ []))) (degree-push x) ∙
+    ap (λ d. ordering_then (nat_cmp (degree x) d) (lex (x ++ 0 ∷ []) (y ++ 0 ∷ []))) (degree-push y) ∙ ap (ordering_then (nat_cmp (degree x) (degree y)))
+    (lex-push x y l)
 
 above-widened : (n : ℕ) (x : Exponents) (f : Terms) → length x ≡ n → HasVariables n f → IsAbove x f → IsAbove (x ++ 0 ∷ []) (map widened_term f)
 above-widened n x [] l v a = tt
@@ -76,7 +78,15 @@ product-above u = at (degree (u ++ 1 ∷ [])) (degree (replicate (length u + 1) 
             by Greater m = refl
 
 pub relation-descending : (u : Exponents) → IsDescending (rabinowitsch_terms u)
-relation-descending u = (one_not_zero, (product-above u, tt), ((λ z. one_not_zero (sym (+ℚ-zero one_ℚ) ∙ ap (λ c. one_ℚ +ℚ c) (sym z) ∙ +ℚ-neg_ℚ one_ℚ)), tt, tt))
+relation-descending u = (
+  one_not_zero,
+  (product-above u, tt),
+  (
+    (λ z. one_not_zero (sym (+ℚ-zero one_ℚ) ∙ ap (λ c. one_ℚ +ℚ c) (sym z) ∙ +ℚ-neg_ℚ one_ℚ)),
+    tt,
+    tt,
+  ),
+)
 
 pub relation-made : (u : Exponents) (xs ys zs : Terms) (c d : Fraction) (x y : Exponents) → xs ≡ [] → ys ≡ xs ++ record { coef = c; mono = x } ∷ [] →
     zs ≡ ys ++ record { coef = d; mono = y } ∷ [] → c ≡ one_ℚ → x ≡ u ++ 1 ∷ [] → d ≡ neg_ℚ one_ℚ → y ≡ replicate (length u + 1) 0 → zs ≡ rabinowitsch_terms u

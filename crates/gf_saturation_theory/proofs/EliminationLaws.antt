@@ -38,7 +38,8 @@ not_more n b x (inr (inl l)) = omega (arith, weight-last n x, weight-last n b.he
 not_more n b x (inr (inr e)) = omega (arith, weight-last n x, weight-last n b.head, e.0)
 
 -- without the last variable at the mark there is none of it
-pub free_by_head : (n : ℕ) (b : MarkedPolynomial) → IsInVariables (suc n) b.poly → IsMarked (IsWeightedBelow (last_weight n)) b → entry b.head n ≡ 0 → IsInVariables n b.poly
+pub free_by_head : (n : ℕ) (b : MarkedPolynomial) → IsInVariables (suc n) b.poly → IsMarked (IsWeightedBelow (last_weight n)) b → entry b.head n ≡ 0 →
+    IsInVariables n b.poly
 free_by_head n b v m z x h i l = at (cases_lt n i)
   where
     at : (n < i) ⊎ (i ≤ n) → entry x i ≡ 0
@@ -59,25 +60,32 @@ pub deglex_basis : (n : ℕ) (gs : List Terms) (bs : List MarkedPolynomial) → 
 deglex_basis n gs bs r = basis_of_groebner_for n gs bs IsDeglexBelow deglex-order (marks_have_weights.by_deglex n bs r.basis.marked) r.basis
 
 -- its members are members of the ideal that it generates, and back
-pub member_of_basis : (n : ℕ) (gs : List Terms) (bs : List MarkedPolynomial) (f : Terms) → AreInVariables n gs → IsBasis n gs bs → IsMember n (polys bs) f → IsMember n gs f
-member_of_basis n gs bs f v b m = member_of_spans n gs f v (variables_of_member n (polys bs) f (λ g k. in_basis g k) m) (Spans-trans gs (polys bs) f (λ g k. spanned g k) (spans_of_member n (polys bs) f m))
+pub member_of_basis : (n : ℕ) (gs : List Terms) (bs : List MarkedPolynomial) (f : Terms) → AreInVariables n gs → IsBasis n gs bs → IsMember n (polys bs) f →
+    IsMember n gs f
+member_of_basis n gs bs f v b m = member_of_spans n gs f v (variables_of_member n (polys bs) f (λ g k. in_basis g k) m)
+    (Spans-trans gs (polys bs) f (λ g k. spanned g k) (spans_of_member n (polys bs) f m))
   where
     in_basis : (g : Terms) → Contains (polys bs) g → IsInVariables n g
-    in_basis g k = let c = Contains-marked bs g k in variables-equal n c.0.poly g (λ e. ap (λ z. coefficient z e) c.2) (variables_of_member n gs c.0.poly v (b.members c.0 c.1))
+    in_basis g k = let c = Contains-marked bs g k in variables-equal n c.0.poly g (λ e. ap (λ z. coefficient z e) c.2)
+        (variables_of_member n gs c.0.poly v (b.members c.0 c.1))
 
     spanned : (g : Terms) → Contains (polys bs) g → Spans gs g
-    spanned g k = let c = Contains-marked bs g k in Spans-equal gs c.0.poly g (λ e. ap (λ z. coefficient z e) c.2) (spans_of_member n gs c.0.poly (b.members c.0 c.1))
+    spanned g k = let c = Contains-marked bs g k in Spans-equal gs c.0.poly g (λ e. ap (λ z. coefficient z e) c.2)
+        (spans_of_member n gs c.0.poly (b.members c.0 c.1))
 
 pub basis_variables : (n : ℕ) (gs : List Terms) (bs : List MarkedPolynomial) → AreInVariables n gs → IsBasis n gs bs → AreInVariables n (polys bs)
-basis_variables n gs bs v b g k = let c = Contains-marked bs g k in variables-equal n c.0.poly g (λ e. ap (λ z. coefficient z e) c.2) (variables_of_member n gs c.0.poly v (b.members c.0 c.1))
+basis_variables n gs bs v b g k = let c = Contains-marked bs g k in variables-equal n c.0.poly g (λ e. ap (λ z. coefficient z e) c.2)
+    (variables_of_member n gs c.0.poly v (b.members c.0 c.1))
 
-pub basis_of_member : (n : ℕ) (gs : List Terms) (bs : List MarkedPolynomial) (f : Terms) → AreInVariables n gs → IsBasis n gs bs → IsMember n gs f → IsMember n (polys bs) f
+pub basis_of_member : (n : ℕ) (gs : List Terms) (bs : List MarkedPolynomial) (f : Terms) → AreInVariables n gs → IsBasis n gs bs → IsMember n gs f →
+    IsMember n (polys bs) f
 basis_of_member n gs bs f v b m = at (member_pieces n gs bs (λ x. Unit {0}) f v b (record { along = λ x y s h. tt; lower = λ c k u t q h. tt }) m (λ x h. tt))
   where
     at : ((ps : List Piece) × Each (IsPieceIn (Contains bs) (λ x. Unit {0})) ps × SamePolynomial f (value ps)) → IsMember n (polys bs) f
     at r = member_of_spans n (polys bs) f (basis_variables n gs bs v b) (variables_of_member n gs f v m)
         (Spans-equal (polys bs) (value r.0) f (λ e. sym (r.2 e))
-        (spans_value (polys bs) (Contains bs) (λ c k. Spans-generator (polys bs) c.poly (Contains-polys bs c k)) r.0 (Each-weaker (IsPieceIn (Contains bs) (λ x. Unit {0})) (λ (p : Piece). Contains bs p.of) (λ p k. k.member) r.0 r.1)))
+        (spans_value (polys bs) (Contains bs) (λ c k. Spans-generator (polys bs) c.poly (Contains-polys bs c k)) r.0
+        (Each-weaker (IsPieceIn (Contains bs) (λ x. Unit {0})) (λ (p : Piece). Contains bs p.of) (λ p k. k.member) r.0 r.1)))
 
 -- ---- what is left over
 
@@ -85,7 +93,8 @@ pub left_over_variables : (n : ℕ) (bs : List MarkedPolynomial) (hs : List Term
 left_over_variables n bs hs l h k = let b = l.only h k in variables-equal n b.0.poly h b.3 b.2
 
 -- it is in the ideal
-pub member_of_left_over : (n : ℕ) (gs hs : List Terms) (bs : List MarkedPolynomial) (f : Terms) → AreInVariables (suc n) gs → IsReducedBasisFor (suc n) gs (IsWeightedBelow (last_weight n)) bs → AreLeftOver n bs hs → IsMember n hs f → IsInVariables n f × IsMember (suc n) gs f
+pub member_of_left_over : (n : ℕ) (gs hs : List Terms) (bs : List MarkedPolynomial) (f : Terms) → AreInVariables (suc n) gs →
+    IsReducedBasisFor (suc n) gs (IsWeightedBelow (last_weight n)) bs → AreLeftOver n bs hs → IsMember n hs f → IsInVariables n f × IsMember (suc n) gs f
 member_of_left_over n gs hs bs f v r l m =
     let w = variables_of_member n hs f (left_over_variables n bs hs l) m in
     (w, member_of_spans (suc n) gs f v (one_more n f w) (Spans-trans gs hs f spanned (spans_of_member n hs f m)))
@@ -94,7 +103,8 @@ member_of_left_over n gs hs bs f v r l m =
     spanned h k = let b = l.only h k in Spans-equal gs b.0.poly h b.3 (spans_of_member (suc n) gs b.0.poly (r.basis.members b.0 b.1))
 
 -- and it generates what the ideal has in the first n variables
-pub left_over_of_member : (n : ℕ) (gs hs : List Terms) (bs : List MarkedPolynomial) (f : Terms) → AreInVariables (suc n) gs → IsReducedBasisFor (suc n) gs (IsWeightedBelow (last_weight n)) bs → AreLeftOver n bs hs → IsInVariables n f → IsMember (suc n) gs f → IsMember n hs f
+pub left_over_of_member : (n : ℕ) (gs hs : List Terms) (bs : List MarkedPolynomial) (f : Terms) → AreInVariables (suc n) gs →
+    IsReducedBasisFor (suc n) gs (IsWeightedBelow (last_weight n)) bs → AreLeftOver n bs hs → IsInVariables n f → IsMember (suc n) gs f → IsMember n hs f
 left_over_of_member n gs hs bs f v r l w m = at (member_pieces (suc n) gs bs (IsInRing n) f v b closed m w)
   where
     b : IsBasis (suc n) gs bs
@@ -120,4 +130,5 @@ left_over_of_member n gs hs bs f v r l w m = at (member_pieces (suc n) gs bs (Is
 
     at : ((ps : List Piece) × Each (IsPieceIn (Contains bs) (IsInRing n)) ps × SamePolynomial f (value ps)) → IsMember n hs f
     at p = member_of_spans n hs f (left_over_variables n bs hs l) w
-        (Spans-equal hs (value p.0) f (λ e. sym (p.2 e)) (spans_value hs Free spanned p.0 (Each-weaker (IsPieceIn (Contains bs) (IsInRing n)) (λ (q : Piece). Free q.of) inside p.0 p.1)))
+        (Spans-equal hs (value p.0) f (λ e. sym (p.2 e)) (spans_value hs Free spanned p.0 (Each-weaker (IsPieceIn (Contains bs) (IsInRing n))
+        (λ (q : Piece). Free q.of) inside p.0 p.1)))

@@ -17,7 +17,12 @@ use Rattle.gf_saturation_theory.proofs.EliminationLaws.{deglex_basis, member_of_
 use Rattle.gf_saturation_theory.proofs.OneTermLaws.{saturated_one, one_term_of_saturated, one_by_mark, mark_of_one}
 
 pub saturations_are_eliminations : SaturationsAreEliminations
-saturations_are_eliminations = record { variables = variables_of_saturated; extended = extended_variables; to = extended_of_saturated; from = saturated_of_extended }
+saturations_are_eliminations = record {
+  variables = variables_of_saturated;
+  extended = extended_variables;
+  to = extended_of_saturated;
+  from = saturated_of_extended;
+}
 
 pub bases_eliminate : BasesEliminate
 bases_eliminate = record {

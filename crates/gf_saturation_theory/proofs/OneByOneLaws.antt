@@ -24,7 +24,8 @@ powered-none (suc k) = powered-none k
 
 pub saturated_none : (n : ℕ) (fs : List Terms) (f : Terms) → IsSaturatedBy n fs (product_power 0 1) f ↔ IsMember n fs f
 saturated_none n fs f = (
-  λ s. member-equal n fs (times one_ℚ (powered s.power []) f) f (λ e. ap (λ x. coefficient (times one_ℚ x f) e) (powered-none s.power) ∙ ap (λ g. coefficient g e) (times-plain f)) s.member,
+  λ s. member-equal n fs (times one_ℚ (powered s.power []) f) f (λ e. ap (λ x. coefficient (times one_ℚ x f) e) (powered-none s.power) ∙
+      ap (λ g. coefficient g e) (times-plain f)) s.member,
   λ m. record { power = 0; member = member-equal n fs f (times one_ℚ [] f) (λ e. ap (λ g. coefficient g e) (sym (times-plain f))) m },
 )
 
@@ -38,22 +39,42 @@ product_power-next k = same_by_entries (plus (next_variable k) (product_power k 
     here i e = ap (entry (next_variable k)) e ∙ next-here k
 
     from : (i : ℕ) → k ≤ i → (k < i) ⊎ (i ≤ k) → entry (plus (next_variable k) (product_power k 1)) i ≡ entry (product_power (suc k) 1) i
-    from i g (inl l) = omega (arith, entry-plus (next_variable k) (product_power k 1) i, ring-next k i (omega (arith, l)), ring-product_power k 1 i g, ring-product_power (suc k) 1 i (omega (arith, l)))
-    from i g (inr l) = omega (arith, entry-plus (next_variable k) (product_power k 1) i, here i (omega (arith, g, l)), ring-product_power k 1 i g, entry-product_power (suc k) 1 i (omega (arith, l)))
+    from i g (inl l) = omega (
+      arith,
+      entry-plus (next_variable k) (product_power k 1) i,
+      ring-next k i (omega (arith, l)),
+      ring-product_power k 1 i g,
+      ring-product_power (suc k) 1 i (omega (arith, l)),
+    )
+    from i g (inr l) = omega (
+      arith,
+      entry-plus (next_variable k) (product_power k 1) i,
+      here i (omega (arith, g, l)),
+      ring-product_power k 1 i g,
+      entry-product_power (suc k) 1 i (omega (arith, l)),
+    )
 
     at : (i : ℕ) → (i < k) ⊎ (k ≤ i) → entry (plus (next_variable k) (product_power k 1)) i ≡ entry (product_power (suc k) 1) i
-    at i (inl l) = omega (arith, entry-plus (next_variable k) (product_power k 1) i, next-below k i l, entry-product_power k 1 i l, entry-product_power (suc k) 1 i (omega (arith, l)))
+    at i (inl l) = omega (
+      arith,
+      entry-plus (next_variable k) (product_power k 1) i,
+      next-below k i l,
+      entry-product_power k 1 i l,
+      entry-product_power (suc k) 1 i (omega (arith, l)),
+    )
     at i (inr g) = from i g (cases_lt k i)
 
 pub saturated_next : (n k : ℕ) (fs gs : List Terms) → k < n → ((f : Terms) → IsMember n gs f ↔ IsSaturatedBy n fs (product_power k 1) f) →
     (f : Terms) → IsSaturatedBy n gs (next_variable k) f ↔ IsSaturatedBy n fs (product_power (suc k) 1) f
 saturated_next n k fs gs l eq f = (
   λ s. saturated_same n (plus (next_variable k) (product_power k 1)) (product_power (suc k) 1) fs f (product_power-next k) (both.0 s),
-  λ s. both.1 (saturated_same n (product_power (suc k) 1) (plus (next_variable k) (product_power k 1)) fs f (same_flip (plus (next_variable k) (product_power k 1)) (product_power (suc k) 1) (product_power-next k)) s),
+  λ s. both.1 (saturated_same n (product_power (suc k) 1) (plus (next_variable k) (product_power k 1)) fs f
+      (same_flip (plus (next_variable k) (product_power k 1)) (product_power (suc k) 1) (product_power-next k)) s),
 )
   where
     both : IsSaturatedBy n gs (next_variable k) f ↔ IsSaturatedBy n fs (plus (next_variable k) (product_power k 1)) f
-    both = saturated_twice n (next_variable k) (product_power k 1) fs gs (λ i g. ring-next k i (omega (arith, l, g))) (λ i g. ring-product_power k 1 i (omega (arith, l, g))) eq f
+    both = saturated_twice n (next_variable k) (product_power k 1) fs gs (λ i g. ring-next k i (omega (arith, l, g))) (λ i g. ring-product_power k 1 i
+        (omega (arith, l, g))) eq f
 
 -- ---- where 1 is reached
 
@@ -61,11 +82,13 @@ saturated_next n k fs gs l eq f = (
 spans_multiples : (fs : List Terms) (w : Exponents) → Spans fs (times one_ℚ w one_polynomial) → (f : Terms) → Spans fs (times one_ℚ w f)
 spans_multiples fs w s [] = Spans-zero fs
 spans_multiples fs w s (t ∷ f) = Spans-equal fs (times t.coef t.mono (times one_ℚ w one_polynomial) ++ times one_ℚ w f) (times one_ℚ w (t ∷ f)) equal
-    (Spans-++ fs (times t.coef t.mono (times one_ℚ w one_polynomial)) (times one_ℚ w f) (Spans-times fs (times one_ℚ w one_polynomial) t.coef t.mono s) (spans_multiples fs w s f))
+    (Spans-++ fs (times t.coef t.mono (times one_ℚ w one_polynomial)) (times one_ℚ w f) (Spans-times fs (times one_ℚ w one_polynomial) t.coef t.mono s)
+    (spans_multiples fs w s f))
   where
     equal : SamePolynomial (times t.coef t.mono (times one_ℚ w one_polynomial) ++ times one_ℚ w f) (times one_ℚ w (t ∷ f))
     equal e =
-        ap (λ c. coefficient (record { coef = c; mono = plus t.mono (plus w []) } ∷ times one_ℚ w f) e) (ap (λ c. t.coef *ℚ c) (one-*ℚ one_ℚ) ∙ *ℚ_comm t.coef one_ℚ)
+        ap (λ c. coefficient (record { coef = c; mono = plus t.mono (plus w []) } ∷ times one_ℚ w f) e)
+        (ap (λ c. t.coef *ℚ c) (one-*ℚ one_ℚ) ∙ *ℚ_comm t.coef one_ℚ)
         ∙ ap (λ x. coefficient (record { coef = one_ℚ *ℚ t.coef; mono = x } ∷ times one_ℚ w f) e) (ap (plus t.mono) (plus-nil w) ∙ plus_comm t.mono w)
 
 -- of the first k variables: 1 in the saturation by these is all in the saturation by all
@@ -111,4 +134,5 @@ saturated_all n k fs f l v w s = record {
         at i (inr g) = omega (arith, entry-plus d u i, entry-minus (product_power n p) u i, u_ring i g, ring-product_power n p i g)
 
     all : IsMember n fs (times one_ℚ u f)
-    all = member_of_spans n fs (times one_ℚ u f) v (variables-times n one_ℚ u f u_ring w) (spans_multiples fs u (spans_of_member n fs (times one_ℚ u one_polynomial) s.member) f)
+    all = member_of_spans n fs (times one_ℚ u f) v (variables-times n one_ℚ u f u_ring w)
+        (spans_multiples fs u (spans_of_member n fs (times one_ℚ u one_polynomial) s.member) f)

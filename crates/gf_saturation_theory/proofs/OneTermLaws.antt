@@ -43,7 +43,10 @@ one_term_of f x h e = at (same e x) refl
         none (inr m) = let t : same e x ≡ true = h e m in absurd (cc)
 
 one_term_alone : (c : Fraction) (x : Exponents) → c ≢ zero_ℚ → IsOfOneTerm (one_term c x) x
-one_term_alone c x n = record { there = λ z. n (sym (+ℚ-zero c) ∙ ap (λ b. (if b then c else zero_ℚ) +ℚ zero_ℚ) (sym (same-refl x)) ∙ z); alone = λ y m. at y (same y x) refl m }
+one_term_alone c x n = record {
+  there = λ z. n (sym (+ℚ-zero c) ∙ ap (λ b. (if b then c else zero_ℚ) +ℚ zero_ℚ) (sym (same-refl x)) ∙ z);
+  alone = λ y m. at y (same y x) refl m;
+}
   where
     at : (y : Exponents) (b : Bool) → same y x ≡ b → ((if b then c else zero_ℚ) +ℚ zero_ℚ ≢ zero_ℚ) → same y x ≡ true
     at y true s m = s
@@ -52,7 +55,10 @@ one_term_alone c x n = record { there = λ z. n (sym (+ℚ-zero c) ∙ ap (λ b.
 -- ---- 1 in the saturation
 
 pub saturated_one : (n : ℕ) (fs : List Terms) → AreInVariables n fs → HasOneTermMember n fs → IsSaturated n fs one_polynomial
-saturated_one n fs v h = record { power = k; member = member-equal n fs (times r u f) (times one_ℚ (product_power n k) one_polynomial) equal (member-times n fs f r u in_ring h.2) }
+saturated_one n fs v h = record {
+  power = k;
+  member = member-equal n fs (times r u f) (times one_ℚ (product_power n k) one_polynomial) equal (member-times n fs f r u in_ring h.2);
+}
   where
     f : Terms
     f = h.0
@@ -82,8 +88,10 @@ saturated_one n fs v h = record { power = k; member = member-equal n fs (times r
     meets = same_by_entries (plus u x) (plus (product_power n k) []) (λ i. at i (cases_lt i n))
       where
         at : (i : ℕ) → (i < n) ⊎ (n ≤ i) → entry (plus u x) i ≡ entry (plus (product_power n k) []) i
-        at i (inl l) = omega (arith, entry-plus u x i, entry-minus (product_power n k) x i, entry-product_power n k i l, entry-degree x i) ∙ ap (λ z. entry z i) (sym (plus-nil (product_power n k)))
-        at i (inr g) = omega (arith, entry-plus u x i, in_ring i g, x_ring i g, ring-product_power n k i g) ∙ ap (λ z. entry z i) (sym (plus-nil (product_power n k)))
+        at i (inl l) = omega (arith, entry-plus u x i, entry-minus (product_power n k) x i, entry-product_power n k i l, entry-degree x i) ∙ ap (λ z. entry z i)
+            (sym (plus-nil (product_power n k)))
+        at i (inr g) = omega (arith, entry-plus u x i, in_ring i g, x_ring i g, ring-product_power n k i g) ∙ ap (λ z. entry z i)
+            (sym (plus-nil (product_power n k)))
 
     equal : SamePolynomial (times r u f) (times one_ℚ (product_power n k) one_polynomial)
     equal e =
@@ -91,7 +99,12 @@ saturated_one n fs v h = record { power = k; member = member-equal n fs (times r
         ∙ one_term_same (r *ℚ c) (one_ℚ *ℚ one_ℚ) (plus u x) (plus (product_power n k) []) (reciprocal_ℚ-*ℚ c h.3.there ∙ sym (one-*ℚ one_ℚ)) meets e
 
 pub one_term_of_saturated : (n : ℕ) (fs : List Terms) → IsSaturated n fs one_polynomial → HasOneTermMember n fs
-one_term_of_saturated n fs s = (times one_ℚ (product_power n s.power) one_polynomial, plus (product_power n s.power) [], s.member, one_term_alone (one_ℚ *ℚ one_ℚ) (plus (product_power n s.power) []) (λ z. one_not_zero (sym (one-*ℚ one_ℚ) ∙ z)))
+one_term_of_saturated n fs s = (
+  times one_ℚ (product_power n s.power) one_polynomial,
+  plus (product_power n s.power) [],
+  s.member,
+  one_term_alone (one_ℚ *ℚ one_ℚ) (plus (product_power n s.power) []) (λ z. one_not_zero (sym (one-*ℚ one_ℚ) ∙ z)),
+)
 
 -- ---- 1 in a basis by deglex
 

@@ -56,10 +56,13 @@ apart_mapped s k x (t ∷ f) e = ap (λ z. (if same e (s t.mono) then t.coef els
     joins true c d = sym (+ℚ_assoc c d rest)
     joins false c d = zero-+ℚ _
 
-    at : (b : Bool) → same x t.mono ≡ b →
-        (if same e (s t.mono) then t.coef else zero_ℚ) +ℚ ((if same e (s x) then coefficient f x else zero_ℚ) +ℚ rest) ≡ (if same e (s x) then (if b then t.coef else zero_ℚ) +ℚ coefficient f x else zero_ℚ) +ℚ coefficient (mapped s (if b then without x f else (t ∷ without x f))) e
-    at true q = ap (λ b. (if b then t.coef else zero_ℚ) +ℚ ((if same e (s x) then coefficient f x else zero_ℚ) +ℚ rest)) (along_both e (s x) (s t.mono) (k x t.mono q)) ∙ joins (same e (s x)) t.coef (coefficient f x)
-    at false q = front _ _ _ ∙ ap (λ z. (if same e (s x) then z else zero_ℚ) +ℚ ((if same e (s t.mono) then t.coef else zero_ℚ) +ℚ rest)) (sym (zero-+ℚ (coefficient f x)))
+    at : (b : Bool) → same x t.mono ≡ b → (if same e (s t.mono) then t.coef else zero_ℚ) +ℚ ((if same e (s x) then coefficient f x else zero_ℚ) +ℚ rest) ≡
+        (if same e (s x) then (if b then t.coef else zero_ℚ) +ℚ coefficient f x else zero_ℚ) +ℚ
+        coefficient (mapped s (if b then without x f else (t ∷ without x f))) e
+    at true q = ap (λ b. (if b then t.coef else zero_ℚ) +ℚ ((if same e (s x) then coefficient f x else zero_ℚ) +ℚ rest)) (along_both e (s x) (s t.mono)
+        (k x t.mono q)) ∙ joins (same e (s x)) t.coef (coefficient f x)
+    at false q = front _ _ _ ∙ ap (λ z. (if same e (s x) then z else zero_ℚ) +ℚ ((if same e (s t.mono) then t.coef else zero_ℚ) +ℚ rest))
+        (sym (zero-+ℚ (coefficient f x)))
       where
         front : (a b c : Fraction) → a +ℚ (b +ℚ c) ≡ b +ℚ (a +ℚ c)
         front a b c = sym (+ℚ_assoc a b c) ∙ ap (λ z. z +ℚ c) (+ℚ_comm a b) ∙ +ℚ_assoc b a c
@@ -89,7 +92,8 @@ mapped_zero_of s k (suc n) (t ∷ f) l z e =
 -- equal polynomials stay equal
 pub mapped_same : (s : Exponents → Exponents) → Keeps s → (f g : Terms) → SamePolynomial f g → SamePolynomial (mapped s f) (mapped s g)
 mapped_same s k f g h e = equal (coefficient (mapped s f) e) (coefficient (mapped s g) e) (
-    sym (coefficient-++ (mapped s f) (times (neg_ℚ one_ℚ) [] (mapped s g)) e ∙ ap (λ z. coefficient (mapped s f) e +ℚ z) (coefficient-times (neg_ℚ one_ℚ) [] (mapped s g) e))
+    sym (coefficient-++ (mapped s f) (times (neg_ℚ one_ℚ) [] (mapped s g)) e ∙ ap (λ z. coefficient (mapped s f) e +ℚ z) (coefficient-times (neg_ℚ one_ℚ)
+    [] (mapped s g) e))
     ∙ ap (λ z. coefficient z e) (ap (λ z. mapped s f ++ z) (sym (mapped-times s (neg_ℚ one_ℚ) g)) ∙ sym (mapped-++ s f (times (neg_ℚ one_ℚ) [] g)))
     ∙ mapped_zero_of s k (length d) d (omega arith) zero_d e
     )
@@ -98,7 +102,8 @@ mapped_same s k f g h e = equal (coefficient (mapped s f) e) (coefficient (mappe
     d = f ++ times (neg_ℚ one_ℚ) [] g
 
     zero_d : SamePolynomial d []
-    zero_d y = coefficient-++ f (times (neg_ℚ one_ℚ) [] g) y ∙ ap (λ z. coefficient f y +ℚ z) (coefficient-times (neg_ℚ one_ℚ) [] g y ∙ neg_one (coefficient g y)) ∙ ap (λ z. z +ℚ neg_ℚ (coefficient g y)) (h y) ∙ +ℚ-neg_ℚ (coefficient g y)
+    zero_d y = coefficient-++ f (times (neg_ℚ one_ℚ) [] g) y ∙ ap (λ z. coefficient f y +ℚ z) (coefficient-times (neg_ℚ one_ℚ) [] g y ∙
+        neg_one (coefficient g y)) ∙ ap (λ z. z +ℚ neg_ℚ (coefficient g y)) (h y) ∙ +ℚ-neg_ℚ (coefficient g y)
 
     equal : (a b : Fraction) → a +ℚ neg_ℚ one_ℚ *ℚ b ≡ zero_ℚ → a ≡ b
     equal a b q =
@@ -166,20 +171,35 @@ entry-inverted n k u x i l = omega (arith, entry-plus (cut n x) (powered (k - en
 
 pub inverted-keeps : (n k : ℕ) (u : Exponents) → IsInRing n u → Keeps (inverted n u k)
 inverted-keeps n k u r x y s = same_in_ring n (inverted n u k x) (inverted n u k y) (ring-inverted n k u x r) (ring-inverted n k u y r)
-    (λ i l. omega (arith, entry-inverted n k u x i l, entry-inverted n k u y i l, entries_same x y s i, ap (λ e. entry (powered (k - e) u) i) (entries_same x y s n)))
+    (λ i l. omega (
+      arith,
+      entry-inverted n k u x i l,
+      entry-inverted n k u y i l,
+      entries_same x y s i,
+      ap (λ e. entry (powered (k - e) u) i) (entries_same x y s n),
+    ))
 
 -- a product with a monomial in the first n variables
 inverted-plus : (n k : ℕ) (u w y : Exponents) → IsInRing n u → IsInRing n y → same (inverted n u k (plus w y)) (plus (inverted n u k w) y) ≡ true
-inverted-plus n k u w y r q = same_in_ring n (inverted n u k (plus w y)) (plus (inverted n u k w) y) (ring-inverted n k u (plus w y) r) (ring-plus n (inverted n u k w) y (ring-inverted n k u w r) q)
+inverted-plus n k u w y r q = same_in_ring n (inverted n u k (plus w y)) (plus (inverted n u k w) y) (ring-inverted n k u (plus w y) r)
+    (ring-plus n (inverted n u k w) y (ring-inverted n k u w r) q)
     (λ i l.
     let e : entry (plus w y) n ≡ entry w n = omega (arith, entry-plus w y n, q n (omega arith)) in
-    omega (arith, entry-inverted n k u (plus w y) i l, entry-plus w y i, entry-plus (inverted n u k w) y i, entry-inverted n k u w i l, ap (λ z. entry (powered (k - z) u) i) e))
+    omega (
+      arith,
+      entry-inverted n k u (plus w y) i l,
+      entry-plus w y i,
+      entry-plus (inverted n u k w) y i,
+      entry-inverted n k u w i l,
+      ap (λ z. entry (powered (k - z) u) i) e,
+    ))
 
 inverted_terms : (n k : ℕ) (u : Exponents) (c : Fraction) (w : Exponents) (p : Terms) → IsInRing n u → Each (λ (t : Term). IsInRing n t.mono) p →
     SamePolynomial (mapped (inverted n u k) (times c w p)) (times c (inverted n u k w) p)
 inverted_terms n k u c w [] h r e = refl
 inverted_terms n k u c w (t ∷ p) h r e =
-    ap (λ b. (if b then c *ℚ t.coef else zero_ℚ) +ℚ coefficient (mapped (inverted n u k) (times c w p)) e) (sym (along_both e (inverted n u k (plus w t.mono)) (plus (inverted n u k w) t.mono) (inverted-plus n k u w t.mono h r.0)))
+    ap (λ b. (if b then c *ℚ t.coef else zero_ℚ) +ℚ coefficient (mapped (inverted n u k) (times c w p)) e)
+    (sym (along_both e (inverted n u k (plus w t.mono)) (plus (inverted n u k w) t.mono) (inverted-plus n k u w t.mono h r.0)))
     ∙ ap (λ z. (if same e (plus (inverted n u k w) t.mono) then c *ℚ t.coef else zero_ℚ) +ℚ z) (inverted_terms n k u c w p h r.1 e)
 
 -- a multiple of a polynomial in the first n variables
@@ -192,8 +212,10 @@ inverted_multiple n k u c w p h v e =
     ∙ sym (SamePolynomial-times c (inverted n u k w) p q.terms q.equal e)
 
 -- a multiple of the trick goes away
-pub inverted_trick : (n k : ℕ) (u : Exponents) (c : Fraction) (w : Exponents) → IsInRing n u → entry w n < k → SamePolynomial (mapped (inverted n u k) (times c w (rabinowitsch n u))) []
-inverted_trick n k u c w h l e = at (same e (inverted n u k (plus w top))) (same e (inverted n u k (plus w []))) (along_both e (inverted n u k (plus w [])) (inverted n u k (plus w top)) alike)
+pub inverted_trick : (n k : ℕ) (u : Exponents) (c : Fraction) (w : Exponents) → IsInRing n u → entry w n < k →
+    SamePolynomial (mapped (inverted n u k) (times c w (rabinowitsch n u))) []
+inverted_trick n k u c w h l e = at (same e (inverted n u k (plus w top))) (same e (inverted n u k (plus w []))) (along_both e
+    (inverted n u k (plus w [])) (inverted n u k (plus w top)) alike)
   where
     top : Exponents
     top = plus u (next_variable n)

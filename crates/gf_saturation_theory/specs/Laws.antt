@@ -14,8 +14,10 @@ use Rattle.gf_saturation_theory.specs.Saturations.{HasOneTermMember, one_polynom
 pub record SaturationsAreEliminations : Type 0 where
   pub variables : (n : ℕ) (fs : List Terms) (u : Exponents) (f : Terms) → AreInVariables n fs → IsSaturatedBy n fs u f → IsInVariables n f
   pub extended : (n : ℕ) (u : Exponents) (fs gs : List Terms) → IsInRing n u → AreInVariables n fs → AreExtended n u fs gs → AreInVariables (suc n) gs
-  pub to : (n : ℕ) (u : Exponents) (fs gs : List Terms) (f : Terms) → IsInRing n u → AreInVariables n fs → AreExtended n u fs gs → IsSaturatedBy n fs u f → IsMember (suc n) gs f
-  pub from : (n : ℕ) (u : Exponents) (fs gs : List Terms) (f : Terms) → IsInRing n u → AreInVariables n fs → AreExtended n u fs gs → IsInVariables n f → IsMember (suc n) gs f → IsSaturatedBy n fs u f
+  pub to : (n : ℕ) (u : Exponents) (fs gs : List Terms) (f : Terms) → IsInRing n u → AreInVariables n fs → AreExtended n u fs gs → IsSaturatedBy n fs u f →
+      IsMember (suc n) gs f
+  pub from : (n : ℕ) (u : Exponents) (fs gs : List Terms) (f : Terms) → IsInRing n u → AreInVariables n fs → AreExtended n u fs gs → IsInVariables n f →
+      IsMember (suc n) gs f → IsSaturatedBy n fs u f
 
 -- saturating by v and then by u is saturating by their product; the saturation by the product of the variables
 pub record SaturationsCompose : Type 0 where
@@ -38,7 +40,8 @@ pub record VariablesOneByOne : Type 0 where
 -- for the weight of the last variable before lex: a member without it at its mark is one without it; and these generate what
 -- the ideal has without it
 pub record BasesEliminate : Type 0 where
-  pub free : (n : ℕ) (b : MarkedPolynomial) → IsInVariables (suc n) b.poly → IsMarked (IsWeightedBelow (last_weight n)) b → entry b.head n ≡ 0 → IsInVariables n b.poly
+  pub free : (n : ℕ) (b : MarkedPolynomial) → IsInVariables (suc n) b.poly → IsMarked (IsWeightedBelow (last_weight n)) b → entry b.head n ≡ 0 →
+      IsInVariables n b.poly
   pub bound : (n : ℕ) (b : MarkedPolynomial) → IsMarked (IsWeightedBelow (last_weight n)) b → IsInVariables n b.poly → entry b.head n ≡ 0
   pub generated : (n : ℕ) (gs hs : List Terms) (bs : List MarkedPolynomial) (f : Terms) → AreInVariables (suc n) gs →
       IsReducedBasisFor (suc n) gs (IsWeightedBelow (last_weight n)) bs → AreLeftOver n bs hs →

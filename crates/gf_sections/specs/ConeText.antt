@@ -76,14 +76,17 @@ IsWitnessStep n rays facets e = (f : List ℤ) × Contains facets f × IsFirstWi
 
 -- an operation on the system of one of these rows: the facets, with the implied equations and the row as equations
 abbrev pub IsCombiningStep : ℕ → List (List ℤ) → List (List ℤ) → List (List ℤ) → ConeOverflow → Type 0
-IsCombiningStep n facets implied redundant s = (t : List ℤ) × Contains redundant t × IsStepOn (length facets + length (implied ++ t ∷ [])) n facets (implied ++ t ∷ []) s
+IsCombiningStep n facets implied redundant s = (t : List ℤ) × Contains redundant t × IsStepOn (length facets + length (implied ++ t ∷ [])) n facets
+    (implied ++ t ∷ []) s
 
 -- an operation on a system that the certificates need: that of a redundant row has the facets as rows, and as equations the implied ones
 -- and the row; that of the rows that are zero on the whole cone a unit vector for each of them, and as equations their columns
 pub data IsCertificateStep (n : ℕ) (rows facets implied : List (List ℤ)) (s : ConeOverflow) : Type 0 where
-  combining : (t : List ℤ) → Contains rows t → IsRedundant n rows facets t → IsStepOn (length facets + length (implied ++ t ∷ [])) n facets (implied ++ t ∷ []) s → IsCertificateStep n rows facets implied s
+  combining : (t : List ℤ) → Contains rows t → IsRedundant n rows facets t →
+      IsStepOn (length facets + length (implied ++ t ∷ [])) n facets (implied ++ t ∷ []) s → IsCertificateStep n rows facets implied s
   vanishing : (zero_rows : List (List ℤ)) → AreRowsWith (IsZeroOn n rows []) rows zero_rows →
-      IsStepOn (length (unit_vectors (length zero_rows)) + length (value_columns n zero_rows)) (length zero_rows) (unit_vectors (length zero_rows)) (value_columns n zero_rows) s → IsCertificateStep n rows facets implied s
+      IsStepOn (length (unit_vectors (length zero_rows)) + length (value_columns n zero_rows)) (length zero_rows) (unit_vectors (length zero_rows))
+      (value_columns n zero_rows) s → IsCertificateStep n rows facets implied s
 
 -- why certificates aren't found: an operation on such a system, one of a witness of a facet, or there is no memory
 abbrev pub IsCertificateCause : ℕ → List (List ℤ) → List (List ℤ) → List (List ℤ) → List (List ℤ) → SectionsError → Type 0
@@ -94,12 +97,14 @@ IsCertificateCause n rows rays facets implied errors.Memory = Unit {0}
 -- an operation of finding the rays of the cone of these rows, or where certificates are asked for one of these
 pub data IsSectionsCause (n : ℕ) (certified : Bool) (rows : List (List ℤ)) (e : SectionsError) : Type 0 where
   finding : (s : ConeOverflow) → IsRaysStep n rows [] s → e ≡ errors.Cone s → IsSectionsCause n certified rows e
-  certifying : (facets implied : List (List ℤ)) (told : AreRowsTold n rows facets implied) → certified ≡ true → IsCertificateCause n rows told.rays facets implied e → IsSectionsCause n certified rows e
+  certifying : (facets implied : List (List ℤ)) (told : AreRowsTold n rows facets implied) → certified ≡ true →
+      IsCertificateCause n rows told.rays facets implied e → IsSectionsCause n certified rows e
   no_memory : e ≡ errors.Memory → IsSectionsCause n certified rows e
 
 -- the same of the rows of the cone of inequalities and equations
 pub data IsConeCause (n : ℕ) (certified : Bool) (inequalities equations : List (List ℤ)) (e : SectionsError) : Type 0 where
-  of_rows : (rows : List (List ℤ)) → AreConeRows (given_rows inequalities equations) rows → IsSectionsCause n certified rows e → IsConeCause n certified inequalities equations e
+  of_rows : (rows : List (List ℤ)) → AreConeRows (given_rows inequalities equations) rows → IsSectionsCause n certified rows e →
+      IsConeCause n certified inequalities equations e
   no_memory : e ≡ errors.Memory → IsConeCause n certified inequalities equations e
 
 -- no operation of it leaves the range

@@ -1,5 +1,6 @@
 -- Blanks at the ends of a line, numbers digit by digit, and lines that are kept in part.
-use Rattle.std.proofs.Common.{◌≡◌, ℕ, ◌+◌, ◌*◌, ◌-◌, ◌≤◌, ◌<◌, nat_le, Bool, true, false, List, [], ◌∷◌, ◌++◌, length, take, refl, ap, arith, ◌∙◌, sym, get_or, min}
+use Rattle.std.proofs.Common.{◌≡◌, ℕ, ◌+◌, ◌*◌, ◌-◌, ◌≤◌, ◌<◌, nat_le, Bool, true, false, List, [], ◌∷◌, ◌++◌, length, take, refl, ap, arith, ◌∙◌, sym, get_or}
+use Rattle.std.proofs.Common.{min}
 use Rattle.std.proofs.lemmas.List.{take_all, take_more, length-take-le}
 use Rattle.std.proofs.lemmas.Bool.Decides.{nat_tests}
 use Rattle.gf_session.specs.Choices.{is_blank, put_before, trim_end, value_from, choice_of}

@@ -1,5 +1,6 @@
 -- A line byte by byte.
-use Rattle.std.proofs.Common.{◌≡◌, ℕ, ◌+◌, ◌≤◌, ◌<◌, List, [], ◌∷◌, ◌++◌, length, take, refl, ap, arith, ◌∙◌, sym, get_or, set, nat_le, Bool, true, false, length-append, nat_eq, inl, inr}
+use Rattle.std.proofs.Common.{◌≡◌, ℕ, ◌+◌, ◌≤◌, ◌<◌, List, [], ◌∷◌, ◌++◌, length, take, refl, ap, arith, ◌∙◌, sym, get_or, set, nat_le, Bool, true, false}
+use Rattle.std.proofs.Common.{length-append, nat_eq, inl, inr}
 use Rattle.std.proofs.lemmas.List.{take_all, take_more_set, take_more, take-append-le, length-take-le, append-nil}
 use Rattle.std.proofs.lemmas.Grind.{common_steps}
 use Rattle.std.proofs.lemmas.Bool.Decides.{nat_tests}
@@ -41,13 +42,14 @@ kept-next line b = if_fits (nat_le (length line) 81) refl
 -- ---- what is taken
 
 -- nothing more
-pub Took-nothing : (a b c : Option (List ℕ)) (m n o k : ℕ) (xs into : List ℕ) → Took a b m n xs → k ≡ 0 → Consumes b c (take k into) → Counts n o k → Took a c m o xs
+pub Took-nothing : (a b c : Option (List ℕ)) (m n o k : ℕ) (xs into : List ℕ) → Took a b m n xs → k ≡ 0 → Consumes b c (take k into) → Counts n o k →
+    Took a c m o xs
 Took-nothing a b c m n o k xs into p none q counts =
     rw append-nil at (Took-append a b c m n o xs [] p (rw none at q) (rw none at counts))
 
 -- one byte more
-pub Took-byte : (a b c : Option (List ℕ)) (m n o k : ℕ) (xs into : List ℕ) → Took a b m n xs → k ≡ 1 → length into ≡ 1 → Consumes b c (take k into) → Counts n o k →
-    Took a c m o (xs ++ get_or into 0 0 ∷ [])
+pub Took-byte : (a b c : Option (List ℕ)) (m n o k : ℕ) (xs into : List ℕ) → Took a b m n xs → k ≡ 1 → length into ≡ 1 → Consumes b c (take k into) →
+    Counts n o k → Took a c m o (xs ++ get_or into 0 0 ∷ [])
 Took-byte a b c m n o k xs into p one len q counts =
     let byte : take 1 into ≡ get_or into 0 0 ∷ [] = take_more into 0 0 (omega arith) in
     Took-append a b c m n o xs (get_or into 0 0 ∷ []) p (rw (one, byte) at q) (rw one at counts)
@@ -70,8 +72,8 @@ pub count-more : (bytes : List ℕ) (b before taken : ℕ) → taken ≡ before 
 count-more bytes b before taken e = omega (arith, length-append bytes (b ∷ []), e)
 
 -- a line that is heard at its line feed
-pub IsHeard-ended : (left leaves : Option (List ℕ)) (given gives before taken : ℕ) (choice : Choice) (bytes : List ℕ) (b : ℕ) → HasNoFeed bytes → choice ≡ narrowed (choice_of (take 81 bytes)) →
-    Took left leaves given gives (bytes ++ b ∷ []) → b ≡ 10 → taken ≡ before + length bytes →
+pub IsHeard-ended : (left leaves : Option (List ℕ)) (given gives before taken : ℕ) (choice : Choice) (bytes : List ℕ) (b : ℕ) → HasNoFeed bytes →
+    choice ≡ narrowed (choice_of (take 81 bytes)) → Took left leaves given gives (bytes ++ b ∷ []) → b ≡ 10 → taken ≡ before + length bytes →
     IsLineHeard left leaves given gives before (record { choice = choice; is_last = false; taken = taken + 1 })
 IsHeard-ended left leaves given gives before taken choice bytes b pure asks took feed count = record {
   line = bytes;
@@ -83,8 +85,8 @@ IsHeard-ended left leaves given gives before taken choice bytes b pure asks took
 }
 
 -- a line that is heard at the end
-pub IsHeard-last : (left leaves : Option (List ℕ)) (given gives before taken : ℕ) (choice : Choice) (bytes : List ℕ) → HasNoFeed bytes → choice ≡ narrowed (choice_of (take 81 bytes)) →
-    Took left leaves given gives bytes → IsAtEnd leaves → taken ≡ before + length bytes →
+pub IsHeard-last : (left leaves : Option (List ℕ)) (given gives before taken : ℕ) (choice : Choice) (bytes : List ℕ) → HasNoFeed bytes →
+    choice ≡ narrowed (choice_of (take 81 bytes)) → Took left leaves given gives bytes → IsAtEnd leaves → taken ≡ before + length bytes →
     IsLineHeard left leaves given gives before (record { choice = choice; is_last = true; taken = taken })
 IsHeard-last left leaves given gives before taken choice bytes pure asks took end count = record {
   line = bytes;

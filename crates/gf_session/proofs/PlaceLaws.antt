@@ -14,7 +14,8 @@ undo-near Q here (q ∷ qs) p h b (inl e) = subst Q (sym e) h
 undo-near Q here (q ∷ qs) p h b (inr e) = subst Q (sym e) b.0
 
 -- a place at which a line looks
-pub near-over : {P : Type 0} (r : Rules P) (Q : P → Type 0) → ((p q : P) (n : ℕ) → Q p → r.IsAcross p n q → Q q) → (s : Trail P) (c : Choice) (p : P) → HoldsOverTrail Q s → IsNear r s c p → Q p
+pub near-over : {P : Type 0} (r : Rules P) (Q : P → Type 0) → ((p q : P) (n : ℕ) → Q p → r.IsAcross p n q → Q q) → (s : Trail P) (c : Choice) (p : P) →
+    HoldsOverTrail Q s → IsNear r s c p → Q p
 near-over r Q stays s choices.Blank p over near = absurd near
 near-over r Q stays s (choices.Across n) p over (inl e) = subst Q (sym e) over.here
 near-over r Q stays s (choices.Across n) p over (inr across) = stays s.here p n over.here across
@@ -24,7 +25,8 @@ near-over r Q stays s choices.Unknown p over near = absurd near
 
 -- ---- lines
 
-undo-over : {P : Type 0} (r : Rules P) (Q : P → Type 0) (here : P) (before : List P) (t : Trail P) (text : List ℕ) → Q here → HoldsOfPlaces Q before → IsUndone r here before t text → HoldsOverTrail Q t
+undo-over : {P : Type 0} (r : Rules P) (Q : P → Type 0) (here : P) (before : List P) (t : Trail P) (text : List ℕ) → Q here → HoldsOfPlaces Q before →
+    IsUndone r here before t text → HoldsOverTrail Q t
 undo-over r Q here [] t text h b a =
     let over : HoldsOverTrail Q (record { here = here; before = [] }) = record { here = h; before = tt } in
     subst (HoldsOverTrail Q) (sym a.stays) over
@@ -32,7 +34,8 @@ undo-over r Q here (p ∷ ps) t text h b a =
     let over : HoldsOverTrail Q (record { here = p; before = ps }) = record { here = b.0; before = b.1 } in
     subst (HoldsOverTrail Q) (sym a.0) over
 
-turn-over : {P : Type 0} (r : Rules P) (Q : P → Type 0) → ((p q : P) (n : ℕ) → Q p → r.IsAcross p n q → Q q) → (s : Trail P) (c : Choice) (t : Trail P) (text : List ℕ) → HoldsOverTrail Q s → IsLineTurn r s c t text → HoldsOverTrail Q t
+turn-over : {P : Type 0} (r : Rules P) (Q : P → Type 0) → ((p q : P) (n : ℕ) → Q p → r.IsAcross p n q → Q q) →
+    (s : Trail P) (c : Choice) (t : Trail P) (text : List ℕ) → HoldsOverTrail Q s → IsLineTurn r s c t text → HoldsOverTrail Q t
 turn-over r Q stays s choices.Blank t text over turn = subst (HoldsOverTrail Q) (sym turn.stays) over
 turn-over r Q stays s (choices.Across n) t text over (inl x) =
     let both : HoldsOfPlaces Q (s.here ∷ s.before) = (over.here, over.before) in
@@ -43,6 +46,7 @@ turn-over r Q stays s choices.Quit t text over turn = absurd turn
 turn-over r Q stays s choices.Unknown t text over turn = subst (HoldsOverTrail Q) (sym turn.stays) over
 
 -- each place of the trail that lines lead to
-pub turns-over : {P : Type 0} (r : Rules P) (Q : P → Type 0) → ((p q : P) (n : ℕ) → Q p → r.IsAcross p n q → Q q) → (s : Trail P) (cs : List Choice) (t : Trail P) (text : List ℕ) → HoldsOverTrail Q s → AreTurns r s cs t text → HoldsOverTrail Q t
+pub turns-over : {P : Type 0} (r : Rules P) (Q : P → Type 0) → ((p q : P) (n : ℕ) → Q p → r.IsAcross p n q → Q q) →
+    (s : Trail P) (cs : List Choice) (t : Trail P) (text : List ℕ) → HoldsOverTrail Q s → AreTurns r s cs t text → HoldsOverTrail Q t
 turns-over r Q stays s [] t text over a = subst (HoldsOverTrail Q) (sym a.0) over
 turns-over r Q stays s (c ∷ cs) t text over a = turns-over r Q stays a.0 cs t a.2 (turn-over r Q stays s c a.0 a.1 over a.3) a.4

@@ -1,6 +1,7 @@
 -- A session line by line.
 -- The proofs of converse cite these.
-use Rattle.std.proofs.Common.{◌≡◌, ℕ, ◌+◌, ◌≤◌, true, false, List, [], ◌∷◌, ◌++◌, length, map, flat_map, All, refl, ap, sym, ◌∙◌, arith, length-append, take, subst}
+use Rattle.std.proofs.Common.{◌≡◌, ℕ, ◌+◌, ◌≤◌, true, false, List, [], ◌∷◌, ◌++◌, length, map, flat_map, All, refl, ap, sym, ◌∙◌, arith, length-append, take}
+use Rattle.std.proofs.Common.{subst}
 use Rattle.std.proofs.lemmas.List.{append_assoc, append-nil, map-append}
 use Rattle.std.proofs.lemmas.Grind.{flat_map-append}
 use Rattle.std.proofs.lemmas.List.Elements.{All-push}
@@ -23,15 +24,15 @@ use Rattle.gf_session.specs.Endings.{IsTalking, IsLeftOff, IsCause, IsReadCalm, 
 
 -- ---- turns in turn
 
-pub turns-more : {P : Type 0} (r : Rules P) (s : Trail P) (cs : List Choice) (t : Trail P) (c : Choice) (u : Trail P) (text piece : List ℕ) → AreTurns r s cs t text → IsLineTurn r t c u piece →
-    AreTurns r s (cs ++ c ∷ []) u (text ++ piece)
+pub turns-more : {P : Type 0} (r : Rules P) (s : Trail P) (cs : List Choice) (t : Trail P) (c : Choice) (u : Trail P) (text piece : List ℕ) →
+    AreTurns r s cs t text → IsLineTurn r t c u piece → AreTurns r s (cs ++ c ∷ []) u (text ++ piece)
 turns-more r s [] t c u text piece a turn = (u, piece, [], rw a.0 at turn, (refl, refl), rw (a.1, append-nil) refl)
 turns-more r s (d ∷ cs) t c u text piece a turn =
     (a.0, a.1, a.2 ++ piece, a.3, turns-more r a.0 cs t c u a.2 piece a.4 turn, rw (a.5, append_assoc) refl)
 
 -- one line more
-pub lines-more : {P : Type 0} (r : Rules P) (s : Trail P) (lines : List (List ℕ)) (line : List ℕ) (t u : Trail P) (text piece : List ℕ) → AreTurns r s (map choice_of lines) t text → IsLineTurn r t (choice_of line) u piece →
-    AreTurns r s (map choice_of (lines ++ line ∷ [])) u (text ++ piece)
+pub lines-more : {P : Type 0} (r : Rules P) (s : Trail P) (lines : List (List ℕ)) (line : List ℕ) (t u : Trail P) (text piece : List ℕ) →
+    AreTurns r s (map choice_of lines) t text → IsLineTurn r t (choice_of line) u piece → AreTurns r s (map choice_of (lines ++ line ∷ [])) u (text ++ piece)
 lines-more r s lines line t u text piece a turn = rw map-append (turns-more r s (map choice_of lines) t (choice_of line) u text piece a turn)
 
 pure-more : (lines : List (List ℕ)) (line : List ℕ) → All HasNoFeed lines → HasNoFeed line → All HasNoFeed (lines ++ line ∷ [])
@@ -58,13 +59,16 @@ talk-nothing r joins start left given held = record {
 }
 
 -- what was taken with a further line
-pub took-line : {P S : Type 0} (r : Rules P) (joins : P → S → P → Type 0) (s : Trail P) (here : P) (steps : List S) (left middle leaves : Option (List ℕ)) (given between gives : ℕ) (held holds : Option (List ℕ)) (taken : ℕ) (rest : List ℕ)
-    (so : IsTalking r joins s here steps left middle given between held holds taken) → Took middle leaves between gives rest → Took left leaves given gives (flat_map ended so.lines ++ rest)
+pub took-line : {P S : Type 0} (r : Rules P) (joins : P → S → P → Type 0) (s : Trail P) (here : P) (steps : List S) (left middle leaves : Option (List ℕ))
+    (given between gives : ℕ) (held holds : Option (List ℕ)) (taken : ℕ) (rest : List ℕ)
+    (so : IsTalking r joins s here steps left middle given between held holds taken) → Took middle leaves between gives rest →
+    Took left leaves given gives (flat_map ended so.lines ++ rest)
 took-line r joins s here steps left middle leaves given between gives held holds taken rest so took =
     Took-append left middle leaves given between gives (flat_map ended so.lines) rest (rw append-nil at so.talk.took) took.bytes_left took.count
 
 -- the same talk with these bytes behind it
-pub talk-with : {P S : Type 0} (r : Rules P) (joins : P → S → P → Type 0) (s : Trail P) (here : P) (steps : List S) (left middle leaves : Option (List ℕ)) (given between gives : ℕ) (held holds after : Option (List ℕ)) (taken : ℕ) (rest : List ℕ)
+pub talk-with : {P S : Type 0} (r : Rules P) (joins : P → S → P → Type 0) (s : Trail P) (here : P) (steps : List S) (left middle leaves : Option (List ℕ))
+    (given between gives : ℕ) (held holds after : Option (List ℕ)) (taken : ℕ) (rest : List ℕ)
     (so : IsTalking r joins s here steps left middle given between held holds taken) → Took middle leaves between gives rest → Keeps holds after →
     IsTalk r s so.t left leaves given gives held after so.lines rest
 talk-with r joins s here steps left middle leaves given between gives held holds after taken rest so took kept = record {
@@ -85,9 +89,10 @@ quits choices.Unknown e = absurd (cc e)
 -- ---- how it goes on
 
 -- q
-pub ended-by-line : {P S : Type 0} (r : Rules P) (joins : P → S → P → Type 0) (s : Trail P) (here : P) (steps : List S) (left middle leaves : Option (List ℕ)) (given between gives : ℕ) (held holds : Option (List ℕ)) (taken : ℕ) (heard : Heard) →
-    IsTalking r joins s here steps left middle given between held holds taken → IsLineHeard middle leaves between gives taken heard → heard.choice ≡ choices.Quit → Keeps holds holds →
-    IsEndedByLine r s left leaves given gives held holds
+pub ended-by-line : {P S : Type 0} (r : Rules P) (joins : P → S → P → Type 0) (s : Trail P) (here : P) (steps : List S) (left middle leaves : Option (List ℕ))
+    (given between gives : ℕ) (held holds : Option (List ℕ)) (taken : ℕ) (heard : Heard) →
+    IsTalking r joins s here steps left middle given between held holds taken → IsLineHeard middle leaves between gives taken heard →
+    heard.choice ≡ choices.Quit → Keeps holds holds → IsEndedByLine r s left leaves given gives held holds
 ended-by-line r joins s here steps left middle leaves given between gives held holds taken heard so h quit kept = record {
   lines = so.lines;
   last = h.line;
@@ -100,13 +105,21 @@ ended-by-line r joins s here steps left middle leaves given between gives held h
 }
 
 -- the line is one of the trail that the session has come to
-pub heard-on : {P S : Type 0} (r : Rules P) (joins : P → S → P → Type 0) (s : Trail P) (here : P) (steps : List S) (left middle leaves : Option (List ℕ)) (given between gives : ℕ) (held holds : Option (List ℕ)) (taken : ℕ) (heard : Heard)
-    (so : IsTalking r joins s here steps left middle given between held holds taken) (h : IsLineHeard middle leaves between gives taken heard) → IsSessionAt joins here steps heard.choice so.t (choice_of h.line)
-heard-on r joins s here steps left middle leaves given between gives held holds taken heard so h = record { is_here = so.is_here; are_steps = so.are_steps; is_choice = h.choice }
+pub heard-on : {P S : Type 0} (r : Rules P) (joins : P → S → P → Type 0) (s : Trail P) (here : P) (steps : List S) (left middle leaves : Option (List ℕ))
+    (given between gives : ℕ) (held holds : Option (List ℕ)) (taken : ℕ) (heard : Heard)
+    (so : IsTalking r joins s here steps left middle given between held holds taken) (h : IsLineHeard middle leaves between gives taken heard) →
+    IsSessionAt joins here steps heard.choice so.t (choice_of h.line)
+heard-on r joins s here steps left middle leaves given between gives held holds taken heard so h = record {
+  is_here = so.is_here;
+  are_steps = so.are_steps;
+  is_choice = h.choice;
+}
 
 -- the last line was answered
-pub ended-by-input : {P S : Type 0} (r : Rules P) (joins : P → S → P → Type 0) (s : Trail P) (here there : P) (steps more : List S) (left middle leaves : Option (List ℕ)) (given between gives : ℕ) (held holds gained : Option (List ℕ)) (taken : ℕ) (heard : Heard)
-    (so : IsTalking r joins s here steps left middle given between held holds taken) (h : IsLineHeard middle leaves between gives taken heard) → heard.is_last ≡ true →
+pub ended-by-input : {P S : Type 0} (r : Rules P) (joins : P → S → P → Type 0) (s : Trail P) (here there : P) (steps more : List S) (left middle leaves : Option
+    (List ℕ)) (given between gives : ℕ) (held holds gained : Option (List ℕ)) (taken : ℕ) (heard : Heard)
+    (so : IsTalking r joins s here steps left middle given between held holds taken) (h : IsLineHeard middle leaves between gives taken heard) →
+    heard.is_last ≡ true →
     IsTurnTaken r joins so.t (choice_of h.line) there more holds gained → IsEndedByInput r s left leaves given gives held gained
 ended-by-input r joins s here there steps more left middle leaves given between gives held holds gained taken heard so h last turn = record {
   lines = so.lines;
@@ -121,13 +134,16 @@ ended-by-input r joins s here there steps more left middle leaves given between 
 }
 
 -- another line was answered
-pub talk-more : {P S : Type 0} (r : Rules P) (joins : P → S → P → Type 0) (s : Trail P) (here there : P) (steps more : List S) (left middle leaves : Option (List ℕ)) (given between gives : ℕ) (held holds gained : Option (List ℕ)) (taken : ℕ) (heard : Heard)
-    (so : IsTalking r joins s here steps left middle given between held holds taken) (h : IsLineHeard middle leaves between gives taken heard) → heard.is_last ≡ false →
+pub talk-more : {P S : Type 0} (r : Rules P) (joins : P → S → P → Type 0) (s : Trail P) (here there : P) (steps more : List S) (left middle leaves : Option
+    (List ℕ)) (given between gives : ℕ) (held holds gained : Option (List ℕ)) (taken : ℕ) (heard : Heard)
+    (so : IsTalking r joins s here steps left middle given between held holds taken) (h : IsLineHeard middle leaves between gives taken heard) →
+    heard.is_last ≡ false →
     IsTurnTaken r joins so.t (choice_of h.line) there more holds gained → IsTalking r joins s there more left leaves given gives held gained heard.taken
 talk-more r joins s here there steps more left middle leaves given between gives held holds gained taken heard so h last turn =
     let took : Took middle leaves between gives (ended h.line) = rw last at h.took in
     let count : heard.taken ≡ taken + length (ended h.line) = rw last at h.count in
-    let all : flat_map ended (so.lines ++ h.line ∷ []) ≡ flat_map ended so.lines ++ ended h.line = flat_map-append ended so.lines (h.line ∷ []) ∙ ap (λ k. flat_map ended so.lines ++ k) (append-nil (ended h.line)) in
+    let all : flat_map ended (so.lines ++ h.line ∷ []) ≡ flat_map ended so.lines ++ ended h.line =
+    flat_map-append ended so.lines (h.line ∷ []) ∙ ap (λ k. flat_map ended so.lines ++ k) (append-nil (ended h.line)) in
     record {
       lines = so.lines ++ h.line ∷ [];
       t = turn.t;
@@ -146,8 +162,9 @@ talk-more r joins s here there steps more left middle leaves given between gives
 -- ---- how it is cut off
 
 -- in a line
-pub cut-off : {P S : Type 0} (r : Rules P) (joins : P → S → P → Type 0) (s : Trail P) (here : P) (steps : List S) (left middle leaves : Option (List ℕ)) (given between gives : ℕ) (held holds : Option (List ℕ)) (taken n : ℕ) →
-    IsTalking r joins s here steps left middle given between held holds taken → IsCut middle leaves between gives n → Keeps holds holds → IsBrokenOff r s left leaves given gives held holds (taken + n)
+pub cut-off : {P S : Type 0} (r : Rules P) (joins : P → S → P → Type 0) (s : Trail P) (here : P) (steps : List S) (left middle leaves : Option (List ℕ))
+    (given between gives : ℕ) (held holds : Option (List ℕ)) (taken n : ℕ) → IsTalking r joins s here steps left middle given between held holds taken →
+    IsCut middle leaves between gives n → Keeps holds holds → IsBrokenOff r s left leaves given gives held holds (taken + n)
 cut-off r joins s here steps left middle leaves given between gives held holds taken n so cut kept = record {
   lines = so.lines;
   rest = cut.bytes;
@@ -158,7 +175,8 @@ cut-off r joins s here steps left middle leaves given between gives held holds t
 }
 
 -- in its answer
-pub left-unwritten : {P S : Type 0} (r : Rules P) (joins : P → S → P → Type 0) (s : Trail P) (here : P) (steps : List S) (left middle leaves : Option (List ℕ)) (given between gives : ℕ) (held holds gained : Option (List ℕ)) (taken : ℕ) (heard : Heard)
+pub left-unwritten : {P S : Type 0} (r : Rules P) (joins : P → S → P → Type 0) (s : Trail P) (here : P) (steps : List S) (left middle leaves : Option (List ℕ))
+    (given between gives : ℕ) (held holds gained : Option (List ℕ)) (taken : ℕ) (heard : Heard)
     (so : IsTalking r joins s here steps left middle given between held holds taken) (h : IsLineHeard middle leaves between gives taken heard) →
     IsTurnUnwritten r so.t (choice_of h.line) holds gained → IsReplyUnwritten r s left leaves given gives held gained
 left-unwritten r joins s here steps left middle leaves given between gives held holds gained taken heard so h turn = record {
@@ -178,7 +196,8 @@ left-unwritten r joins s here steps left middle leaves given between gives held 
     prefix-behind a b c xs ys p q = (length xs + q.0, omega (arith, length-append xs ys, q.1), rw take-append-add (Appends-trans a b c xs (take q.0 ys) p q.2))
 
 -- at a place
-pub left-stuck : {P S E : Type 0} (r : Rules P) (joins : P → S → P → Type 0) (refuses : P → E → Type 0) (s : Trail P) (here : P) (steps : List S) (left middle leaves : Option (List ℕ)) (given between gives : ℕ) (held holds gained : Option (List ℕ)) (taken : ℕ) (heard : Heard) (e : E)
+pub left-stuck : {P S E : Type 0} (r : Rules P) (joins : P → S → P → Type 0) (refuses : P → E → Type 0) (s : Trail P) (here : P) (steps : List S)
+    (left middle leaves : Option (List ℕ)) (given between gives : ℕ) (held holds gained : Option (List ℕ)) (taken : ℕ) (heard : Heard) (e : E)
     (so : IsTalking r joins s here steps left middle given between held holds taken) (h : IsLineHeard middle leaves between gives taken heard) →
     IsTurnRefused r refuses so.t (choice_of h.line) holds gained e → IsStuck r refuses s left leaves given gives held gained e
 left-stuck r joins refuses s here steps left middle leaves given between gives held holds gained taken heard e so h turn = record {
@@ -195,8 +214,10 @@ left-stuck r joins refuses s here steps left middle leaves given between gives h
 }
 
 -- for want of memory
-pub left-off : {P S : Type 0} (r : Rules P) (joins : P → S → P → Type 0) (s : Trail P) (here : P) (steps : List S) (left middle leaves : Option (List ℕ)) (given between gives : ℕ) (held holds gained : Option (List ℕ)) (taken : ℕ) (heard : Heard) →
-    IsTalking r joins s here steps left middle given between held holds taken → IsLineHeard middle leaves between gives taken heard → Keeps holds gained → IsLeftOff r s left leaves given gives held gained
+pub left-off : {P S : Type 0} (r : Rules P) (joins : P → S → P → Type 0) (s : Trail P) (here : P) (steps : List S) (left middle leaves : Option (List ℕ))
+    (given between gives : ℕ) (held holds gained : Option (List ℕ)) (taken : ℕ) (heard : Heard) →
+    IsTalking r joins s here steps left middle given between held holds taken → IsLineHeard middle leaves between gives taken heard → Keeps holds gained →
+    IsLeftOff r s left leaves given gives held gained
 left-off r joins s here steps left middle leaves given between gives held holds gained taken heard so h kept = record {
   lines = so.lines;
   last = h.line;
@@ -208,19 +229,28 @@ left-off r joins s here steps left middle leaves given between gives held holds 
 }
 
 -- as its turn is
-pub turn-cause : {P S E : Type 0} (r : Rules P) (joins : P → S → P → Type 0) (refuses : P → E → Type 0) (s : Trail P) (here : P) (steps : List S) (left middle leaves : Option (List ℕ)) (given between gives : ℕ) (held holds gained : Option (List ℕ)) (read reads start written writes taken : ℕ) (heard : Heard) (e : SessionError E)
-    (so : IsTalking r joins s here steps left middle given between held holds taken) (h : IsLineHeard middle leaves between gives taken heard) → written ≡ start →
-    IsTurnCause r joins refuses here steps heard.choice holds gained written writes e → IsCause r refuses s left leaves given gives held gained read reads start writes e
-turn-cause r joins refuses s here steps left middle leaves given between gives held holds gained read reads start written writes taken heard errors.ReadFault so h calm cause = absurd cause
-turn-cause r joins refuses s here steps left middle leaves given between gives held holds gained read reads start written writes taken heard errors.InputTooLong so h calm cause = absurd cause
-turn-cause r joins refuses s here steps left middle leaves given between gives held holds gained read reads start written writes taken heard errors.WriteFault so h calm cause = (
-  rw calm at cause.0,
-  left-unwritten r joins s here steps left middle leaves given between gives held holds gained taken heard so h
-      (cause.1 so.t (choice_of h.line) (heard-on r joins s here steps left middle leaves given between gives held holds taken heard so h)),
-)
-turn-cause r joins refuses s here steps left middle leaves given between gives held holds gained read reads start written writes taken heard errors.Memory so h calm cause =
+pub turn-cause : {P S E : Type 0} (r : Rules P) (joins : P → S → P → Type 0) (refuses : P → E → Type 0) (s : Trail P) (here : P) (steps : List S)
+    (left middle leaves : Option (List ℕ)) (given between gives : ℕ) (held holds gained : Option (List ℕ)) (read reads start written writes taken : ℕ)
+    (heard : Heard) (e : SessionError E)
+    (so : IsTalking r joins s here steps left middle given between held holds taken) (h : IsLineHeard middle leaves between gives taken heard) →
+    written ≡ start →
+    IsTurnCause r joins refuses here steps heard.choice holds gained written writes e → IsCause r refuses s left leaves given gives held gained read reads start
+    writes e
+turn-cause r joins refuses s here steps left middle leaves given between gives held holds gained read reads start written writes taken heard errors.ReadFault so
+    h calm cause = absurd cause
+turn-cause r joins refuses s here steps left middle leaves given between gives held holds gained read reads start written writes taken heard errors.InputTooLong
+    so h calm cause = absurd cause
+turn-cause r joins refuses s here steps left middle leaves given between gives held holds gained read reads start written writes taken heard errors.WriteFault
+    so h calm cause = (
+      rw calm at cause.0,
+      left-unwritten r joins s here steps left middle leaves given between gives held holds gained taken heard so h
+          (cause.1 so.t (choice_of h.line) (heard-on r joins s here steps left middle leaves given between gives held holds taken heard so h)),
+    )
+turn-cause r joins refuses s here steps left middle leaves given between gives held holds gained read reads start written writes taken heard errors.Memory so h
+    calm cause =
     left-off r joins s here steps left middle leaves given between gives held holds gained taken heard so h cause
-turn-cause r joins refuses s here steps left middle leaves given between gives held holds gained read reads start written writes taken heard (errors.Refused e) so h calm cause =
+turn-cause r joins refuses s here steps left middle leaves given between gives held holds gained read reads start written writes taken heard (errors.Refused e)
+    so h calm cause =
     left-stuck r joins refuses s here steps left middle leaves given between gives held holds gained taken heard e so h
     (cause so.t (choice_of h.line) (heard-on r joins s here steps left middle leaves given between gives held holds taken heard so h))
 
@@ -229,18 +259,25 @@ turn-cause r joins refuses s here steps left middle leaves given between gives h
 -- and no more than an input may have
 pub cut-short : {P : Type 0} (r : Rules P) (s : Trail P) (left leaves : Option (List ℕ)) (given gives : ℕ) (held holds : Option (List ℕ)) (n : ℕ) →
     IsBrokenOff r s left leaves given gives held holds n → n ≤ 67108864 → TookAtMost left leaves given gives 67108864
-cut-short r s left leaves given gives held holds n cut fits = record { bytes = flat_map ended cut.lines ++ cut.rest; took = cut.talk.took; at_most = omega (arith, cut.exactly, fits) }
+cut-short r s left leaves given gives held holds n cut fits = record {
+  bytes = flat_map ended cut.lines ++ cut.rest;
+  took = cut.talk.took;
+  at_most = omega (arith, cut.exactly, fits);
+}
 
 -- what a session took with a line
-pub line-short : {P S : Type 0} (r : Rules P) (joins : P → S → P → Type 0) (s : Trail P) (here : P) (steps : List S) (left middle leaves : Option (List ℕ)) (given between gives : ℕ) (held holds : Option (List ℕ)) (taken : ℕ) (heard : Heard) →
-    IsTalking r joins s here steps left middle given between held holds taken → IsLineHeard middle leaves between gives taken heard → heard.taken ≤ 67108864 → TookAtMost left leaves given gives 67108864
+pub line-short : {P S : Type 0} (r : Rules P) (joins : P → S → P → Type 0) (s : Trail P) (here : P) (steps : List S) (left middle leaves : Option (List ℕ))
+    (given between gives : ℕ) (held holds : Option (List ℕ)) (taken : ℕ) (heard : Heard) →
+    IsTalking r joins s here steps left middle given between held holds taken → IsLineHeard middle leaves between gives taken heard → heard.taken ≤ 67108864 →
+    TookAtMost left leaves given gives 67108864
 line-short r joins s here steps left middle leaves given between gives held holds taken heard so h fits = record {
   bytes = flat_map ended so.lines ++ as_taken heard.is_last h.line;
   took = took-line r joins s here steps left middle leaves given between gives held holds taken (as_taken heard.is_last h.line) so h.took;
   at_most = omega (arith, so.count, h.count, length-append (flat_map ended so.lines) (as_taken heard.is_last h.line), fits);
 }
 
-pub within-input : {E : Type 0} (left leaves : Option (List ℕ)) (given gives : ℕ) (e : SessionError E) → TookAtMost left leaves given gives 67108864 → IsWithinInput left leaves given gives e
+pub within-input : {E : Type 0} (left leaves : Option (List ℕ)) (given gives : ℕ) (e : SessionError E) → TookAtMost left leaves given gives 67108864 →
+    IsWithinInput left leaves given gives e
 within-input left leaves given gives errors.ReadFault took = took
 within-input left leaves given gives errors.InputTooLong took = tt
 within-input left leaves given gives errors.WriteFault took = took

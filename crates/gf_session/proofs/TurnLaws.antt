@@ -1,5 +1,6 @@
 -- Steps and trails, and what a turn does with them. The proofs of the functions of session cite these.
-use Rattle.std.proofs.Common.{◌≡◌, ℕ, suc, ◌-◌, ◌^◌, ◌≤◌, min, List, [], ◌∷◌, length, reverse, refl, ap, sym, ◌∙◌, arith, inl, inr, Result, Ok, Err, OnOk, IfErr}
+use Rattle.std.proofs.Common.{◌≡◌, ℕ, suc, ◌-◌, ◌^◌, ◌≤◌, min, List, [], ◌∷◌, length, reverse, refl, ap, sym, ◌∙◌, arith, inl, inr, Result, Ok, Err, OnOk}
+use Rattle.std.proofs.Common.{IfErr}
 use Rattle.std.proofs.lemmas.List.{reverse-append, length-reverse}
 use Rattle.std.proofs.KnownBytes.{Appends-nil, Keeps-refl}
 use Rattle.std.specs.declared.option.Option.{Option}
@@ -10,7 +11,8 @@ use Rattle.gf_session.specs.declared.choice.Choice.TheVariants as choices
 use Rattle.gf_session.specs.declared.session.SessionError.{SessionError}
 use Rattle.gf_session.specs.declared.session.SessionError.TheVariants as errors
 use Rattle.gf_session.specs.Sessions.{Rules, Trail, IsLineTurn, IsNear, IsNearUndo, IsUndone, Joins, AreSteps, no_such_facet, nothing_to_undo, not_understood}
-use Rattle.gf_session.specs.Moves.{IsGone, IsBack, IsMoveRefusal, IsBackRefusal, IsSessionAt, IsOfferCause, IsPromptCause, IsTurnTaken, IsTurnUnwritten, IsTurnCause}
+use Rattle.gf_session.specs.Moves.{IsGone, IsBack, IsMoveRefusal, IsBackRefusal, IsSessionAt, IsOfferCause, IsPromptCause, IsTurnTaken, IsTurnUnwritten}
+use Rattle.gf_session.specs.Moves.{IsTurnCause}
 
 -- ---- steps
 
@@ -42,35 +44,53 @@ turn-blank r joins here steps held s choices.Quit on = absurd (cc on.is_choice)
 turn-blank r joins here steps held s choices.Unknown on = absurd (cc on.is_choice)
 
 -- where a line leads, and its answer
-pub record IsLed {P S : Type 0} (r : Rules P) (joins : P → S → P → Type 0) (s : Trail P) (asked : Choice) (here : P) (steps : List S) (piece : List ℕ) : Type 0 where
+pub record IsLed {P S : Type 0} (r : Rules P) (joins : P → S → P → Type 0) (s : Trail P) (asked : Choice) (here : P) (steps : List S) (piece : List ℕ) :
+    Type 0 where
   pub t : Trail P
   pub is_here : t.here ≡ here
   pub are_steps : AreSteps joins steps t
   pub turn : IsLineTurn r s asked t piece
 
-pub taken : {P S : Type 0} (r : Rules P) (joins : P → S → P → Type 0) (s : Trail P) (asked : Choice) (here : P) (steps : List S) (piece : List ℕ) (held holds : Option (List ℕ)) →
-    IsLed r joins s asked here steps piece → Appends held holds piece → IsTurnTaken r joins s asked here steps held holds
-taken r joins s asked here steps piece held holds led gained = record { t = led.t; is_here = led.is_here; are_steps = led.are_steps; piece = piece; turn = led.turn; gained = gained }
+pub taken : {P S : Type 0} (r : Rules P) (joins : P → S → P → Type 0) (s : Trail P) (asked : Choice) (here : P) (steps : List S) (piece : List ℕ)
+    (held holds : Option (List ℕ)) → IsLed r joins s asked here steps piece → Appends held holds piece → IsTurnTaken r joins s asked here steps held holds
+taken r joins s asked here steps piece held holds led gained = record {
+  t = led.t;
+  is_here = led.is_here;
+  are_steps = led.are_steps;
+  piece = piece;
+  turn = led.turn;
+  gained = gained;
+}
 
-pub unwritten : {P S : Type 0} (r : Rules P) (joins : P → S → P → Type 0) (s : Trail P) (asked : Choice) (here : P) (steps : List S) (piece : List ℕ) (held holds : Option (List ℕ)) →
-    IsLed r joins s asked here steps piece → AppendsPrefix held holds piece → IsTurnUnwritten r s asked held holds
+pub unwritten : {P S : Type 0} (r : Rules P) (joins : P → S → P → Type 0) (s : Trail P) (asked : Choice) (here : P) (steps : List S) (piece : List ℕ)
+    (held holds : Option (List ℕ)) → IsLed r joins s asked here steps piece → AppendsPrefix held holds piece → IsTurnUnwritten r s asked held holds
 unwritten r joins s asked here steps piece held holds led gained = record { t = led.t; piece = piece; turn = led.turn; gained = gained }
 
 -- a line that isn't understood
 pub led-unknown : {P S : Type 0} (r : Rules P) (joins : P → S → P → Type 0) (here : P) (steps : List S) (s : Trail P) (asked : Choice) →
     IsSessionAt joins here steps choices.Unknown s asked → IsLed r joins s asked here steps not_understood
-led-unknown r joins here steps s choices.Unknown on = record { t = s; is_here = on.is_here; are_steps = on.are_steps; turn = record { stays = refl; is_answer = refl } }
+led-unknown r joins here steps s choices.Unknown on = record {
+  t = s;
+  is_here = on.is_here;
+  are_steps = on.are_steps;
+  turn = record { stays = refl; is_answer = refl };
+}
 led-unknown r joins here steps s choices.Blank on = absurd (cc on.is_choice)
 led-unknown r joins here steps s (choices.Across n) on = absurd (cc on.is_choice)
 led-unknown r joins here steps s choices.Undo on = absurd (cc on.is_choice)
 led-unknown r joins here steps s choices.Quit on = absurd (cc on.is_choice)
 
 -- a number that leads nowhere
-pub led-nowhere : {P S : Type 0} (r : Rules P) (joins : P → S → P → Type 0) (here : P) (steps : List S) (k : ℕ) (s : Trail P) (asked : Choice) → ((m : ℕ) → k ≤ m → r.IsLacking here m) →
-    IsSessionAt joins here steps (choices.Across k) s asked → IsLed r joins s asked here steps no_such_facet
+pub led-nowhere : {P S : Type 0} (r : Rules P) (joins : P → S → P → Type 0) (here : P) (steps : List S) (k : ℕ) (s : Trail P) (asked : Choice) →
+    ((m : ℕ) → k ≤ m → r.IsLacking here m) → IsSessionAt joins here steps (choices.Across k) s asked → IsLed r joins s asked here steps no_such_facet
 led-nowhere r joins here steps k s (choices.Across n) none on =
     let small : k ≡ min n (2 ^ 64 - 1) = ap number on.is_choice in
-    record { t = s; is_here = on.is_here; are_steps = on.are_steps; turn = inr (rw on.is_here (none n (omega (arith, small))), record { stays = refl; is_answer = refl }) }
+    record {
+      t = s;
+      is_here = on.is_here;
+      are_steps = on.are_steps;
+      turn = inr (rw on.is_here (none n (omega (arith, small))), record { stays = refl; is_answer = refl });
+    }
   where
     number : Choice → ℕ
     number (choices.Across n) = n
@@ -81,8 +101,8 @@ led-nowhere r joins here steps k s choices.Quit none on = absurd (cc on.is_choic
 led-nowhere r joins here steps k s choices.Unknown none on = absurd (cc on.is_choice)
 
 -- a number that leads on
-pub led-on : {P S : Type 0} (r : Rules P) (joins : P → S → P → Type 0) (is_place : P → Type 0) (here there : P) (steps more : List S) (k : ℕ) (s : Trail P) (asked : Choice) (text : List ℕ) →
-    IsGone r joins is_place here steps k there more → r.IsTold there (length more) text →
+pub led-on : {P S : Type 0} (r : Rules P) (joins : P → S → P → Type 0) (is_place : P → Type 0) (here there : P) (steps more : List S) (k : ℕ) (s : Trail P)
+    (asked : Choice) (text : List ℕ) → IsGone r joins is_place here steps k there more → r.IsTold there (length more) text →
     IsSessionAt joins here steps (choices.Across k) s asked → IsLed r joins s asked there more text
 led-on r joins is_place here there steps more k s (choices.Across n) text gone told on =
     let same : k ≡ n = omega (arith, ap number on.is_choice, gone.fits) in
@@ -112,12 +132,13 @@ undone : {P : Type 0} (r : Rules P) (here : P) (before : List P) (p : P) (ps : L
     IsUndone r here before (record { here = p; before = ps }) text
 undone r here before p ps text e told = rw e (refl, told)
 
-stays_first : {P : Type 0} (r : Rules P) (here : P) (before : List P) → before ≡ [] → IsUndone r here before (record { here = here; before = before }) nothing_to_undo
+stays_first : {P : Type 0} (r : Rules P) (here : P) (before : List P) → before ≡ [] →
+    IsUndone r here before (record { here = here; before = before }) nothing_to_undo
 stays_first r here before e = rw e (record { stays = refl; is_answer = refl })
 
 -- the way back
-pub led-back : {P S : Type 0} (r : Rules P) (joins : P → S → P → Type 0) (is_place : P → Type 0) (here there : P) (steps less : List S) (s : Trail P) (asked : Choice) (text : List ℕ) →
-    IsBack joins is_place here steps there less → r.IsTold there (length less) text →
+pub led-back : {P S : Type 0} (r : Rules P) (joins : P → S → P → Type 0) (is_place : P → Type 0) (here there : P) (steps less : List S) (s : Trail P)
+    (asked : Choice) (text : List ℕ) → IsBack joins is_place here steps there less → r.IsTold there (length less) text →
     IsSessionAt joins here steps choices.Undo s asked → IsLed r joins s asked there less text
 led-back r joins is_place here there steps less s choices.Undo text back told on =
     let b = back.before s on.is_here on.are_steps in
@@ -164,10 +185,12 @@ on-as joins here steps choice known s asked e on = record { is_here = on.is_here
 
 -- each trail that ends here is led there by this answer
 abbrev pub AreLed : {P S : Type 0} → Rules P → (P → S → P → Type 0) → P → List S → Choice → P → List S → List ℕ → Type 0
-AreLed {P} r joins here steps choice there more piece = (s : Trail P) (asked : Choice) → IsSessionAt joins here steps choice s asked → IsLed r joins s asked there more piece
+AreLed {P} r joins here steps choice there more piece = (s : Trail P) (asked : Choice) → IsSessionAt joins here steps choice s asked →
+    IsLed r joins s asked there more piece
 
 -- why an answer isn't written
-pub cause-offer : {P S E : Type 0} (r : Rules P) (joins : P → S → P → Type 0) (refuses : P → E → Type 0) (here there : P) (steps more : List S) (choice : Choice) (held holds : Option (List ℕ)) (written writes : ℕ)
+pub cause-offer : {P S E : Type 0} (r : Rules P) (joins : P → S → P → Type 0) (refuses : P → E → Type 0) (here there : P) (steps more : List S)
+    (choice : Choice) (held holds : Option (List ℕ)) (written writes : ℕ)
     (piece : List ℕ) (e : SessionError E) → AreLed r joins here steps choice there more piece → IsOfferCause held holds written writes piece e →
     IsTurnCause r joins refuses here steps choice held holds written writes e
 cause-offer r joins refuses here there steps more choice held holds written writes piece errors.WriteFault led cause =
@@ -178,7 +201,8 @@ cause-offer r joins refuses here there steps more choice held holds written writ
 cause-offer r joins refuses here there steps more choice held holds written writes piece (errors.Refused x) led cause = absurd cause
 
 -- why a prompt isn't written
-pub cause-prompt : {P S E : Type 0} (r : Rules P) (joins : P → S → P → Type 0) (refuses : P → E → Type 0) (here there : P) (steps more : List S) (choice : Choice) (held holds : Option (List ℕ)) (written writes : ℕ)
+pub cause-prompt : {P S E : Type 0} (r : Rules P) (joins : P → S → P → Type 0) (refuses : P → E → Type 0) (here there : P) (steps more : List S)
+    (choice : Choice) (held holds : Option (List ℕ)) (written writes : ℕ)
     (e : SessionError E) → ((text : List ℕ) → r.IsTold there (length more) text → AreLed r joins here steps choice there more text) →
     ((s : Trail P) (asked : Choice) → IsSessionAt joins here steps choice s asked → IsNear r s asked there) →
     IsPromptCause r refuses there (length more) held holds written writes e →
@@ -192,8 +216,8 @@ cause-prompt r joins refuses here there steps more choice held holds written wri
 cause-prompt r joins refuses here there steps more choice held holds written writes errors.Memory led near cause = absurd cause
 
 -- the place across by the number that a line asks for
-pub near-across : {P S : Type 0} (r : Rules P) (joins : P → S → P → Type 0) (is_place : P → Type 0) (here there : P) (steps more : List S) (k : ℕ) (s : Trail P) (asked : Choice) →
-    IsGone r joins is_place here steps k there more → IsSessionAt joins here steps (choices.Across k) s asked → IsNear r s asked there
+pub near-across : {P S : Type 0} (r : Rules P) (joins : P → S → P → Type 0) (is_place : P → Type 0) (here there : P) (steps more : List S) (k : ℕ) (s : Trail P)
+    (asked : Choice) → IsGone r joins is_place here steps k there more → IsSessionAt joins here steps (choices.Across k) s asked → IsNear r s asked there
 near-across r joins is_place here there steps more k s (choices.Across n) gone on =
     let same : k ≡ n = omega (arith, ap number on.is_choice, gone.fits) in inr (rw (on.is_here, ← same) gone.across)
   where
@@ -222,8 +246,8 @@ near-undo-before : {P : Type 0} (here : P) (before : List P) (p : P) (ps : List 
 near-undo-before here before p ps e = rw e (inr refl)
 
 -- the place before
-pub near-before : {P S : Type 0} (r : Rules P) (joins : P → S → P → Type 0) (is_place : P → Type 0) (here there : P) (steps less : List S) (s : Trail P) (asked : Choice) →
-    IsBack joins is_place here steps there less → IsSessionAt joins here steps choices.Undo s asked → IsNear r s asked there
+pub near-before : {P S : Type 0} (r : Rules P) (joins : P → S → P → Type 0) (is_place : P → Type 0) (here there : P) (steps less : List S) (s : Trail P)
+    (asked : Choice) → IsBack joins is_place here steps there less → IsSessionAt joins here steps choices.Undo s asked → IsNear r s asked there
 near-before r joins is_place here there steps less s choices.Undo back on =
     let b = back.before s on.is_here on.are_steps in near-undo-before s.here s.before there b.rest b.was
 near-before r joins is_place here there steps less s choices.Blank back on = absurd (cc on.is_choice)
@@ -247,7 +271,8 @@ near-undo r joins here steps s choices.Quit some on = absurd (cc on.is_choice)
 near-undo r joins here steps s choices.Unknown some on = absurd (cc on.is_choice)
 
 -- why what is told of the place before isn't written
-pub cause-back : {P S E : Type 0} (r : Rules P) (joins : P → S → P → Type 0) (is_place : P → Type 0) (refuses : P → E → Type 0) (here there : P) (steps less : List S) (choice : Choice)
+pub cause-back : {P S E : Type 0} (r : Rules P) (joins : P → S → P → Type 0) (is_place : P → Type 0) (refuses : P → E →
+    Type 0) (here there : P) (steps less : List S) (choice : Choice)
     (held holds : Option (List ℕ)) (written writes : ℕ) (e : SessionError E) → choice ≡ choices.Undo → IsBack joins is_place here steps there less →
     IsPromptCause r refuses there (length less) held holds written writes e → IsTurnCause r joins refuses here steps choice held holds written writes e
 cause-back r joins is_place refuses here there steps less choice held holds written writes e is back cause =
@@ -257,8 +282,10 @@ cause-back r joins is_place refuses here there steps less choice held holds writ
     cause
 
 -- why there is no way back although there is a step
-pub cause-no_way_back : {P S E : Type 0} (r : Rules P) (joins : P → S → P → Type 0) (refuses : P → E → Type 0) (here : P) (steps : List S) (choice : Choice) (held : Option (List ℕ))
-    (written writes : ℕ) (e : SessionError E) → choice ≡ choices.Undo → IsBackRefusal steps (refuses here) e → IsTurnCause r joins refuses here steps choice held held written writes e
+pub cause-no_way_back : {P S E : Type 0} (r : Rules P) (joins : P → S → P → Type 0) (refuses : P → E → Type 0) (here : P) (steps : List S) (choice : Choice)
+    (held : Option (List ℕ))
+    (written writes : ℕ) (e : SessionError E) → choice ≡ choices.Undo → IsBackRefusal steps (refuses here) e →
+    IsTurnCause r joins refuses here steps choice held held written writes e
 cause-no_way_back r joins refuses here steps choice held written writes errors.Memory is refusal = Keeps-refl held
 cause-no_way_back r joins refuses here steps choice held written writes (errors.Refused x) is refusal =
     λ s asked on. record {
@@ -272,8 +299,10 @@ cause-no_way_back r joins refuses here steps choice held written writes errors.I
 cause-no_way_back r joins refuses here steps choice held written writes errors.WriteFault is refusal = absurd refusal.refused
 
 -- why there is no way on by a number
-pub cause-no_way_on : {P S E : Type 0} (r : Rules P) (joins : P → S → P → Type 0) (refuses : P → E → Type 0) (here : P) (steps : List S) (k : ℕ) (choice : Choice) (held : Option (List ℕ))
-    (written writes : ℕ) (e : SessionError E) → choice ≡ choices.Across k → IsMoveRefusal (refuses here) e → IsTurnCause r joins refuses here steps choice held held written writes e
+pub cause-no_way_on : {P S E : Type 0} (r : Rules P) (joins : P → S → P → Type 0) (refuses : P → E → Type 0) (here : P) (steps : List S) (k : ℕ)
+    (choice : Choice) (held : Option (List ℕ))
+    (written writes : ℕ) (e : SessionError E) → choice ≡ choices.Across k → IsMoveRefusal (refuses here) e →
+    IsTurnCause r joins refuses here steps choice held held written writes e
 cause-no_way_on r joins refuses here steps k choice held written writes errors.Memory is refusal = Keeps-refl held
 cause-no_way_on r joins refuses here steps k choice held written writes (errors.Refused x) is refusal =
     λ s asked on. record {

@@ -9,7 +9,8 @@ use Rattle.gf_session.specs.Lines.{HasNoFeed, ended, as_taken}
 use Rattle.gf_session.specs.Sessions.{Rules, Trail, AreSteps, IsTalk, IsBrokenOff, IsReplyUnwritten, IsStuck}
 
 -- the walk is here by these steps, and each line that was taken was answered
-pub record IsTalking {P S : Type 0} (r : Rules P) (joins : P → S → P → Type 0) (s : Trail P) (here : P) (steps : List S) (left leaves : Option (List ℕ)) (given gives : ℕ) (held holds : Option (List ℕ)) (taken : ℕ) : Type 0 where
+pub record IsTalking {P S : Type 0} (r : Rules P) (joins : P → S → P → Type 0) (s : Trail P) (here : P) (steps : List S) (left leaves : Option (List ℕ))
+    (given gives : ℕ) (held holds : Option (List ℕ)) (taken : ℕ) : Type 0 where
   pub lines : List (List ℕ)
   pub t : Trail P
   pub is_here : t.here ≡ here
@@ -29,11 +30,14 @@ pub record IsLeftOff {P : Type 0} (r : Rules P) (s : Trail P) (left leaves : Opt
 
 -- why a session is cut off, and what was taken and written until then; the faults of the source and of the output, each before and after,
 -- stand last
-abbrev pub IsCause : {P E : Type 0} → Rules P → (P → E → Type 0) → Trail P → Option (List ℕ) → Option (List ℕ) → ℕ → ℕ → Option (List ℕ) → Option (List ℕ) → ℕ → ℕ → ℕ → ℕ → SessionError E → Type 0
+abbrev pub IsCause : {P E : Type 0} → Rules P → (P → E → Type 0) → Trail P → Option (List ℕ) → Option (List ℕ) → ℕ → ℕ → Option (List ℕ) → Option (List ℕ) → ℕ →
+    ℕ → ℕ → ℕ → SessionError E → Type 0
 IsCause r refuses s left leaves given gives held holds read reads written writes errors.ReadFault =
     Rose read reads × ((n : ℕ) × (n ≤ 67108864) × IsBrokenOff r s left leaves given gives held holds n)
-IsCause r refuses s left leaves given gives held holds read reads written writes errors.InputTooLong = IsBrokenOff r s left leaves given gives held holds 67108865
-IsCause r refuses s left leaves given gives held holds read reads written writes errors.WriteFault = Rose written writes × IsReplyUnwritten r s left leaves given gives held holds
+IsCause r refuses s left leaves given gives held holds read reads written writes errors.InputTooLong =
+    IsBrokenOff r s left leaves given gives held holds 67108865
+IsCause r refuses s left leaves given gives held holds read reads written writes errors.WriteFault =
+    Rose written writes × IsReplyUnwritten r s left leaves given gives held holds
 IsCause r refuses s left leaves given gives held holds read reads written writes errors.Memory = IsLeftOff r s left leaves given gives held holds
 IsCause r refuses s left leaves given gives held holds read reads written writes (errors.Refused e) = IsStuck r refuses s left leaves given gives held holds e
 

@@ -18,7 +18,8 @@ IsAcrossAt r joins is_place here n (Some across) = (n < 2 ^ 64 - 1) × r.IsAcros
 IsAcrossAt r joins is_place here n None = (m : ℕ) → n ≤ m → r.IsLacking here m
 
 -- the walk went on from here to there by the choice of this number
-pub record IsGone {P S : Type 0} (r : Rules P) (joins : P → S → P → Type 0) (is_place : P → Type 0) (here : P) (steps : List S) (n : ℕ) (there : P) (more : List S) : Type 0 where
+pub record IsGone {P S : Type 0} (r : Rules P) (joins : P → S → P → Type 0) (is_place : P → Type 0) (here : P) (steps : List S) (n : ℕ) (there : P)
+    (more : List S) : Type 0 where
   pub fits : n < 2 ^ 64 - 1
   pub across : r.IsAcross here n there
   pub step : S
@@ -84,7 +85,8 @@ pub record IsPrompted {P : Type 0} (r : Rules P) (here : P) (behind : ℕ) (held
 
 -- a prefix of that was written, since a write failed; or nothing, and the call at the place is refused
 abbrev pub IsPromptCause : {P E : Type 0} → Rules P → (P → E → Type 0) → P → ℕ → Option (List ℕ) → Option (List ℕ) → ℕ → ℕ → SessionError E → Type 0
-IsPromptCause r refuses here behind held holds written writes errors.WriteFault = Rose written writes × ((text : List ℕ) × r.IsTold here behind text × AppendsPrefix held holds text)
+IsPromptCause r refuses here behind held holds written writes errors.WriteFault =
+    Rose written writes × ((text : List ℕ) × r.IsTold here behind text × AppendsPrefix held holds text)
 IsPromptCause r refuses here behind held holds written writes (errors.Refused e) = Keeps held holds × refuses here e
 IsPromptCause r refuses here behind held holds written writes _ = ⊥
 
@@ -97,7 +99,8 @@ pub record IsSessionAt {P S : Type 0} (joins : P → S → P → Type 0) (here :
   pub is_choice : choice ≡ narrowed asked
 
 -- the line leads to another trail, which ends here and has these steps, and the output gained its answer
-pub record IsTurnTaken {P S : Type 0} (r : Rules P) (joins : P → S → P → Type 0) (s : Trail P) (asked : Choice) (here : P) (steps : List S) (held holds : Option (List ℕ)) : Type 0 where
+pub record IsTurnTaken {P S : Type 0} (r : Rules P) (joins : P → S → P → Type 0) (s : Trail P) (asked : Choice) (here : P) (steps : List S)
+    (held holds : Option (List ℕ)) : Type 0 where
   pub t : Trail P
   pub is_here : t.here ≡ here
   pub are_steps : AreSteps joins steps t
@@ -113,14 +116,16 @@ pub record IsTurnUnwritten {P : Type 0} (r : Rules P) (s : Trail P) (asked : Cho
   pub gained : AppendsPrefix held holds piece
 
 -- nothing was written: the line is refused at a place that it looks at
-pub record IsTurnRefused {P E : Type 0} (r : Rules P) (refuses : P → E → Type 0) (s : Trail P) (asked : Choice) (held holds : Option (List ℕ)) (e : E) : Type 0 where
+pub record IsTurnRefused {P E : Type 0} (r : Rules P) (refuses : P → E → Type 0) (s : Trail P) (asked : Choice) (held holds : Option (List ℕ)) (e : E) :
+    Type 0 where
   pub kept : Keeps held holds
   pub place : P
   pub near : IsNear r s asked place
   pub refused : refuses place e
 
 -- why a line isn't answered; the faults of the output before and after stand last
-abbrev pub IsTurnCause : {P S E : Type 0} → Rules P → (P → S → P → Type 0) → (P → E → Type 0) → P → List S → Choice → Option (List ℕ) → Option (List ℕ) → ℕ → ℕ → SessionError E → Type 0
+abbrev pub IsTurnCause : {P S E : Type 0} → Rules P → (P → S → P → Type 0) → (P → E → Type 0) → P → List S → Choice → Option (List ℕ) → Option (List ℕ) → ℕ →
+    ℕ → SessionError E → Type 0
 IsTurnCause r joins refuses here steps choice held holds written writes errors.ReadFault = ⊥
 IsTurnCause r joins refuses here steps choice held holds written writes errors.InputTooLong = ⊥
 IsTurnCause {P} r joins refuses here steps choice held holds written writes errors.WriteFault =

@@ -66,14 +66,16 @@ IsLineTurn r s choices.Unknown t text = IsReply s t not_understood text
 -- so do several lines, and their answers in turn are this text
 abbrev pub AreTurns : {P : Type 0} → Rules P → Trail P → List Choice → Trail P → List ℕ → Type 0
 AreTurns r s [] t text = (t ≡ s) × (text ≡ [])
-AreTurns {P} r s (c ∷ cs) t text = (u : Trail P) × (piece : List ℕ) × (rest : List ℕ) × IsLineTurn r s c u piece × AreTurns r u cs t rest × (text ≡ piece ++ rest)
+AreTurns {P} r s (c ∷ cs) t text = (u : Trail P) × (piece : List ℕ) × (rest : List ℕ) × IsLineTurn r s c u piece × AreTurns r u cs t rest ×
+    (text ≡ piece ++ rest)
 
 -- ---- sessions
 -- What is left of the source before and after, how many bytes it gave before and after, and what the sink holds before and after stand in
 -- this order.
 
 -- these lines were taken and then these bytes, and the output gained the answers of the lines
-pub record IsTalk {P : Type 0} (r : Rules P) (s t : Trail P) (left leaves : Option (List ℕ)) (given gives : ℕ) (held holds : Option (List ℕ)) (lines : List (List ℕ)) (rest : List ℕ) : Type 0 where
+pub record IsTalk {P : Type 0} (r : Rules P) (s t : Trail P) (left leaves : Option (List ℕ)) (given gives : ℕ) (held holds : Option (List ℕ))
+    (lines : List (List ℕ)) (rest : List ℕ) : Type 0 where
   pub pure : All HasNoFeed lines
   pub took : Took left leaves given gives (flat_map ended lines ++ rest)
   pub text : List ℕ
@@ -81,7 +83,8 @@ pub record IsTalk {P : Type 0} (r : Rules P) (s t : Trail P) (left leaves : Opti
   pub gained : Appends held holds text
 
 -- the last line was answered too, and nothing is left of the input
-pub record IsEndedByInput {P : Type 0} (r : Rules P) (s : Trail P) (left leaves : Option (List ℕ)) (given gives : ℕ) (held holds : Option (List ℕ)) : Type 0 where
+pub record IsEndedByInput {P : Type 0} (r : Rules P) (s : Trail P) (left leaves : Option (List ℕ)) (given gives : ℕ) (held holds : Option (List ℕ)) :
+    Type 0 where
   pub lines : List (List ℕ)
   pub last : List ℕ
   pub t : Trail P
@@ -93,7 +96,8 @@ pub record IsEndedByInput {P : Type 0} (r : Rules P) (s : Trail P) (left leaves 
   pub gained : Appends held holds text
 
 -- the line behind those that were answered is q; what is behind its line feed isn't taken
-pub record IsEndedByLine {P : Type 0} (r : Rules P) (s : Trail P) (left leaves : Option (List ℕ)) (given gives : ℕ) (held holds : Option (List ℕ)) : Type 0 where
+pub record IsEndedByLine {P : Type 0} (r : Rules P) (s : Trail P) (left leaves : Option (List ℕ)) (given gives : ℕ) (held holds : Option (List ℕ)) :
+    Type 0 where
   pub lines : List (List ℕ)
   pub last : List ℕ
   pub is_last : Bool
@@ -108,7 +112,8 @@ abbrev pub IsEnded : {P : Type 0} → Rules P → Trail P → Option (List ℕ) 
 IsEnded r s left leaves given gives held holds = IsEndedByInput r s left leaves given gives held holds ⊎ IsEndedByLine r s left leaves given gives held holds
 
 -- a session that is cut off in a line, of which so many bytes were taken in all; each line before was answered
-pub record IsBrokenOff {P : Type 0} (r : Rules P) (s : Trail P) (left leaves : Option (List ℕ)) (given gives : ℕ) (held holds : Option (List ℕ)) (count : ℕ) : Type 0 where
+pub record IsBrokenOff {P : Type 0} (r : Rules P) (s : Trail P) (left leaves : Option (List ℕ)) (given gives : ℕ) (held holds : Option (List ℕ)) (count : ℕ) :
+    Type 0 where
   pub lines : List (List ℕ)
   pub rest : List ℕ
   pub t : Trail P
@@ -117,7 +122,8 @@ pub record IsBrokenOff {P : Type 0} (r : Rules P) (s : Trail P) (left leaves : O
   pub exactly : length (flat_map ended lines ++ rest) ≡ count
 
 -- a session of which an answer couldn't be written: the output gained a prefix of the answers of all lines that were taken
-pub record IsReplyUnwritten {P : Type 0} (r : Rules P) (s : Trail P) (left leaves : Option (List ℕ)) (given gives : ℕ) (held holds : Option (List ℕ)) : Type 0 where
+pub record IsReplyUnwritten {P : Type 0} (r : Rules P) (s : Trail P) (left leaves : Option (List ℕ)) (given gives : ℕ) (held holds : Option (List ℕ)) :
+    Type 0 where
   pub lines : List (List ℕ)
   pub last : List ℕ
   pub is_last : Bool
@@ -142,7 +148,8 @@ IsNear r s choices.Undo p = IsNearUndo s.here s.before p
 IsNear r s _ p = ⊥
 
 -- a session that is refused at a place that the last line looks at; each line before it was answered
-pub record IsStuck {P E : Type 0} (r : Rules P) (refuses : P → E → Type 0) (s : Trail P) (left leaves : Option (List ℕ)) (given gives : ℕ) (held holds : Option (List ℕ)) (e : E) : Type 0 where
+pub record IsStuck {P E : Type 0} (r : Rules P) (refuses : P → E → Type 0) (s : Trail P) (left leaves : Option (List ℕ)) (given gives : ℕ)
+    (held holds : Option (List ℕ)) (e : E) : Type 0 where
   pub lines : List (List ℕ)
   pub last : List ℕ
   pub is_last : Bool

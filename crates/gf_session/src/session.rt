@@ -4,7 +4,8 @@ ghost use Rattle.std.specs.Io.KnownBytes.{Appends};
 ghost use Rattle.gf_outside.specs.Moved.{TookAtMost};
 ghost use Rattle.gf_session.specs.Sessions.{Trail, IsEnded};
 ghost use Rattle.gf_session.specs.Endings.{IsCause, IsReadCalm, IsWithinInput};
-ghost use Rattle.gf_session.specs.Moves.{IsGoing, IsGoingBack, IsSessionAt, IsSomeTrail, IsMoveRefusal, IsBackRefusal, IsOfferCause, IsPrompted, IsPromptCause, IsTurnTaken, IsTurnCause, IsWriteCalm};
+ghost use Rattle.gf_session.specs.Moves.{IsGoing, IsGoingBack, IsSessionAt, IsSomeTrail, IsMoveRefusal, IsBackRefusal, IsOfferCause, IsPrompted, IsPromptCause};
+ghost use Rattle.gf_session.specs.Moves.{IsTurnTaken, IsTurnCause, IsWriteCalm};
 
 use crate::choice::Choice;
 use crate::line::{HearingError, next_line};

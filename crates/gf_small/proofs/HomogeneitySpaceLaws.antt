@@ -34,17 +34,22 @@ pub record RowsSoFar (n : ℕ) (sets : List MarkedPolynomials) (rows : List (Lis
   pub marked : Each HasMarkedTerm (members_of (take i sets))
   pub variables : HaveVariables n (members_of (take i sets))
 
-next_members : (sets : List MarkedPolynomials) (i : ℕ) (s : MarkedPolynomials) → i < length sets → s ≡ get_or sets i s → members_of (take (i + 1) sets) ≡ members_of (take i sets) ++ s.items
-next_members sets i s l e = ap members_of (take_more sets i s l ∙ ap (λ (z : MarkedPolynomials). take i sets ++ z ∷ []) (sym e)) ∙ members_of-push (take i sets) s
+next_members : (sets : List MarkedPolynomials) (i : ℕ) (s : MarkedPolynomials) → i < length sets → s ≡ get_or sets i s →
+    members_of (take (i + 1) sets) ≡ members_of (take i sets) ++ s.items
+next_members sets i s l e = ap members_of (take_more sets i s l ∙ ap (λ (z : MarkedPolynomials). take i sets ++ z ∷ []) (sym e)) ∙ members_of-push (take i sets)
+    s
 
-pub rows-more : (n : ℕ) (sets : List MarkedPolynomials) (rows next : List (List ℤ)) (i : ℕ) (s : MarkedPolynomials) → i < length sets → s ≡ get_or sets i s → s.variables ≡ n →
-    Each HasMarkedTerm s.items → HaveVariables s.variables s.items → next ≡ rows ++ rows_of_polynomials s.items → RowsSoFar n sets rows i → RowsSoFar n sets next (i + 1)
+pub rows-more : (n : ℕ) (sets : List MarkedPolynomials) (rows next : List (List ℤ)) (i : ℕ) (s : MarkedPolynomials) → i < length sets → s ≡ get_or sets i s →
+    s.variables ≡ n → Each HasMarkedTerm s.items → HaveVariables s.variables s.items → next ≡ rows ++ rows_of_polynomials s.items → RowsSoFar n sets rows i →
+    RowsSoFar n sets next (i + 1)
 rows-more n sets rows next i s l e q m v r h =
     let more = next_members sets i s l e in
     record {
-      items = r ∙ ap (λ (z : List (List ℤ)). z ++ rows_of_polynomials s.items) h.items ∙ sym (members-append (members_of (take i sets)) s.items) ∙ ap rows_of_polynomials (sym more);
+      items = r ∙ ap (λ (z : List (List ℤ)). z ++ rows_of_polynomials s.items) h.items ∙ sym (members-append (members_of (take i sets)) s.items) ∙
+          ap rows_of_polynomials (sym more);
       marked = subst (Each HasMarkedTerm) (sym more) (Each-++ HasMarkedTerm (members_of (take i sets)) s.items h.marked m);
-      variables = subst (HaveVariables n) (sym more) (Each-++ (λ (b : MarkedPolynomial). HasVariables n b.poly) (members_of (take i sets)) s.items h.variables (subst (λ (k : ℕ). HaveVariables k s.items) q v));
+      variables = subst (HaveVariables n) (sym more) (Each-++ (λ (b : MarkedPolynomial). HasVariables n b.poly) (members_of (take i sets)) s.items h.variables
+          (subst (λ (k : ℕ). HaveVariables k s.items) q v));
     }
 
 -- ---- members
@@ -56,7 +61,8 @@ each_member P (d ∷ bs) b h (suc k, l, e) = each_member P bs b h.1 (k, omega ar
 
 -- ---- the space
 
-flat_on : (n : ℕ) (w : List ℤ) (bs : List MarkedPolynomial) → HaveVariables n bs → Each HasMarkedTerm bs → IsInSpace w bs → (r : List ℤ) → Contains (rows_of_polynomials bs) r → dot r w ≡ pos 0
+flat_on : (n : ℕ) (w : List ℤ) (bs : List MarkedPolynomial) → HaveVariables n bs → Each HasMarkedTerm bs → IsInSpace w bs → (r : List ℤ) →
+    Contains (rows_of_polynomials bs) r → dot r w ≡ pos 0
 flat_on n w bs v m h r c = at (row-from bs r c)
   where
     at : ((b : MarkedPolynomial) × Contains bs b × IsTermRow b.head b.poly r) → dot r w ≡ pos 0
@@ -65,10 +71,12 @@ flat_on n w bs v m h r c = at (row-from bs r c)
         let variables : HasVariables n b.poly = each_member (λ (d : MarkedPolynomial). HasVariables n d.poly) bs b v q.1 in
         let marked : HasMarkedTerm b = each_member HasMarkedTerm bs b m q.1 in
         let top : Term = record { coef = marked.mark; mono = b.head } in
-        let lengths : length b.head ≡ length q.2.term.mono = term_length n b.poly top variables marked.term ∙ sym (term_length n b.poly q.2.term variables q.2.inside) in
+        let lengths : length b.head ≡ length q.2.term.mono =
+        term_length n b.poly top variables marked.term ∙ sym (term_length n b.poly q.2.term variables q.2.inside) in
         ap (λ (z : List ℤ). dot z w) q.2.row ∙ dot-differences w b.head q.2.term.mono lengths ∙ omega (arith, ints, h b q.1 top q.2.term marked.term q.2.inside)
 
-level : (n : ℕ) (w : List ℤ) (bs : List MarkedPolynomial) → HaveVariables n bs → Each HasMarkedTerm bs → All (λ e. dot e w ≡ pos 0) (rows_of_polynomials bs) → (b : MarkedPolynomial) → Contains bs b → (t : Term) → Contains b.poly t → whole_weight w t.mono ≡ whole_weight w b.head
+level : (n : ℕ) (w : List ℤ) (bs : List MarkedPolynomial) → HaveVariables n bs → Each HasMarkedTerm bs → All (λ e. dot e w ≡ pos 0) (rows_of_polynomials bs) →
+    (b : MarkedPolynomial) → Contains bs b → (t : Term) → Contains b.poly t → whole_weight w t.mono ≡ whole_weight w b.head
 level n w bs v m h b c t k = at (same_or_not b.head t.mono)
   where
     variables : HasVariables n b.poly
@@ -80,10 +88,18 @@ level n w bs v m h b c t k = at (same_or_not b.head t.mono)
     at : (same b.head t.mono ≡ true) ⊎ (same b.head t.mono ≡ false) → whole_weight w t.mono ≡ whole_weight w b.head
     at (inl s) = sym (whole_weight-same w b.head t.mono s)
     at (inr d) =
-        let lengths : length b.head ≡ length t.mono = term_length n b.poly (record { coef = marked.mark; mono = b.head }) variables marked.term ∙ sym (term_length n b.poly t variables k) in
-        omega (arith, ints, dot-differences w b.head t.mono lengths, All-contains (λ e. dot e w ≡ pos 0) (rows_of_polynomials bs) (differences b.head t.mono) h (row-in bs b t c k d))
+        let lengths : length b.head ≡ length t.mono = term_length n b.poly (record { coef = marked.mark; mono = b.head }) variables marked.term ∙
+        sym (term_length n b.poly t variables k) in
+        omega (
+          arith,
+          ints,
+          dot-differences w b.head t.mono lengths,
+          All-contains (λ e. dot e w ≡ pos 0) (rows_of_polynomials bs) (differences b.head t.mono) h
+              (row-in bs b t c k d),
+        )
 
-space_exact : (n : ℕ) (w : List ℤ) (bs : List MarkedPolynomial) → HaveVariables n bs → Each HasMarkedTerm bs → IsInSpace w bs ↔ IsLineal [] (rows_of_polynomials bs) w
+space_exact : (n : ℕ) (w : List ℤ) (bs : List MarkedPolynomial) → HaveVariables n bs → Each HasMarkedTerm bs →
+    IsInSpace w bs ↔ IsLineal [] (rows_of_polynomials bs) w
 space_exact n w bs v m = (
   λ h. record { flat = λ k d l. absurd (omega arith); zero = λ k d l. flat_on n w bs v m h _ (Contains-get_or (rows_of_polynomials bs) k d l) },
   λ h b c s t a e. level n w bs v m h.zero b c s a ∙ sym (level n w bs v m h.zero b c t e),
@@ -93,7 +109,8 @@ space_exact n w bs v m = (
 pub rows_width : (n : ℕ) (bs : List MarkedPolynomial) → HaveVariables n bs → Each HasMarkedTerm bs → AreRows n (rows_of_polynomials bs)
 rows_width n bs v m k d l = at (row-from bs (get_or (rows_of_polynomials bs) k d) (Contains-get_or (rows_of_polynomials bs) k d l))
   where
-    at : ((b : MarkedPolynomial) × Contains bs b × IsTermRow b.head b.poly (get_or (rows_of_polynomials bs) k d)) → length (get_or (rows_of_polynomials bs) k d) ≡ n
+    at : ((b : MarkedPolynomial) × Contains bs b × IsTermRow b.head b.poly (get_or (rows_of_polynomials bs) k d)) →
+        length (get_or (rows_of_polynomials bs) k d) ≡ n
     at q =
         let variables : HasVariables n q.0.poly = each_member (λ (b : MarkedPolynomial). HasVariables n b.poly) bs q.0 v q.1 in
         let marked : HasMarkedTerm q.0 = each_member HasMarkedTerm bs q.0 m q.1 in
@@ -105,15 +122,19 @@ pub rows_wide : (n : ℕ) (sets : List MarkedPolynomials) (rows : List (List ℤ
 rows_wide n sets rows i h = subst (AreRows n) (sym h.items) (rows_width n (members_of (take i sets)) h.variables h.marked)
 
 -- the lineality space of the rows is the homogeneity space
-pub basis_of : (n : ℕ) (bs : List MarkedPolynomial) (rows lineality rays : List (List ℤ)) → HaveVariables n bs → Each HasMarkedTerm bs → rows ≡ rows_of_polynomials bs → IsRays n [] rows lineality rays → IsBasisOfSpace n bs lineality
+pub basis_of : (n : ℕ) (bs : List MarkedPolynomial) (rows lineality rays : List (List ℤ)) → HaveVariables n bs → Each HasMarkedTerm bs →
+    rows ≡ rows_of_polynomials bs → IsRays n [] rows lineality rays → IsBasisOfSpace n bs lineality
 basis_of n bs rows lineality rays v m e r = record {
   width = r.lin_width;
   echelon = r.echelon;
   spans = λ w l.
       let exact = space_exact n w bs v m in
-      let spans = r.spans w l in
-      (λ h. spans.0 (subst (λ (z : List (List ℤ)). IsLineal [] z w) (sym e) (exact.0 h)), λ g. exact.1 (subst (λ (z : List (List ℤ)). IsLineal [] z w) e (spans.1 g)));
+      let spans = r.spans w l in (
+        λ h. spans.0 (subst (λ (z : List (List ℤ)). IsLineal [] z w) (sym e) (exact.0 h)),
+        λ g. exact.1 (subst (λ (z : List (List ℤ)). IsLineal [] z w) e (spans.1 g)),
+      );
 }
 
-pub dimension_of : (n d : ℕ) (bs : List MarkedPolynomial) (rows lineality rays : List (List ℤ)) → HaveVariables n bs → Each HasMarkedTerm bs → rows ≡ rows_of_polynomials bs → IsRays n [] rows lineality rays → d ≡ length lineality → HasSpaceDimension n bs d
+pub dimension_of : (n d : ℕ) (bs : List MarkedPolynomial) (rows lineality rays : List (List ℤ)) → HaveVariables n bs → Each HasMarkedTerm bs →
+    rows ≡ rows_of_polynomials bs → IsRays n [] rows lineality rays → d ≡ length lineality → HasSpaceDimension n bs d
 dimension_of n d bs rows lineality rays v m e r q = (lineality, basis_of n bs rows lineality rays v m e r, sym q)

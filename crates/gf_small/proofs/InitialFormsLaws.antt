@@ -41,7 +41,8 @@ top w t [] = record {
     | inr n ↦ absurd (omega (arith, n.1))
   ];
 }
-top w t (r ∷ f) = by (top w r f) (int_cmp (whole_weight w t.mono) (whole_weight w (top w r f).term.mono)) (int_ranked (whole_weight w t.mono) (whole_weight w (top w r f).term.mono) _ refl)
+top w t (r ∷ f) = by (top w r f) (int_cmp (whole_weight w t.mono) (whole_weight w (top w r f).term.mono))
+    (int_ranked (whole_weight w t.mono) (whole_weight w (top w r f).term.mono) _ refl)
   where
     keep : (p : Top w (r ∷ f)) → whole_weight w t.mono ≤ℤ whole_weight w p.term.mono → Top w (t ∷ r ∷ f)
     keep p l = record {
@@ -53,7 +54,8 @@ top w t (r ∷ f) = by (top w r f) (int_cmp (whole_weight w t.mono) (whole_weigh
       ];
     }
 
-    by : (p : Top w (r ∷ f)) (o : Ordering) → MatchOrdering o (whole_weight w t.mono <ℤ whole_weight w p.term.mono) (whole_weight w t.mono ≡ whole_weight w p.term.mono) (whole_weight w p.term.mono <ℤ whole_weight w t.mono) → Top w (t ∷ r ∷ f)
+    by : (p : Top w (r ∷ f)) (o : Ordering) → MatchOrdering o (whole_weight w t.mono <ℤ whole_weight w p.term.mono) (whole_weight w t.mono ≡
+        whole_weight w p.term.mono) (whole_weight w p.term.mono <ℤ whole_weight w t.mono) → Top w (t ∷ r ∷ f)
     by p Less h = keep p (omega (arith, ints, h))
     by p Equal h = keep p (omega (arith, ints, h))
     by p Greater h = record {
@@ -68,7 +70,8 @@ top w t (r ∷ f) = by (top w r f) (int_cmp (whole_weight w t.mono) (whole_weigh
 -- the initial form of a polynomial that isn't zero isn't zero
 pub form_nonempty : (n : ℕ) (w : List ℤ) (f h : Terms) → HasVariables n f → IsDescending f → 0 < length f → IsInitialForm w f h → 0 < length h
 form_nonempty n w [] h v d l i = absurd (omega arith)
-form_nonempty n w (t ∷ f) [] v d l i = absurd (term_nonzero (t ∷ f) p.term d p.there (sym (term_coefficient n (t ∷ f) p.term v d p.there) ∙ sym (i.heaviest p.term.mono greatest)))
+form_nonempty n w (t ∷ f) [] v d l i =
+    absurd (term_nonzero (t ∷ f) p.term d p.there (sym (term_coefficient n (t ∷ f) p.term v d p.there) ∙ sym (i.heaviest p.term.mono greatest)))
   where
     p : Top w (t ∷ f)
     p = top w t f
@@ -83,7 +86,8 @@ form_nonempty n w (t ∷ f) (s ∷ h) v d l i = omega arith
 -- ---- the mark
 
 -- the coefficient at a term's monomial isn't 0
-pub here_not_zero : (n : ℕ) (f : Terms) (x : Exponents) (i : ℕ) (t : Term) → HasVariables n f → IsDescending f → i < length f → t ≡ get_or f i t → deglex t.mono x ≡ Equal → coefficient f x ≡ zero_ℚ → ⊥
+pub here_not_zero : (n : ℕ) (f : Terms) (x : Exponents) (i : ℕ) (t : Term) → HasVariables n f → IsDescending f → i < length f → t ≡ get_or f i t →
+    deglex t.mono x ≡ Equal → coefficient f x ≡ zero_ℚ → ⊥
 here_not_zero n f x i t v d l e q z =
     let there : Contains f t = (i, l, sym e) in
     term_nonzero f t d there (sym (term_coefficient n f t v d there) ∙ ap (coefficient f) (equal_same t.mono x q) ∙ z)
@@ -99,7 +103,8 @@ pub record FormsSoFar (w : List ℤ) (fs gs : List Written) (i : ℕ) : Type 0 w
   pub forms : AreInitialForms w (take i fs) gs
   pub variables : AreIn (length w) gs
 
-pub forms-more : (w : List ℤ) (fs gs next : List Written) (i : ℕ) (f g : Written) → i < length fs → f ≡ get_or fs i f → IsWrittenInitialForm w f g → IsIn (length w) g → next ≡ gs ++ g ∷ [] → FormsSoFar w fs gs i → FormsSoFar w fs next (i + 1)
+pub forms-more : (w : List ℤ) (fs gs next : List Written) (i : ℕ) (f g : Written) → i < length fs → f ≡ get_or fs i f → IsWrittenInitialForm w f g →
+    IsIn (length w) g → next ≡ gs ++ g ∷ [] → FormsSoFar w fs gs i → FormsSoFar w fs next (i + 1)
 forms-more w fs gs next i f g l e h v q k = record {
   forms = subst (AreInitialForms w (take (i + 1) fs)) (sym q) (all_zip_more (IsWrittenInitialForm w) fs gs i f g l e k.forms h);
   variables = subst (AreIn (length w)) (sym q) (AreIn-push (length w) gs g k.variables v);

@@ -50,9 +50,11 @@ pub record Greatest (w : List ℤ) (f : Terms) (place : ℕ) (m : ℤ) (i : ℕ)
 
 -- a term of the first i + 1 is one of the first i, or that at i
 split_at : (f : Terms) (i : ℕ) (t s : Term) → i < length f → t ≡ get_or f i t → Contains (take (i + 1) f) s → Contains (take i f) s ⊎ (t ≡ s)
-split_at f i t s h is k = Contains-push_cases (take i f) t s (subst (λ (g : Terms). Contains g s) (take_more f i t h ∙ ap (λ (z : Term). take i f ++ z ∷ []) (sym is)) k)
+split_at f i t s h is k =
+    Contains-push_cases (take i f) t s (subst (λ (g : Terms). Contains g s) (take_more f i t h ∙ ap (λ (z : Term). take i f ++ z ∷ []) (sym is)) k)
 
-pub Greatest-start : (w : List ℤ) (f : Terms) (place : ℕ) (t : Term) (m : ℤ) → place < length f → t ≡ get_or f place t → m ≡ whole_weight w t.mono → Greatest w f place m 0
+pub Greatest-start : (w : List ℤ) (f : Terms) (place : ℕ) (t : Term) (m : ℤ) → place < length f → t ≡ get_or f place t → m ≡ whole_weight w t.mono →
+    Greatest w f place m 0
 Greatest-start w f place t m h is e = record {
   inside = h;
   weight = e ∙ ap (whole_weight w) (sym (head_at f place t h is));
@@ -63,7 +65,8 @@ Greatest-start w f place t m h is e = record {
 pub exponents_at : (f : Terms) (i : ℕ) (t : Term) (x : Exponents) → t ≡ get_or f i t → x ≡ (get_or f i t).mono → x ≡ t.mono
 exponents_at f i t x is e = e ∙ ap (λ (z : Term). z.mono) (sym is)
 
-pub width_at : (n : ℕ) (f : Terms) (i : ℕ) (t : Term) (x : Exponents) → i < length f → t ≡ get_or f i t → x ≡ (get_or f i t).mono → HasVariables n f → length x ≡ n
+pub width_at : (n : ℕ) (f : Terms) (i : ℕ) (t : Term) (x : Exponents) → i < length f → t ≡ get_or f i t → x ≡ (get_or f i t).mono → HasVariables n f →
+    length x ≡ n
 width_at n f i t x l is e v = ap length (exponents_at f i t x is e) ∙ term_length n f t v (i, l, sym is)
 
 -- the term at i is above
@@ -92,7 +95,8 @@ Greatest-new w f place i m k t h is e x y ex ey above g = record {
 
 -- it isn't
 pub Greatest-kept : (w : List ℤ) (f : Terms) (place i : ℕ) (m k : ℤ) (t : Term) → i < length f → t ≡ get_or f i t → k ≡ whole_weight w t.mono →
-    (x y : Exponents) → x ≡ t.mono → y ≡ head_of f place → ((x ≡ y) ⊎ (k <ℤ m) ⊎ ((k ≡ m) × IsLexBelow x y)) → Greatest w f place m i → Greatest w f place m (i + 1)
+    (x y : Exponents) → x ≡ t.mono → y ≡ head_of f place → ((x ≡ y) ⊎ (k <ℤ m) ⊎ ((k ≡ m) × IsLexBelow x y)) → Greatest w f place m i →
+    Greatest w f place m (i + 1)
 Greatest-kept w f place i m k t h is e x y ex ey below g = record {
   inside = g.inside;
   weight = g.weight;
@@ -109,13 +113,14 @@ Greatest-kept w f place i m k t h is e x y ex ey below g = record {
     new : (t.mono ≡ head_of f place) ⊎ IsBelowBy w t.mono (head_of f place)
     new = elim below [ inl q ↦ inl (sym ex ∙ q ∙ ey) | inr b ↦ inr (by b) ]
 
-pub greatest_of : (w : List ℤ) (f : Terms) (place : ℕ) (m : ℤ) (i : ℕ) → length f ≤ i → Greatest w f place m i → (t : Term) → Contains f t → (t.mono ≡ head_of f place) ⊎ IsBelowBy w t.mono (head_of f place)
+pub greatest_of : (w : List ℤ) (f : Terms) (place : ℕ) (m : ℤ) (i : ℕ) → length f ≤ i → Greatest w f place m i → (t : Term) → Contains f t →
+    (t.mono ≡ head_of f place) ⊎ IsBelowBy w t.mono (head_of f place)
 greatest_of w f place m i h g t c = g.others t (subst (λ (z : Terms). Contains z t) (sym (take_all i f h)) c)
 
 -- ---- polynomial by polynomial
 
-pub marked_at : (w : List ℤ) (c : MarkedPolynomial) (f : Terms) (place : ℕ) → c ≡ record { poly = f; head = head_of f place } → IsDescending f → place < length f →
-    ((s : Term) → Contains f s → (s.mono ≡ head_of f place) ⊎ IsBelowBy w s.mono (head_of f place)) → IsMarkedByWeight w c
+pub marked_at : (w : List ℤ) (c : MarkedPolynomial) (f : Terms) (place : ℕ) → c ≡ record { poly = f; head = head_of f place } → IsDescending f →
+    place < length f → ((s : Term) → Contains f s → (s.mono ≡ head_of f place) ⊎ IsBelowBy w s.mono (head_of f place)) → IsMarkedByWeight w c
 marked_at w c f place e d l h = subst (IsMarkedByWeight w) (sym e) (record {
   marked = record { descending = d; mark = (get_or f place nothing).coef; term = mark_at f place (get_or f place nothing) l (at f place nothing l) };
   others = h;
@@ -145,9 +150,11 @@ pub record MarkedSoFar (w : List ℤ) (set : List Terms) (found : List MarkedPol
   pub polynomials : polys found ≡ take i set
   pub marks : Each (IsMarkedByWeight w) found
 
-pub marked-more : (w : List ℤ) (set : List Terms) (found next : List MarkedPolynomial) (i : ℕ) (f : Terms) (c : MarkedPolynomial) → i < length set → f ≡ get_or set i f → c.poly ≡ f → IsMarkedByWeight w c → next ≡ found ++ c ∷ [] → MarkedSoFar w set found i → MarkedSoFar w set next (i + 1)
+pub marked-more : (w : List ℤ) (set : List Terms) (found next : List MarkedPolynomial) (i : ℕ) (f : Terms) (c : MarkedPolynomial) → i < length set →
+    f ≡ get_or set i f → c.poly ≡ f → IsMarkedByWeight w c → next ≡ found ++ c ∷ [] → MarkedSoFar w set found i → MarkedSoFar w set next (i + 1)
 marked-more w set found next i f c l e p m q h = record {
-  polynomials = ap polys q ∙ map-append poly_of found (c ∷ []) ∙ ap (λ z. polys found ++ z ∷ []) p ∙ ap (λ z. z ++ f ∷ []) h.polynomials ∙ sym (take_more set i f l ∙ ap (λ (z : Terms). take i set ++ z ∷ []) (sym e));
+  polynomials = ap polys q ∙ map-append poly_of found (c ∷ []) ∙ ap (λ z. polys found ++ z ∷ []) p ∙ ap (λ z. z ++ f ∷ []) h.polynomials ∙
+      sym (take_more set i f l ∙ ap (λ (z : Terms). take i set ++ z ∷ []) (sym e));
   marks = subst (Each (IsMarkedByWeight w)) (sym q) (Each-++ (IsMarkedByWeight w) found (c ∷ []) h.marks (m, tt));
 }
   where
@@ -157,7 +164,10 @@ marked-more w set found next i f c l e p m q h = record {
 variables_by : (n : ℕ) (set : List Terms) (cs : List MarkedPolynomial) → polys cs ≡ set → All (HasVariables n) set → HaveVariables n cs
 variables_by n set [] e v = tt
 variables_by n [] (c ∷ cs) e v = absurd (cc)
-variables_by n (f ∷ set) (c ∷ cs) e v = (subst (HasVariables n) (sym (first e)) (All-head (HasVariables n) f set v), variables_by n set cs (rest e) (All-tail (HasVariables n) f set v))
+variables_by n (f ∷ set) (c ∷ cs) e v = (
+  subst (HasVariables n) (sym (first e)) (All-head (HasVariables n) f set v),
+  variables_by n set cs (rest e) (All-tail (HasVariables n) f set v),
+)
   where
     first : polys (c ∷ cs) ≡ f ∷ set → c.poly ≡ f
     first q = cc
@@ -165,5 +175,6 @@ variables_by n (f ∷ set) (c ∷ cs) e v = (subst (HasVariables n) (sym (first 
     rest : polys (c ∷ cs) ≡ f ∷ set → polys cs ≡ set
     rest q = cc
 
-pub marked-variables : (n k : ℕ) (w : List ℤ) (set : List Terms) (found : List MarkedPolynomial) (i : ℕ) → k ≡ n → All (HasVariables n) set → length set ≤ i → MarkedSoFar w set found i → HaveVariables k found
+pub marked-variables : (n k : ℕ) (w : List ℤ) (set : List Terms) (found : List MarkedPolynomial) (i : ℕ) → k ≡ n → All (HasVariables n) set → length set ≤ i →
+    MarkedSoFar w set found i → HaveVariables k found
 marked-variables n k w set found i q v l h = subst (λ (m : ℕ). HaveVariables m found) (sym q) (variables_by n set found (h.polynomials ∙ take_all i set l) v)

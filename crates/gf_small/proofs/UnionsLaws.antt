@@ -19,15 +19,19 @@ pub record SeenSoFar (old set kept : List Written) (i : ℕ) : Type 0 where
   pub variables : (n : ℕ) → AreIn n old → AreIn n set → AreIn n kept
 
 one_more : (fs set : List Written) (i : ℕ) (w : Written) → i < length set → w ≡ get_or set i w → fs ++ take (i + 1) set ≡ (fs ++ take i set) ++ w ∷ []
-one_more fs set i w l e = ap (λ (z : List Written). fs ++ z) (take_more set i w l ∙ ap (λ (z : Written). take i set ++ z ∷ []) (sym e)) ∙ sym (append_assoc fs (take i set) (w ∷ []))
+one_more fs set i w l e = ap (λ (z : List Written). fs ++ z) (take_more set i w l ∙ ap (λ (z : Written). take i set ++ z ∷ []) (sym e)) ∙
+    sym (append_assoc fs (take i set) (w ∷ []))
 
-pub seen-added : (old set kept next : List Written) (i : ℕ) (w v : Written) → i < length set → w ≡ get_or set i w → v ≡ w → next ≡ kept ++ v ∷ [] → IsNew w kept → SeenSoFar old set kept i → SeenSoFar old set next (i + 1)
+pub seen-added : (old set kept next : List Written) (i : ℕ) (w v : Written) → i < length set → w ≡ get_or set i w → v ≡ w → next ≡ kept ++ v ∷ [] →
+    IsNew w kept → SeenSoFar old set kept i → SeenSoFar old set next (i + 1)
 seen-added old set kept next i w v l e c q new h = record {
-  seen = λ fs s. AreFirstSeen.added (fs ++ take i set) kept (fs ++ take (i + 1) set) next w (one_more fs set i w l e) (q ∙ ap (λ (z : Written). kept ++ z ∷ []) c) new (h.seen fs s);
+  seen = λ fs s. AreFirstSeen.added (fs ++ take i set) kept (fs ++ take (i + 1) set) next w (one_more fs set i w l e)
+      (q ∙ ap (λ (z : Written). kept ++ z ∷ []) c) new (h.seen fs s);
   variables = λ n a b. subst (AreIn n) (sym (q ∙ ap (λ (z : Written). kept ++ z ∷ []) c)) (AreIn-push n kept w (h.variables n a b) (in_read n set i w b l e));
 }
 
-pub seen-dropped : (old set kept : List Written) (i : ℕ) (w : Written) → i < length set → w ≡ get_or set i w → IsAmong w kept → SeenSoFar old set kept i → SeenSoFar old set kept (i + 1)
+pub seen-dropped : (old set kept : List Written) (i : ℕ) (w : Written) → i < length set → w ≡ get_or set i w → IsAmong w kept → SeenSoFar old set kept i →
+    SeenSoFar old set kept (i + 1)
 seen-dropped old set kept i w l e among h = record {
   seen = λ fs s. AreFirstSeen.dropped (fs ++ take i set) kept (fs ++ take (i + 1) set) w (one_more fs set i w l e) among (h.seen fs s);
   variables = h.variables;
@@ -53,9 +57,11 @@ all_and_one [] s = append-nil s
 all_and_one (t ∷ sets) s = ap (λ (z : List Written). t ++ z) (all_and_one sets s) ∙ sym (append_assoc t (flat_map (λ u. u) sets) s)
 
 pub united-more : (sets : List (List Written)) (kept next s : List Written) (i : ℕ) → i < length sets → s ≡ get_or sets i s →
-    ((fs : List Written) → AreFirstSeen fs kept → AreFirstSeen (fs ++ s) next) → ((n : ℕ) → AreIn n kept → AreIn n s → AreIn n next) → UnitedSoFar sets kept i → UnitedSoFar sets next (i + 1)
+    ((fs : List Written) → AreFirstSeen fs kept → AreFirstSeen (fs ++ s) next) → ((n : ℕ) → AreIn n kept → AreIn n s → AreIn n next) → UnitedSoFar sets kept i →
+    UnitedSoFar sets next (i + 1)
 united-more sets kept next s i l e add in_n h = record {
-  union = subst (λ (z : List Written). AreFirstSeen z next) (sym (ap (flat_map (λ (t : List Written). t)) (take_more sets i s l ∙ ap (λ (z : List Written). take i sets ++ z ∷ []) (sym e)) ∙ all_and_one (take i sets) s)) (add _ h.union);
+  union = subst (λ (z : List Written). AreFirstSeen z next) (sym (ap (flat_map (λ (t : List Written). t))
+      (take_more sets i s l ∙ ap (λ (z : List Written). take i sets ++ z ∷ []) (sym e)) ∙ all_and_one (take i sets) s)) (add _ h.union);
   variables = λ n a. in_n n (h.variables n a) (subst (AreIn n) (sym e) (set_in n sets i s a l));
 }
 

@@ -26,7 +26,8 @@ IsNew w vs = All (λ v. AreEqual v w → ⊥) vs
 -- the second list has the polynomials of the first one in the same order, but of equal polynomials only the first
 pub data AreFirstSeen : List Written → List Written → Type 0 where
   nothing : AreFirstSeen [] []
-  added : (fs kept whole more : List Written) (w : Written) → whole ≡ fs ++ w ∷ [] → more ≡ kept ++ w ∷ [] → IsNew w kept → AreFirstSeen fs kept → AreFirstSeen whole more
+  added : (fs kept whole more : List Written) (w : Written) → whole ≡ fs ++ w ∷ [] → more ≡ kept ++ w ∷ [] → IsNew w kept → AreFirstSeen fs kept →
+      AreFirstSeen whole more
   dropped : (fs kept whole : List Written) (w : Written) → whole ≡ fs ++ w ∷ [] → IsAmong w kept → AreFirstSeen fs kept → AreFirstSeen whole kept
 
 -- union has the polynomials of the sets, one set after another, but of equal polynomials only the first

@@ -7,7 +7,9 @@ ghost use Rattle.gf_text.specs.RingText.{is_name, has};
 ghost use Rattle.gf_text.specs.Sets.{IsIn, AreIn};
 ghost use Rattle.gf_small.specs.declared.homogenization.SmallError.TheVariants.{Memory};
 ghost use Rattle.gf_small.specs.Degrees.{total_degree as degree_of};
-ghost use Rattle.gf_small.specs.Homogenization.{new_exponent as exponent_of, filled_term as term_of, ExponentsFit, IsHomogenizedWithinLimit, IsExponentPastLimit, IsFirstPastLimit, IsWrittenPastLimit, IsFirstExponentPastLimit, IsMarkedHomogenization, IsWrittenHomogenization, AreHomogenizations, IsHomogenizeCause, HasExponent};
+ghost use Rattle.gf_small.specs.Homogenization.{new_exponent as exponent_of, filled_term as term_of, ExponentsFit, IsHomogenizedWithinLimit};
+ghost use Rattle.gf_small.specs.Homogenization.{IsExponentPastLimit, IsFirstPastLimit, IsWrittenPastLimit, IsFirstExponentPastLimit, IsMarkedHomogenization};
+ghost use Rattle.gf_small.specs.Homogenization.{IsWrittenHomogenization, AreHomogenizations, IsHomogenizeCause, HasExponent};
 
 use crate::degrees::total_degree;
 use gf_division::place_of;

@@ -2,7 +2,8 @@
 -- To cite: row_of, left_at_start, start_leaves, left_as_resumed, resumed_as, left_after, row_step, left_at_end, row_end, left_kept, row_kept,
 -- front_refused, row_early, early_moved, early_refused.
 use Rattle.std.specs.Global.{Global}
-use Rattle.std.proofs.Common.{◌≡◌, ◌⊎◌, ℕ, suc, ◌+◌, ◌-◌, ◌*◌, ◌≤◌, List, [], ◌∷◌, ◌++◌, ℤ, length, map, Option, Some, None, Result, Ok, Err, arith, refl, sym, ap, subst, inl, inr, append-nil}
+use Rattle.std.proofs.Common.{◌≡◌, ◌⊎◌, ℕ, suc, ◌+◌, ◌-◌, ◌*◌, ◌≤◌, List, [], ◌∷◌, ◌++◌, ℤ, length, map, Option, Some, None, Result, Ok, Err, arith, refl, sym}
+use Rattle.std.proofs.Common.{ap, subst, inl, inr, append-nil}
 use Rattle.gf_poly.specs.Marking.{MarkedPolynomials}
 use Rattle.gf_reverse_search.specs.declared.mark.Mark.{Mark}
 use Rattle.gf_reverse_search.specs.declared.mark.Mark.TheVariants.{Before, After, Listed, Finished}
@@ -39,27 +40,40 @@ use Rattle.gf_subtree.proofs.OrderLaws.{AreSorted, IsInOrderAfter, call_order}
 -- ---- of the ideal, along the tree
 
 of_ideal_down : (F : Fan) (pairs : ℕ) (t : BasisTree) (v u : MarkedPolynomials) (c : List ℤ) → up_in t v c u → IsOfIdeal F pairs t u → IsOfIdeal F pairs t v
-of_ideal_down F pairs t v u c h i = record { region = i.region; pairs = i.pairs; basis = down_node F v c u (subst (λ (k : Region). IsParent k v c u) i.region h) i.basis }
+of_ideal_down F pairs t v u c h i = record {
+  region = i.region;
+  pairs = i.pairs;
+  basis = down_node F v c u (subst (λ (k : Region). IsParent k v c u) i.region h) i.basis;
+}
 
 of_ideal_rise : (F : Fan) (pairs : ℕ) (t : BasisTree) (v u : MarkedPolynomials) (c : List ℤ) → up_in t v c u → IsOfIdeal F pairs t v → IsOfIdeal F pairs t u
-of_ideal_rise F pairs t v u c h i = record { region = i.region; pairs = i.pairs; basis = above_node F v c u (subst (λ (k : Region). IsParent k v c u) i.region h) i.basis }
+of_ideal_rise F pairs t v u c h i = record {
+  region = i.region;
+  pairs = i.pairs;
+  basis = above_node F v c u (subst (λ (k : Region). IsParent k v c u) i.region h) i.basis;
+}
 
 -- ---- whole paths
 
-have_paths : (k : Region) (top : MarkedPolynomials) (p : List (List ℤ)) (ps : List (List (List ℤ))) (nodes : List MarkedPolynomials) → IsPathOf k top p → LeadTo (IsParent k) top ps nodes → HavePaths k (map (λ q. p ++ q) ps) nodes
+have_paths : (k : Region) (top : MarkedPolynomials) (p : List (List ℤ)) (ps : List (List (List ℤ))) (nodes : List MarkedPolynomials) → IsPathOf k top p →
+    LeadTo (IsParent k) top ps nodes → HavePaths k (map (λ q. p ++ q) ps) nodes
 have_paths k top p [] [] a l = tt
 have_paths k top p [] (x ∷ xs) a l = absurd l
 have_paths k top p (q ∷ qs) [] a l = absurd l
 have_paths k top p (q ∷ qs) (x ∷ xs) a l = (path_below k top x p q a l.0, have_paths k top p qs xs a l.1)
 
-among_behind : (p : List (List ℤ)) (ps : List (List (List ℤ))) (r : List (List ℤ)) → Among (map (λ q. p ++ q) ps) r → (q : List (List ℤ)) × Among ps q × (p ++ q ≡ r)
+among_behind : (p : List (List ℤ)) (ps : List (List (List ℤ))) (r : List (List ℤ)) → Among (map (λ q. p ++ q) ps) r →
+    (q : List (List ℤ)) × Among ps q × (p ++ q ≡ r)
 among_behind p [] r j = absurd j
 among_behind p (q ∷ qs) r (inl e) = (q, inl refl, e)
 among_behind p (q ∷ qs) r (inr j) = (let a = among_behind p qs r j in (a.0, inr a.1, a.2))
 
 rises_behind : (p : List (List ℤ)) (ps : List (List (List ℤ))) → Rises IsBefore ps → Rises IsBefore (map (λ q. p ++ q) ps)
 rises_behind p [] h = tt
-rises_behind p (q ∷ qs) h = (λ r j. (let a = among_behind p qs r j in subst (Precedes IsBefore (p ++ q)) a.2 (precedes_on IsBefore p q a.0 (h.0 a.0 a.1))), rises_behind p qs h.1)
+rises_behind p (q ∷ qs) h = (
+  λ r j. (let a = among_behind p qs r j in subst (Precedes IsBefore (p ++ q)) a.2 (precedes_on IsBefore p q a.0 (h.0 a.0 a.1))),
+  rises_behind p qs h.1,
+)
 
 -- the whole paths of what a walker has left
 record HaveRisingPaths (k : Region) (nodes : List MarkedPolynomials) : Type 0 where
@@ -67,14 +81,20 @@ record HaveRisingPaths (k : Region) (nodes : List MarkedPolynomials) : Type 0 wh
   lead : HavePaths k paths nodes
   rises : Rises IsBefore paths
 
-rising_paths : (k : Region) (m : Mark (List ℤ)) (here : MarkedPolynomials) (d : ℕ) (nodes : List MarkedPolynomials) → IsNode k here → Leaves IsBefore (IsParent k) m here d nodes → HaveRisingPaths k nodes
+rising_paths : (k : Region) (m : Mark (List ℤ)) (here : MarkedPolynomials) (d : ℕ) (nodes : List MarkedPolynomials) → IsNode k here →
+    Leaves IsBefore (IsParent k) m here d nodes → HaveRisingPaths k nodes
 rising_paths k m here d nodes h l =
     let p = path_exists k l.top (root_own k here l.top h (root_above k here l.top l.path h l.at.leads)) in
-    record { paths = map (λ q. p.0 ++ q) l.lists.paths; lead = have_paths k l.top p.0 l.lists.paths nodes p.1 l.lists.lead; rises = rises_behind p.0 l.lists.paths l.lists.rises }
+    record {
+      paths = map (λ q. p.0 ++ q) l.lists.paths;
+      lead = have_paths k l.top p.0 l.lists.paths nodes p.1 l.lists.lead;
+      rises = rises_behind p.0 l.lists.paths l.lists.rises;
+    }
 
 -- ---- bases in the order of their paths
 
-path_at : (k : Region) (ps : List (List (List ℤ))) (xs : List MarkedPolynomials) → HavePaths k ps xs → (x : MarkedPolynomials) → Among xs x → (p : List (List ℤ)) × Among ps p × IsPathOf k x p
+path_at : (k : Region) (ps : List (List (List ℤ))) (xs : List MarkedPolynomials) → HavePaths k ps xs → (x : MarkedPolynomials) → Among xs x →
+    (p : List (List ℤ)) × Among ps p × IsPathOf k x p
 path_at k [] [] h x j = absurd j
 path_at k [] (y ∷ ys) h x j = absurd h
 path_at k (q ∷ ps) [] h x j = absurd h
@@ -96,7 +116,8 @@ precedes_longer [] c = tt
 precedes_longer (a ∷ p) c = inr (refl, precedes_longer p c)
 
 -- what is above a basis doesn't come behind what that doesn't come behind
-higher : (F : Fan) (pairs : ℕ) (t : BasisTree) (v u : MarkedPolynomials) (c : List ℤ) (x : MarkedPolynomials) → up_in t v c u → IsOfIdeal F pairs t v → IsNotBehind F.region v x → IsNotBehind F.region u x
+higher : (F : Fan) (pairs : ℕ) (t : BasisTree) (v u : MarkedPolynomials) (c : List ℤ) (x : MarkedPolynomials) → up_in t v c u → IsOfIdeal F pairs t v →
+    IsNotBehind F.region v x → IsNotBehind F.region u x
 higher F pairs t v u c x h i n = record { path = above_path.0; other = n.other; of_path = above_path.1; of_other = n.of_other; early = inr (at n.early) }
   where
     up : IsParent F.region v c u
@@ -106,7 +127,8 @@ higher F pairs t v u c x h i n = record { path = above_path.0; other = n.other; 
     above_path = path_exists F.region u (own F.region F u refl (of_ideal_rise F pairs t v u c h i).basis)
 
     longer : n.path ≡ above_path.0 ++ c ∷ []
-    longer = path_one F.region v n.path (above_path.0 ++ c ∷ []) (own F.region F v refl i.basis) n.of_path (path_below F.region u v above_path.0 (c ∷ []) above_path.1 (v, up, refl))
+    longer = path_one F.region v n.path (above_path.0 ++ c ∷ []) (own F.region F v refl i.basis) n.of_path
+        (path_below F.region u v above_path.0 (c ∷ []) above_path.1 (v, up, refl))
 
     first : Precedes IsBefore above_path.0 n.path
     first = subst (Precedes IsBefore above_path.0) (sym longer) (precedes_longer above_path.0 c)
@@ -116,13 +138,21 @@ higher F pairs t v u c x h i n = record { path = above_path.0; other = n.other; 
     at (inr l) = precedes_trans IsBefore before_strict above_path.0 n.path n.other first l
 
 -- a walker doesn't stand behind what it has left
-left_early : (k : Region) (m : Mark (List ℤ)) (here : MarkedPolynomials) (d : ℕ) (nodes : List MarkedPolynomials) → IsNode k here → Leaves IsBefore (IsParent k) m here d nodes → (x : MarkedPolynomials) → Among nodes x → IsNotBehind k here x
-left_early k m here d nodes h l x j = record { path = top.0 ++ l.path; other = top.0 ++ found.0; of_path = path_below k l.top here top.0 l.path top.1 l.at.leads; of_other = path_below k l.top x top.0 found.0 top.1 found.2; early = at (by_mark m (l.lists.only found.0 found.1)) }
+left_early : (k : Region) (m : Mark (List ℤ)) (here : MarkedPolynomials) (d : ℕ) (nodes : List MarkedPolynomials) → IsNode k here →
+    Leaves IsBefore (IsParent k) m here d nodes → (x : MarkedPolynomials) → Among nodes x → IsNotBehind k here x
+left_early k m here d nodes h l x j = record {
+  path = top.0 ++ l.path;
+  other = top.0 ++ found.0;
+  of_path = path_below k l.top here top.0 l.path top.1 l.at.leads;
+  of_other = path_below k l.top x top.0 found.0 top.1 found.2;
+  early = at (by_mark m (l.lists.only found.0 found.1));
+}
   where
     top : (p : List (List ℤ)) × IsPathOf k l.top p
     top = path_exists k l.top (root_own k here l.top h (root_above k here l.top l.path h l.at.leads))
 
-    led : (ps : List (List (List ℤ))) (xs : List MarkedPolynomials) → LeadTo (IsParent k) l.top ps xs → Among xs x → (q : List (List ℤ)) × Among ps q × Leads (IsParent k) l.top q x
+    led : (ps : List (List (List ℤ))) (xs : List MarkedPolynomials) → LeadTo (IsParent k) l.top ps xs → Among xs x →
+        (q : List (List ℤ)) × Among ps q × Leads (IsParent k) l.top q x
     led [] [] g i = absurd i
     led [] (y ∷ ys) g i = absurd g
     led (q ∷ ps) [] g i = absurd g
@@ -149,9 +179,11 @@ row_of f pairs k s n = record { frontier = f; pairs = pairs; region = k; start =
 
 -- ---- the beginning
 
-pub start_leaves : (alloc : Global) (root : MarkedPolynomials) (k : Region) (workers pairs : ℕ) → IsNode k root → (nodes : List MarkedPolynomials) → AreLeft (walk_at root k pairs) nodes → AreLeftIn (first_row alloc root k workers pairs) nodes
+pub start_leaves : (alloc : Global) (root : MarkedPolynomials) (k : Region) (workers pairs : ℕ) → IsNode k root → (nodes : List MarkedPolynomials) →
+    AreLeft (walk_at root k pairs) nodes → AreLeftIn (first_row alloc root k workers pairs) nodes
 start_leaves alloc root k workers pairs h nodes l =
-    let g = gives IsBefore (IsParent k) before_strict (upward_tree k) Before root 0 Listed root 0 (Some root) (λ top r at. listed_here IsBefore (IsParent k) top r root root 0 refl at) nodes l in
+    let g = gives IsBefore (IsParent k) before_strict (upward_tree k) Before root 0 Listed root 0 (Some root)
+    (λ top r at. listed_here IsBefore (IsParent k) top r root root 0 refl at) nodes l in
     let p = rising_paths k Before root 0 nodes h l in
     let sorted : AreSorted (IsNotBehind k) (root ∷ g.0) = subst (AreSorted (IsNotBehind k)) g.1 (paths_sorted k p.paths nodes p.lead p.rises) in
     record {
@@ -162,7 +194,8 @@ start_leaves alloc root k workers pairs h nodes l =
       order = (g.0, g.1, (g.0, [], sym (append-nil g.0), g.2, (λ x j. sorted.1 x (subst (λ z. Among z x) (append-nil g.0) j)), refl));
     }
 
-pub left_at_start : (alloc : Global) (root : MarkedPolynomials) (k : Region) (workers pairs : ℕ) → IsNode k root → HasRowLeft (first_row alloc root k workers pairs)
+pub left_at_start : (alloc : Global) (root : MarkedPolynomials) (k : Region) (workers pairs : ℕ) → IsNode k root →
+    HasRowLeft (first_row alloc root k workers pairs)
 left_at_start alloc root k workers pairs h =
     let f = upward_finite k root h in
     record {
@@ -177,7 +210,8 @@ left_at_start alloc root k workers pairs h =
 
 -- ---- going on where a walker stands
 
-module _ (walk : Walk) (p : Place BasisTree MarkedPolynomials (List ℤ)) (workers : ℕ) (here : p.here ≡ walk.here) (mark : p.mark ≡ walk.mark) (depth : p.depth ≡ walk.depth) (pairs : p.tree.pairs ≡ walk.pairs) (region : p.tree.region ≡ walk.region) (had : HasListLeft walk) where
+module _ (walk : Walk) (p : Place BasisTree MarkedPolynomials (List ℤ)) (workers : ℕ) (here : p.here ≡ walk.here) (mark : p.mark ≡ walk.mark) (depth : p.depth ≡
+    walk.depth) (pairs : p.tree.pairs ≡ walk.pairs) (region : p.tree.region ≡ walk.region) (had : HasListLeft walk) where
   at_place : (nodes : List MarkedPolynomials) → AreLeft walk nodes → IsLeftAt IsBefore up_in p nodes
   at_place nodes l =
       subst (λ (j : ℕ). Leaves IsBefore (IsParent p.tree.region) p.mark p.here j nodes) (sym depth)
@@ -185,7 +219,8 @@ module _ (walk : Walk) (p : Place BasisTree MarkedPolynomials (List ℤ)) (worke
       (subst (λ (m : Mark (List ℤ)). Leaves IsBefore (IsParent p.tree.region) m walk.here walk.depth nodes) (sym mark)
       (subst (λ (k : Region). Leaves IsBefore (IsParent k) walk.mark walk.here walk.depth nodes) (sym region) l)))
 
-  leaves : (nodes : List MarkedPolynomials) → AreLeft walk nodes → AreLeftIn (row_of (record { workers = workers; jobs = 0; pieces = Under p ∷ [] }) walk.pairs walk.region walk.here 0) nodes
+  leaves : (nodes : List MarkedPolynomials) → AreLeft walk nodes →
+      AreLeftIn (row_of (record { workers = workers; jobs = 0; pieces = Under p ∷ [] }) walk.pairs walk.region walk.here 0) nodes
   leaves nodes l = (let r = rising_paths walk.region walk.mark walk.here walk.depth nodes had.basis l in
       record {
         pieces = (nodes, [], sym (append-nil nodes), at_place nodes l, refl);
@@ -197,7 +232,8 @@ module _ (walk : Walk) (p : Place BasisTree MarkedPolynomials (List ℤ)) (worke
           [],
           sym (append-nil nodes),
           at_place nodes l,
-          (λ x j. subst (λ (v : MarkedPolynomials). IsNotBehind walk.region v x) (sym here) (left_early walk.region walk.mark walk.here walk.depth nodes had.basis l x (subst (λ z. Among z x) (append-nil nodes) j))),
+          (λ x j. subst (λ (v : MarkedPolynomials). IsNotBehind walk.region v x) (sym here)
+              (left_early walk.region walk.mark walk.here walk.depth nodes had.basis l x (subst (λ z. Among z x) (append-nil nodes) j))),
           refl,
         );
       })
@@ -210,45 +246,73 @@ module _ (walk : Walk) (p : Place BasisTree MarkedPolynomials (List ℤ)) (worke
     among = (record { region = region; pairs = pairs; basis = subst (IsNodeIn (fan_of walk.region walk.here)) (sym here) had.basis }, tt);
     rest = had.rest;
     left = leaves had.rest had.left;
-    few = (let w : length had.rest + walk.given ≤ count walk.region walk.here = had.few in let g : length had.rest + 0 ≤ count walk.region walk.here = omega (arith, w) in g);
+    few = (let w : length had.rest + walk.given ≤ count walk.region walk.here = had.few in let g : length had.rest + 0 ≤ count walk.region walk.here =
+        omega (arith, w) in g);
   }
 
   pub resumed_as : IsResumedAs walk workers (row_of (record { workers = workers; jobs = 0; pieces = Under p ∷ [] }) walk.pairs walk.region walk.here 0)
-  resumed_as = record { workers = refl; jobs = refl; place = p; piece = refl; here = here; mark = mark; depth = depth; pairs = refl; region = refl; start = refl; given = refl; list = leaves }
+  resumed_as = record {
+    workers = refl;
+    jobs = refl;
+    place = p;
+    piece = refl;
+    here = here;
+    mark = mark;
+    depth = depth;
+    pairs = refl;
+    region = refl;
+    start = refl;
+    given = refl;
+    list = leaves;
+  }
 
 -- ---- a call
 
-module _ (f g : Frontier BasisTree MarkedPolynomials (List ℤ) TreeError) (pairs : ℕ) (k : Region) (s : MarkedPolynomials) (n m : ℕ) (workers : g.workers ≡ f.workers) (bound : length g.pieces ≤ (g.workers + 1) * 32) (refusals : AreRefusals RefusesWalker g.pieces) (had : HasRowLeft (row_of f pairs k s n)) where
+module _ (f g : Frontier BasisTree MarkedPolynomials (List ℤ) TreeError) (pairs : ℕ) (k : Region) (s : MarkedPolynomials) (n m : ℕ)
+    (workers : g.workers ≡ f.workers) (bound : length g.pieces ≤ (g.workers + 1) * 32) (refusals : AreRefusals RefusesWalker g.pieces)
+    (had : HasRowLeft (row_of f pairs k s n)) where
   same_list : IsSameList (row_of f pairs k s n) (row_of g pairs k s m)
   same_list = record { workers = workers; pairs = refl; region = refl; start = refl }
 
-  among_after : (answer : Result (Option MarkedPolynomials) TreeError) → IsCall IsBefore up_in RefusesWalker (λ e. e ≡ Memory) f answer g → AreAmongAfter (IsOfIdeal (fan_of k s) pairs) (IsNodeIn (fan_of k s)) answer g.pieces
+  among_after : (answer : Result (Option MarkedPolynomials) TreeError) → IsCall IsBefore up_in RefusesWalker (λ e. e ≡ Memory) f answer g →
+      AreAmongAfter (IsOfIdeal (fan_of k s) pairs) (IsNodeIn (fan_of k s)) answer g.pieces
   among_after answer call =
-      call_among IsBefore up_in RefusesWalker (IsOfIdeal (fan_of k s) pairs) (IsNodeIn (fan_of k s)) (λ t v i. i.basis) (of_ideal_down (fan_of k s) pairs) (of_ideal_rise (fan_of k s) pairs) before_strict (λ t. upward_tree t.region)
+      call_among IsBefore up_in RefusesWalker (IsOfIdeal (fan_of k s) pairs) (IsNodeIn (fan_of k s)) (λ t v i. i.basis) (of_ideal_down (fan_of k s) pairs)
+      (of_ideal_rise (fan_of k s) pairs) before_strict (λ t. upward_tree t.region)
       (λ e. e ≡ Memory) f answer g call had.rest had.left.pieces had.among
 
-  order_after : (answer : Result (Option MarkedPolynomials) TreeError) → IsCall IsBefore up_in RefusesWalker (λ e. e ≡ Memory) f answer g → (nodes : List MarkedPolynomials) → AreLeftIn (row_of f pairs k s n) nodes →
-      IsInOrderAfter IsBefore up_in before_strict (λ t. upward_tree t.region) RefusesWalker (IsNotBehind k) (IsOfIdeal (fan_of k s) pairs) (IsNodeIn (fan_of k s)) (λ t v i. i.basis) (of_ideal_down (fan_of k s) pairs) (of_ideal_rise (fan_of k s) pairs) (higher (fan_of k s) pairs)
+  order_after : (answer : Result (Option MarkedPolynomials) TreeError) → IsCall IsBefore up_in RefusesWalker (λ e. e ≡ Memory) f answer g →
+      (nodes : List MarkedPolynomials) → AreLeftIn (row_of f pairs k s n) nodes → IsInOrderAfter IsBefore up_in before_strict (λ t. upward_tree t.region)
+      RefusesWalker (IsNotBehind k) (IsOfIdeal (fan_of k s) pairs) (IsNodeIn (fan_of k s)) (λ t v i. i.basis) (of_ideal_down (fan_of k s) pairs)
+      (of_ideal_rise (fan_of k s) pairs) (higher (fan_of k s) pairs)
       answer nodes g.pieces
   order_after answer call nodes l =
-      call_order IsBefore up_in before_strict (λ t. upward_tree t.region) RefusesWalker (IsNotBehind k) (IsOfIdeal (fan_of k s) pairs) (IsNodeIn (fan_of k s)) (λ t v i. i.basis) (of_ideal_down (fan_of k s) pairs) (of_ideal_rise (fan_of k s) pairs) (higher (fan_of k s) pairs)
+      call_order IsBefore up_in before_strict (λ t. upward_tree t.region) RefusesWalker (IsNotBehind k) (IsOfIdeal (fan_of k s) pairs) (IsNodeIn (fan_of k s))
+      (λ t v i. i.basis) (of_ideal_down (fan_of k s) pairs) (of_ideal_rise (fan_of k s) pairs) (higher (fan_of k s) pairs)
       (λ e. e ≡ Memory) f answer g call nodes had.among (paths_sorted k l.paths nodes l.lead l.rises) l.order
 
   -- a basis is given
   module _ (v : MarkedPolynomials) (call : IsCall IsBefore up_in RefusesWalker (λ e. e ≡ Memory) f (Ok (Some v)) g)
-      (list : (nodes : List MarkedPolynomials) → PiecesLeave (IsLeftAt IsBefore up_in) f.pieces nodes → IsFirstOf (PiecesLeave (IsLeftAt IsBefore up_in) g.pieces) nodes (Some v)) (more : m ≡ n + 1) where
+      (list : (nodes : List MarkedPolynomials) → PiecesLeave (IsLeftAt IsBefore up_in) f.pieces nodes →
+      IsFirstOf (PiecesLeave (IsLeftAt IsBefore up_in) g.pieces) nodes (Some v)) (more : m ≡ n + 1) where
     basis : IsNodeIn (fan_of k s) v
     basis = (among_after (Ok (Some v)) call).0
 
-    first : (nodes : List MarkedPolynomials) → AreLeftIn (row_of f pairs k s n) nodes → (rest : List MarkedPolynomials) × (nodes ≡ v ∷ rest) × AreLeftIn (row_of g pairs k s m) rest
+    first : (nodes : List MarkedPolynomials) → AreLeftIn (row_of f pairs k s n) nodes →
+        (rest : List MarkedPolynomials) × (nodes ≡ v ∷ rest) × AreLeftIn (row_of g pairs k s m) rest
     first nodes l =
         let a = list nodes l.pieces in
         let o = order_after (Ok (Some v)) call nodes l in
-        let same : o.0 ≡ a.0 = cc in
-        (a.0, a.1, at a.0 a.2 (subst (LeaveInOrder (IsLeftAt IsBefore up_in) (IsNotBehind k) [] g.pieces) same o.2) l.paths (subst (HavePaths k l.paths) a.1 l.lead) l.rises)
+        let same : o.0 ≡ a.0 = cc in (
+          a.0,
+          a.1,
+          at a.0 a.2 (subst (LeaveInOrder (IsLeftAt IsBefore up_in) (IsNotBehind k) [] g.pieces) same o.2) l.paths
+              (subst (HavePaths k l.paths) a.1 l.lead) l.rises,
+        )
       where
-        at : (rest : List MarkedPolynomials) → PiecesLeave (IsLeftAt IsBefore up_in) g.pieces rest → LeaveInOrder (IsLeftAt IsBefore up_in) (IsNotBehind k) [] g.pieces rest →
-            (paths : List (List (List ℤ))) → HavePaths k paths (v ∷ rest) → Rises IsBefore paths → AreLeftIn (row_of g pairs k s m) rest
+        at : (rest : List MarkedPolynomials) → PiecesLeave (IsLeftAt IsBefore up_in) g.pieces rest →
+            LeaveInOrder (IsLeftAt IsBefore up_in) (IsNotBehind k) [] g.pieces rest → (paths : List (List (List ℤ))) → HavePaths k paths (v ∷ rest) →
+            Rises IsBefore paths → AreLeftIn (row_of g pairs k s m) rest
         at rest a o [] h r = absurd h
         at rest a o (p ∷ ps) h r = record { pieces = a; paths = ps; lead = h.1; rises = r.1; order = o }
 
@@ -281,7 +345,8 @@ module _ (f g : Frontier BasisTree MarkedPolynomials (List ℤ) TreeError) (pair
 
   -- nothing is left
   module _ (call : IsCall IsBefore up_in RefusesWalker (λ e. e ≡ Memory) f (Ok None) g)
-      (list : (nodes : List MarkedPolynomials) → PiecesLeave (IsLeftAt IsBefore up_in) f.pieces nodes → IsFirstOf (PiecesLeave (IsLeftAt IsBefore up_in) g.pieces) nodes None) (same : m ≡ n) where
+      (list : (nodes : List MarkedPolynomials) → PiecesLeave (IsLeftAt IsBefore up_in) f.pieces nodes →
+      IsFirstOf (PiecesLeave (IsLeftAt IsBefore up_in) g.pieces) nodes None) (same : m ≡ n) where
     over : AreLeftIn (row_of g pairs k s m) []
     over = record { pieces = (list had.rest had.left.pieces).1; paths = []; lead = tt; rises = tt; order = order_after (Ok None) call had.rest had.left }
 
@@ -307,7 +372,8 @@ module _ (f g : Frontier BasisTree MarkedPolynomials (List ℤ) TreeError) (pair
 
   -- a refusal
   module _ (e : TreeError) (call : IsCall IsBefore up_in RefusesWalker (λ e. e ≡ Memory) f (Err e) g)
-      (list : (nodes : List MarkedPolynomials) → PiecesLeave (IsLeftAt IsBefore up_in) f.pieces nodes → PiecesLeave (IsLeftAt IsBefore up_in) g.pieces nodes) (same : m ≡ n) where
+      (list : (nodes : List MarkedPolynomials) → PiecesLeave (IsLeftAt IsBefore up_in) f.pieces nodes → PiecesLeave (IsLeftAt IsBefore up_in) g.pieces nodes)
+      (same : m ≡ n) where
     stays : (nodes : List MarkedPolynomials) → AreLeftIn (row_of f pairs k s n) nodes → AreLeftIn (row_of g pairs k s m) nodes
     stays nodes l = record { pieces = list nodes l.pieces; paths = l.paths; lead = l.lead; rises = l.rises; order = order_after (Err e) call nodes l }
 
@@ -328,17 +394,21 @@ module _ (f g : Frontier BasisTree MarkedPolynomials (List ℤ) TreeError) (pair
 -- ---- refusals
 
 -- the same by the region and the budget of the ideal
-at_budget : (F : Fan) (pairs : ℕ) (t : BasisTree) (v : MarkedPolynomials) (e : TreeError) → IsOfIdeal F pairs t v → IsCallRefusal t.region t.pairs v e → IsCallRefusal F.region pairs v e
+at_budget : (F : Fan) (pairs : ℕ) (t : BasisTree) (v : MarkedPolynomials) (e : TreeError) → IsOfIdeal F pairs t v → IsCallRefusal t.region t.pairs v e →
+    IsCallRefusal F.region pairs v e
 at_budget F pairs t v e i r = subst (λ (p : ℕ). IsCallRefusal F.region p v e) i.pairs (subst (λ (k : Region). IsCallRefusal k t.pairs v e) i.region r)
 
-one_refused : (F : Fan) (pairs : ℕ) (w : Place BasisTree MarkedPolynomials (List ℤ)) (e : TreeError) → RefusesWalker w e → IsOfIdeal F pairs w.tree w.here → IsTreeRefusal F pairs e
+one_refused : (F : Fan) (pairs : ℕ) (w : Place BasisTree MarkedPolynomials (List ℤ)) (e : TreeError) → RefusesWalker w e → IsOfIdeal F pairs w.tree w.here →
+    IsTreeRefusal F pairs e
 one_refused F pairs w e r i =
-    let a = above IsBefore up_in RefusesWalker (IsOfIdeal F pairs) (IsNodeIn F) (λ t v j. j.basis) (of_ideal_down F pairs) (of_ideal_rise F pairs) w.tree r.node w.here r.path r.leads i in
+    let a = above IsBefore up_in RefusesWalker (IsOfIdeal F pairs) (IsNodeIn F) (λ t v j. j.basis) (of_ideal_down F pairs) (of_ideal_rise F pairs)
+    w.tree r.node w.here r.path r.leads i in
     refusal_moved (fan_of F.region r.node) F pairs e (back_fan F (fan_of F.region r.node) (own_fan F r.node a.basis))
     (call_refused F.region pairs r.node e (own F.region F r.node refl a.basis) (at_budget F pairs w.tree r.node e a r.refused))
 
 -- a refusal of the walker in front is one of a search over the bases of the ideal
-pub front_refused : (F : Fan) (pairs : ℕ) (ps : List (Piece BasisTree MarkedPolynomials (List ℤ) TreeError)) (e : TreeError) → IsFrontRefused RefusesWalker ps e → AreAmong (IsOfIdeal F pairs) (IsNodeIn F) ps → IsTreeRefusal F pairs e
+pub front_refused : (F : Fan) (pairs : ℕ) (ps : List (Piece BasisTree MarkedPolynomials (List ℤ) TreeError)) (e : TreeError) →
+    IsFrontRefused RefusesWalker ps e → AreAmong (IsOfIdeal F pairs) (IsNodeIn F) ps → IsTreeRefusal F pairs e
 front_refused F pairs [] e r a = absurd r
 front_refused F pairs (Ready v ∷ ps) e r a = absurd r
 front_refused F pairs (Under w ∷ ps) e r a = one_refused F pairs w e r a.0
@@ -347,13 +417,16 @@ front_refused F pairs (Refused w f ∷ ps) e r a = one_refused F pairs w e r a.0
 -- ---- and it comes of a call at a basis that is given, or is the next one
 
 -- what is above a walker's basis doesn't come behind what that doesn't come behind
-above_early : (F : Fan) (pairs : ℕ) (t : BasisTree) (s here : MarkedPolynomials) (q : List (List ℤ)) (x : MarkedPolynomials) → Leads (up_in t) s q here → IsOfIdeal F pairs t here → IsNotBehind F.region here x → IsNotBehind F.region s x
+above_early : (F : Fan) (pairs : ℕ) (t : BasisTree) (s here : MarkedPolynomials) (q : List (List ℤ)) (x : MarkedPolynomials) → Leads (up_in t) s q here →
+    IsOfIdeal F pairs t here → IsNotBehind F.region here x → IsNotBehind F.region s x
 above_early F pairs t s here [] x l i n = subst (λ (z : MarkedPolynomials). IsNotBehind F.region z x) (sym l) n
 above_early F pairs t s here (c ∷ q) x l i n =
-    higher F pairs t l.0 s c x l.1 (above IsBefore up_in RefusesWalker (IsOfIdeal F pairs) (IsNodeIn F) (λ u v j. j.basis) (of_ideal_down F pairs) (of_ideal_rise F pairs) t l.0 here q l.2 i) (above_early F pairs t l.0 here q x l.2 i n)
+    higher F pairs t l.0 s c x l.1 (above IsBefore up_in RefusesWalker (IsOfIdeal F pairs) (IsNodeIn F) (λ u v j. j.basis) (of_ideal_down F pairs)
+    (of_ideal_rise F pairs) t l.0 here q l.2 i) (above_early F pairs t l.0 here q x l.2 i n)
 
 -- a basis that doesn't come behind the first of those that are left isn't one of the others
-not_later : (k : Region) (ps : List (List (List ℤ))) (nodes : List MarkedPolynomials) (v : MarkedPolynomials) → HavePaths k ps nodes → Rises IsBefore ps → IsNode k v → ((x : MarkedPolynomials) → Among nodes x → IsNode k x) → ((x : MarkedPolynomials) → Among nodes x → IsNotBehind k v x) → IsNotLater nodes v
+not_later : (k : Region) (ps : List (List (List ℤ))) (nodes : List MarkedPolynomials) (v : MarkedPolynomials) → HavePaths k ps nodes → Rises IsBefore ps →
+    IsNode k v → ((x : MarkedPolynomials) → Among nodes x → IsNode k x) → ((x : MarkedPolynomials) → Among nodes x → IsNotBehind k v x) → IsNotLater nodes v
 not_later k ps [] v h r node own_nodes early = tt
 not_later k [] (x ∷ xs) v h r node own_nodes early = absurd h
 not_later k (p ∷ ps) (x ∷ xs) v h r node own_nodes early = λ j. behind (early x (inl refl)) (path_at k ps xs h.1 v j)
@@ -380,50 +453,71 @@ among_either (y ∷ xs) ys x (inl e) = inl (inl e)
 among_either (y ∷ xs) ys x (inr j) = elim (among_either xs ys x j) [ inl i ↦ inl (inr i) | inr i ↦ inr i ]
 
 -- what a walker has left are bases of the ideal
-walker_nodes : (F : Fan) (pairs : ℕ) (w : Place BasisTree MarkedPolynomials (List ℤ)) (nodes : List MarkedPolynomials) → IsOfIdeal F pairs w.tree w.here → IsLeftAt IsBefore up_in w nodes → (x : MarkedPolynomials) → Among nodes x → IsNodeIn F x
+walker_nodes : (F : Fan) (pairs : ℕ) (w : Place BasisTree MarkedPolynomials (List ℤ)) (nodes : List MarkedPolynomials) → IsOfIdeal F pairs w.tree w.here →
+    IsLeftAt IsBefore up_in w nodes → (x : MarkedPolynomials) → Among nodes x → IsNodeIn F x
 walker_nodes F pairs w nodes i l x j = at l.lists.paths nodes l.lists.lead j
   where
     top : IsOfIdeal F pairs w.tree l.top
-    top = above IsBefore up_in RefusesWalker (IsOfIdeal F pairs) (IsNodeIn F) (λ u v k. k.basis) (of_ideal_down F pairs) (of_ideal_rise F pairs) w.tree l.top w.here l.path l.at.leads i
+    top = above IsBefore up_in RefusesWalker (IsOfIdeal F pairs) (IsNodeIn F) (λ u v k. k.basis) (of_ideal_down F pairs) (of_ideal_rise F pairs)
+        w.tree l.top w.here l.path l.at.leads i
 
     at : (ps : List (List (List ℤ))) (xs : List MarkedPolynomials) → LeadTo (up_in w.tree) l.top ps xs → Among xs x → IsNodeIn F x
     at [] [] g k = absurd k
     at [] (y ∷ ys) g k = absurd g
     at (q ∷ ps) [] g k = absurd g
-    at (q ∷ ps) (y ∷ ys) g (inl e) = subst (IsNodeIn F) e (below IsBefore up_in RefusesWalker (IsOfIdeal F pairs) (IsNodeIn F) (λ u v k. k.basis) (of_ideal_down F pairs) (of_ideal_rise F pairs) w.tree l.top y q g.0 top).basis
+    at (q ∷ ps) (y ∷ ys) g (inl e) = subst (IsNodeIn F) e (below IsBefore up_in RefusesWalker (IsOfIdeal F pairs) (IsNodeIn F) (λ u v k. k.basis)
+        (of_ideal_down F pairs) (of_ideal_rise F pairs) w.tree l.top y q g.0 top).basis
     at (q ∷ ps) (y ∷ ys) g (inr k) = at ps ys g.1 k
 
 -- and so is what a row has left
-left_nodes : (F : Fan) (pairs : ℕ) (ps : List (Piece BasisTree MarkedPolynomials (List ℤ) TreeError)) (nodes : List MarkedPolynomials) → AreAmong (IsOfIdeal F pairs) (IsNodeIn F) ps → PiecesLeave (IsLeftAt IsBefore up_in) ps nodes →
-    (x : MarkedPolynomials) → Among nodes x → IsNodeIn F x
+left_nodes : (F : Fan) (pairs : ℕ) (ps : List (Piece BasisTree MarkedPolynomials (List ℤ) TreeError)) (nodes : List MarkedPolynomials) →
+    AreAmong (IsOfIdeal F pairs) (IsNodeIn F) ps → PiecesLeave (IsLeftAt IsBefore up_in) ps nodes → (x : MarkedPolynomials) → Among nodes x → IsNodeIn F x
 left_nodes F pairs [] nodes a l x j = absurd (subst (λ z. Among z x) l j)
-left_nodes F pairs (Ready v ∷ ps) nodes a l x j = elim (subst (λ z. Among z x) l.1 j) [ inl e ↦ subst (IsNodeIn F) e a.0 | inr i ↦ left_nodes F pairs ps l.0 a.1 l.2 x i ]
-left_nodes F pairs (Under w ∷ ps) nodes a l x j = elim (among_either l.0 l.1 x (subst (λ z. Among z x) l.2 j)) [ inl i ↦ walker_nodes F pairs w l.0 a.0 l.3 x i | inr i ↦ left_nodes F pairs ps l.1 a.1 l.4 x i ]
-left_nodes F pairs (Refused w e ∷ ps) nodes a l x j = elim (among_either l.0 l.1 x (subst (λ z. Among z x) l.2 j)) [ inl i ↦ walker_nodes F pairs w l.0 a.0 l.3 x i | inr i ↦ left_nodes F pairs ps l.1 a.1 l.4 x i ]
+left_nodes F pairs (Ready v ∷ ps) nodes a l x j = elim (subst (λ z. Among z x) l.1 j) [
+  | inl e ↦ subst (IsNodeIn F) e a.0
+  | inr i ↦ left_nodes F pairs ps l.0 a.1 l.2 x i
+]
+left_nodes F pairs (Under w ∷ ps) nodes a l x j = elim (among_either l.0 l.1 x (subst (λ z. Among z x) l.2 j)) [
+  | inl i ↦ walker_nodes F pairs w l.0 a.0 l.3 x i
+  | inr i ↦ left_nodes F pairs ps l.1 a.1 l.4 x i
+]
+left_nodes F pairs (Refused w e ∷ ps) nodes a l x j = elim (among_either l.0 l.1 x (subst (λ z. Among z x) l.2 j)) [
+  | inl i ↦ walker_nodes F pairs w l.0 a.0 l.3 x i
+  | inr i ↦ left_nodes F pairs ps l.1 a.1 l.4 x i
+]
 
 -- a refusal of a walker that doesn't stand behind what is left
-one_early : (F : Fan) (pairs : ℕ) (w : Place BasisTree MarkedPolynomials (List ℤ)) (e : TreeError) (paths : List (List (List ℤ))) (nodes : List MarkedPolynomials) → RefusesWalker w e → IsOfIdeal F pairs w.tree w.here →
-    HavePaths F.region paths nodes → Rises IsBefore paths → ((x : MarkedPolynomials) → Among nodes x → IsNodeIn F x) → ((x : MarkedPolynomials) → Among (nodes ++ []) x → IsNotBehind F.region w.here x) → IsRefusedEarly F pairs nodes e
+one_early : (F : Fan) (pairs : ℕ) (w : Place BasisTree MarkedPolynomials (List ℤ)) (e : TreeError) (paths : List (List (List ℤ)))
+    (nodes : List MarkedPolynomials) → RefusesWalker w e → IsOfIdeal F pairs w.tree w.here → HavePaths F.region paths nodes → Rises IsBefore paths →
+    ((x : MarkedPolynomials) → Among nodes x → IsNodeIn F x) → ((x : MarkedPolynomials) → Among (nodes ++ []) x → IsNotBehind F.region w.here x) →
+    IsRefusedEarly F pairs nodes e
 one_early F pairs w e paths nodes r i h rise inside early =
-    let a = above IsBefore up_in RefusesWalker (IsOfIdeal F pairs) (IsNodeIn F) (λ t v j. j.basis) (of_ideal_down F pairs) (of_ideal_rise F pairs) w.tree r.node w.here r.path r.leads i in
+    let a = above IsBefore up_in RefusesWalker (IsOfIdeal F pairs) (IsNodeIn F) (λ t v j. j.basis) (of_ideal_down F pairs) (of_ideal_rise F pairs)
+    w.tree r.node w.here r.path r.leads i in
     IsRefusedEarly.at r.node a.basis
     (not_later F.region paths nodes r.node h rise (own F.region F r.node refl a.basis) (λ x j. own F.region F x refl (inside x j))
     (λ x j. above_early F pairs w.tree r.node w.here r.path x r.leads i (early x (subst (λ z. Among z x) (sym (append-nil nodes)) j))))
     (at_budget F pairs w.tree r.node e a r.refused)
 
 -- a refusal of the walker in front
-pub front_early : (F : Fan) (pairs : ℕ) (ps : List (Piece BasisTree MarkedPolynomials (List ℤ) TreeError)) (e : TreeError) (paths : List (List (List ℤ))) (nodes : List MarkedPolynomials) → IsFrontRefused RefusesWalker ps e →
-    AreAmong (IsOfIdeal F pairs) (IsNodeIn F) ps → HavePaths F.region paths nodes → Rises IsBefore paths → PiecesLeave (IsLeftAt IsBefore up_in) ps nodes → LeaveInOrder (IsLeftAt IsBefore up_in) (IsNotBehind F.region) [] ps nodes → IsRefusedEarly F pairs nodes e
+pub front_early : (F : Fan) (pairs : ℕ) (ps : List (Piece BasisTree MarkedPolynomials (List ℤ) TreeError)) (e : TreeError) (paths : List (List (List ℤ)))
+    (nodes : List MarkedPolynomials) → IsFrontRefused RefusesWalker ps e → AreAmong (IsOfIdeal F pairs) (IsNodeIn F) ps → HavePaths F.region paths nodes →
+    Rises IsBefore paths → PiecesLeave (IsLeftAt IsBefore up_in) ps nodes → LeaveInOrder (IsLeftAt IsBefore up_in) (IsNotBehind F.region) [] ps nodes →
+    IsRefusedEarly F pairs nodes e
 front_early F pairs [] e paths nodes r a h rise l o = absurd r
 front_early F pairs (Ready v ∷ ps) e paths nodes r a h rise l o = absurd r
-front_early F pairs (Under w ∷ ps) e paths nodes r a h rise l o = one_early F pairs w e paths nodes r a.0 h rise (left_nodes F pairs (Under w ∷ ps) nodes a l) o.4
-front_early F pairs (Refused w f ∷ ps) e paths nodes r a h rise l o = one_early F pairs w e paths nodes r a.0 h rise (left_nodes F pairs (Refused w f ∷ ps) nodes a l) o.4
+front_early F pairs (Under w ∷ ps) e paths nodes r a h rise l o =
+    one_early F pairs w e paths nodes r a.0 h rise (left_nodes F pairs (Under w ∷ ps) nodes a l) o.4
+front_early F pairs (Refused w f ∷ ps) e paths nodes r a h rise l o =
+    one_early F pairs w e paths nodes r a.0 h rise (left_nodes F pairs (Refused w f ∷ ps) nodes a l) o.4
 
 -- ---- a refusal, of a call
 
 -- it is early
-pub row_early : (f g : Frontier BasisTree MarkedPolynomials (List ℤ) TreeError) (pairs : ℕ) (k : Region) (s : MarkedPolynomials) (n m : ℕ) (kept : IsRowKept (row_of f pairs k s n) (row_of g pairs k s m)) (e : TreeError) → AreAmong (IsOfIdeal (fan_of k s) pairs) (IsNodeIn (fan_of k s)) g.pieces →
-    IsFrontRefused RefusesWalker g.pieces e → (nodes : List MarkedPolynomials) → AreLeftIn (row_of f pairs k s n) nodes → IsRefusedEarly (fan_of k s) pairs nodes e
+pub row_early : (f g : Frontier BasisTree MarkedPolynomials (List ℤ) TreeError) (pairs : ℕ) (k : Region) (s : MarkedPolynomials) (n m : ℕ) (kept : IsRowKept
+    (row_of f pairs k s n) (row_of g pairs k s m)) (e : TreeError) → AreAmong (IsOfIdeal (fan_of k s) pairs) (IsNodeIn (fan_of k s)) g.pieces →
+    IsFrontRefused RefusesWalker g.pieces e → (nodes : List MarkedPolynomials) → AreLeftIn (row_of f pairs k s n) nodes →
+    IsRefusedEarly (fan_of k s) pairs nodes e
 row_early f g pairs k s n m kept e a r nodes l =
     let l0 = kept.left nodes l in
     front_early (fan_of k s) pairs g.pieces e l0.paths nodes r a l0.lead l0.rises l0.pieces l0.order
@@ -431,8 +525,10 @@ row_early f g pairs k s n m kept e a r nodes l =
 -- ---- early refusals
 
 -- of the same ideal by other generators
-pub early_moved : (F G : Fan) (pairs : ℕ) (nodes : List MarkedPolynomials) (e : TreeError) → SameFan F G → IsRefusedEarly F pairs nodes e → IsRefusedEarly G pairs nodes e
-early_moved F G pairs nodes e s (IsRefusedEarly.at v h l r) = IsRefusedEarly.at v (node_moved F G v s h) l (subst (λ (k : Region). IsCallRefusal k pairs v e) s.region r)
+pub early_moved : (F G : Fan) (pairs : ℕ) (nodes : List MarkedPolynomials) (e : TreeError) → SameFan F G → IsRefusedEarly F pairs nodes e →
+    IsRefusedEarly G pairs nodes e
+early_moved F G pairs nodes e s (IsRefusedEarly.at v h l r) =
+    IsRefusedEarly.at v (node_moved F G v s h) l (subst (λ (k : Region). IsCallRefusal k pairs v e) s.region r)
 early_moved F G pairs nodes e s (IsRefusedEarly.memory q) = IsRefusedEarly.memory q
 
 -- each is one of a search over the bases of the ideal

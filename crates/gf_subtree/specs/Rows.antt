@@ -65,9 +65,11 @@ abbrev pub LeaveInOrder : {T N L E : Type 0} → (Place T N L → List N → Typ
 LeaveInOrder left early later [] nodes = nodes ≡ []
 LeaveInOrder {N = N} left early later (Ready v ∷ ps) nodes = (rest : List N) × (nodes ≡ v ∷ rest) × LeaveInOrder left early later ps rest
 LeaveInOrder {N = N} left early later (Under w ∷ ps) nodes =
-    (front : List N) × (back : List N) × (nodes ≡ front ++ back) × left w front × ((x : N) → Among (nodes ++ later) x → early w.here x) × LeaveInOrder left early later ps back
+    (front : List N) × (back : List N) × (nodes ≡ front ++ back) × left w front × ((x : N) → Among (nodes ++ later) x → early w.here x) ×
+    LeaveInOrder left early later ps back
 LeaveInOrder {N = N} left early later (Refused w e ∷ ps) nodes =
-    (front : List N) × (back : List N) × (nodes ≡ front ++ back) × left w front × ((x : N) → Among (nodes ++ later) x → early w.here x) × LeaveInOrder left early later ps back
+    (front : List N) × (back : List N) × (nodes ≡ front ++ back) × left w front × ((x : N) → Among (nodes ++ later) x → early w.here x) ×
+    LeaveInOrder left early later ps back
 
 -- v and x have paths from the root, and that of v doesn't come behind that of x
 pub record IsNotBehind (k : Region) (v x : MarkedPolynomials) : Type 0 where

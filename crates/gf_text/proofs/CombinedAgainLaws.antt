@@ -1,6 +1,8 @@
 -- What is said of polynomials is combined to these polynomials, with their marks.
 -- To cite: listed, all_listed, sums_listed, listed_fit, listed_written. The rest are steps.
-use Rattle.std.proofs.Common.{◌≡◌, ◌≤◌, ◌<◌, ◌^◌, ◌+◌, ◌-◌, ℕ, zero, suc, ℤ, pos, negsuc, Bool, true, false, cond, ◌==◌, nat_lt, slice_index, slice_set, replicate, List, [], ◌∷◌, ◌++◌, length, bytes_eq, Ok, refl, sym, ap, subst, ◌∙◌, inl, inr, arith, append_assoc, length-append, if◌then◌else◌}
+use Rattle.std.proofs.Common.{◌≡◌, ◌≤◌, ◌<◌, ◌^◌, ◌+◌, ◌-◌, ℕ, zero, suc, ℤ, pos, negsuc, Bool, true, false, cond, ◌==◌, nat_lt, slice_index, slice_set}
+use Rattle.std.proofs.Common.{replicate, List, [], ◌∷◌, ◌++◌, length, bytes_eq, Ok, refl, sym, ap, subst, ◌∙◌, inl, inr, arith, append_assoc, length-append}
+use Rattle.std.proofs.Common.{if◌then◌else◌}
 use Rattle.std.specs.Ordering.{is_eq}
 use Rattle.std.specs.declared.cmp.Ordering.{Ordering}
 use Rattle.std.specs.declared.cmp.Ordering.TheVariants.{Greater, Less, Equal}
@@ -22,7 +24,8 @@ use Rattle.gf_poly.proofs.DescendingLaws.{equal_same}
 use Rattle.gf_text.specs.declared.written.Written.{Written}
 use Rattle.gf_text.specs.declared.written.Written.TheVariants as written
 use Rattle.gf_text.specs.PrintedText.{is_below_zero}
-use Rattle.gf_text.specs.Combining.{raised_by, then_factors, times_factors, signed_fraction, exponents_of, coefficient_of, with_coefficient, term_written, terms_written, sums_of, before_all, IsSumMarked, NoneRemains}
+use Rattle.gf_text.specs.Combining.{raised_by, then_factors, times_factors, signed_fraction, exponents_of, coefficient_of, with_coefficient, term_written}
+use Rattle.gf_text.specs.Combining.{terms_written, sums_of, before_all, IsSumMarked, NoneRemains}
 use Rattle.gf_text.specs.Sets.{AreWritten, AllSumsFit}
 use Rattle.gf_text.specs.WrittenText.{IsKeptMarked, IsWrittenKept, AreWrittenKept}
 use Rattle.gf_text.proofs.PrintedTermsLaws.{AreSmall, factors_from, term_said}
@@ -39,7 +42,8 @@ set_behind : (done : List ℕ) (a b : ℕ) (rest : List ℕ) → slice_set (done
 set_behind [] a b rest = refl
 set_behind (d ∷ done) a b rest = ap (λ l. d ∷ l) (set_behind done a b rest)
 
-raised_once : (done : List ℕ) (e : ℕ) (rest : List ℕ) → e < 2 ^ 31 → raised_by (done ++ 0 ∷ rest) (record { variable = length done; exponent = e }) ≡ Ok (done ++ e ∷ rest)
+raised_once : (done : List ℕ) (e : ℕ) (rest : List ℕ) → e < 2 ^ 31 → raised_by (done ++ 0 ∷ rest) (record { variable = length done; exponent = e }) ≡
+    Ok (done ++ e ∷ rest)
 raised_once done e rest small =
     let here = index_behind done 0 rest in
     let within : nat_lt (slice_index (done ++ 0 ∷ rest) (length done) + e) (2 ^ 31) ≡ true = grind (arith, nat_tests) in
@@ -47,10 +51,14 @@ raised_once done e rest small =
     rw within (ap (λ k. Ok k) (ap (slice_set (done ++ 0 ∷ rest) (length done)) sum ∙ set_behind done 0 e rest))
 
 -- the powers of a monomial, one after another, give it
-factors_by : (done es : List ℕ) (e : ℕ) (v : Bool) → (v ≡ true → e ≡ 0) → e < 2 ^ 31 → times_factors (done ++ e ∷ replicate (length es) 0) (factors_from (length done + 1) es) ≡ Ok (done ++ e ∷ es)
-    → times_factors (done ++ 0 ∷ replicate (length es) 0) (if v then factors_from (length done + 1) es else record { variable = length done; exponent = e } ∷ factors_from (length done + 1) es) ≡ Ok (done ++ e ∷ es)
-factors_by done es e true none small later = ap (λ (k : ℕ). times_factors (done ++ k ∷ replicate (length es) 0) (factors_from (length done + 1) es)) (sym (none refl)) ∙ later
-factors_by done es e false none small later = ap (λ r. then_factors r (λ y. times_factors y (factors_from (length done + 1) es))) (raised_once done e (replicate (length es) 0) small) ∙ later
+factors_by : (done es : List ℕ) (e : ℕ) (v : Bool) → (v ≡ true → e ≡ 0) → e < 2 ^ 31 →
+    times_factors (done ++ e ∷ replicate (length es) 0) (factors_from (length done + 1) es) ≡ Ok (done ++ e ∷ es)
+    → times_factors (done ++ 0 ∷ replicate (length es) 0) (if v then factors_from (length done + 1) es else record { variable = length done; exponent = e } ∷
+    factors_from (length done + 1) es) ≡ Ok (done ++ e ∷ es)
+factors_by done es e true none small later = ap (λ (k : ℕ). times_factors (done ++ k ∷ replicate (length es) 0) (factors_from (length done + 1) es))
+    (sym (none refl)) ∙ later
+factors_by done es e false none small later = ap (λ r. then_factors r (λ y. times_factors y (factors_from (length done + 1) es)))
+    (raised_once done e (replicate (length es) 0) small) ∙ later
 
 zero_by : (e : ℕ) → (e == 0) ≡ true → e ≡ 0
 zero_by e h = elim (eqb_tells e 0) [ inl k ↦ k.1 | inr k ↦ let no = k.0 in cc ]
@@ -98,7 +106,8 @@ others_listed : (n : ℕ) (head : Exponents) (f : Terms) → AreFine n f → ter
 others_listed n head [] fine = refl
 others_listed n head (t ∷ f) fine = by (bytes_eq t.mono head) (others_listed n head f fine.1)
   where
-    by : (v : Bool) → terms_written n (others_said head f) ≡ Ok (others head f) → terms_written n (if v then others_said head f else term_said t.coef t.mono ∷ others_said head f) ≡ Ok (if v then others head f else t ∷ others head f)
+    by : (v : Bool) → terms_written n (others_said head f) ≡ Ok (others head f) →
+        terms_written n (if v then others_said head f else term_said t.coef t.mono ∷ others_said head f) ≡ Ok (if v then others head f else t ∷ others head f)
     by true later = later
     by false later = ap (λ r. before_all r (terms_written n (others_said head f))) (term_again n t fine.0) ∙ ap (before_all (Ok t)) later
 
@@ -108,11 +117,13 @@ terms_listed n (written.Nonzero m) kept =
     let all = all_fine n m.poly kept.variables kept.range in
     let head = head_term m in
     let fine = fine_at n m.poly head all (head_is n m kept) in
-    ap (λ r. before_all r (terms_written n (others_said m.head m.poly))) (term_again n head fine) ∙ ap (before_all (Ok head)) (others_listed n m.head m.poly all)
+    ap (λ r. before_all r (terms_written n (others_said m.head m.poly))) (term_again n head fine) ∙ ap (before_all (Ok head))
+    (others_listed n m.head m.poly all)
 
 pub sums_listed : (n : ℕ) (ws : List Written) → AreWrittenKept n ws → sums_of n (all_said ws) ≡ Ok (all_listed n ws)
 sums_listed n [] kept = refl
-sums_listed n (w ∷ ws) kept = ap (λ r. before_all r (sums_of n (all_said ws))) (terms_listed n w kept.0) ∙ ap (before_all (Ok (listed n w))) (sums_listed n ws kept.1)
+sums_listed n (w ∷ ws) kept = ap (λ r. before_all r (sums_of n (all_said ws))) (terms_listed n w kept.0) ∙ ap (before_all (Ok (listed n w)))
+    (sums_listed n ws kept.1)
 
 -- ---- sums of like terms
 
@@ -128,7 +139,8 @@ like-fewer : (x head : Exponents) (f : Terms) → length (like x (others head f)
 like-fewer x head [] = omega arith
 like-fewer x head (t ∷ f) = by (bytes_eq t.mono head) (like-fewer x head f)
   where
-    by : (v : Bool) → length (like x (others head f)) ≤ length (like x f) → length (like x (if v then others head f else t ∷ others head f)) ≤ length (cond (is_eq (deglex x t.mono)) (t ∷ like x f) (like x f))
+    by : (v : Bool) → length (like x (others head f)) ≤ length (like x f) →
+        length (like x (if v then others head f else t ∷ others head f)) ≤ length (cond (is_eq (deglex x t.mono)) (t ∷ like x f) (like x f))
     by true later = with_one (is_eq (deglex x t.mono)) t (like x (others head f)) (like x f) later
     by false later = both_with_one (is_eq (deglex x t.mono)) t (like x (others head f)) (like x f) later
 
@@ -140,12 +152,14 @@ like-none : (head : Exponents) (f : Terms) → length (like head (others head f)
 like-none head [] = refl
 like-none head (t ∷ f) = by (bytes_eq t.mono head) refl (like-none head f)
   where
-    at : (o : Ordering) → deglex head t.mono ≡ o → (deglex head t.mono ≡ Equal → ⊥) → length (like head (others head f)) ≡ 0 → length (cond (is_eq o) (t ∷ like head (others head f)) (like head (others head f))) ≡ 0
+    at : (o : Ordering) → deglex head t.mono ≡ o → (deglex head t.mono ≡ Equal → ⊥) → length (like head (others head f)) ≡ 0 →
+        length (cond (is_eq o) (t ∷ like head (others head f)) (like head (others head f))) ≡ 0
     at Less is differs later = later
     at Greater is differs later = later
     at Equal is differs later = absurd (differs is)
 
-    by : (v : Bool) → bytes_eq t.mono head ≡ v → length (like head (others head f)) ≡ 0 → length (like head (if v then others head f else t ∷ others head f)) ≡ 0
+    by : (v : Bool) → bytes_eq t.mono head ≡ v → length (like head (others head f)) ≡ 0 →
+        length (like head (if v then others head f else t ∷ others head f)) ≡ 0
     by true is later = later
     by false is later = at (deglex head t.mono) refl (apart_mono head t.mono is) later
 
@@ -159,7 +173,8 @@ listed-short x t f descending = by (deglex x t.mono) refl
     by : (o : Ordering) → deglex x t.mono ≡ o → length (cond (is_eq o) (t ∷ like x (others t.mono f)) (like x (others t.mono f))) ≤ 1
     by Less is = few
     by Greater is = few
-    by Equal is = let none : length (like x (others t.mono f)) ≡ 0 = ap (λ y. length (like y (others t.mono f))) (equal_same x t.mono is) ∙ like-none t.mono f in omega arith
+    by Equal is = let none : length (like x (others t.mono f)) ≡ 0 =
+        ap (λ y. length (like y (others t.mono f))) (equal_same x t.mono is) ∙ like-none t.mono f in omega arith
 
 one_fits : (t : Term) → LikeSumsFit (t ∷ [])
 one_fits t = record { at = λ x. short_fits (like x (t ∷ [])) (by (is_eq (deglex x t.mono))) }
@@ -170,7 +185,9 @@ one_fits t = record { at = λ x. short_fits (like x (t ∷ [])) (by (is_eq (degl
 
 listed_fits : (n : ℕ) (w : Written) → IsWrittenKept n w → LikeSumsFit (listed n w)
 listed_fits n written.Zero kept = one_fits (record { coef = zero_ℚ; mono = replicate n 0 })
-listed_fits n (written.Nonzero m) kept = record { at = λ x. short_fits (like x (head_term m ∷ others m.head m.poly)) (listed-short x (head_term m) m.poly kept.marked.descending) }
+listed_fits n (written.Nonzero m) kept = record {
+  at = λ x. short_fits (like x (head_term m ∷ others m.head m.poly)) (listed-short x (head_term m) m.poly kept.marked.descending);
+}
 
 pub listed_fit : (n : ℕ) (ws : List Written) → AreWrittenKept n ws → AllSumsFit (all_listed n ws)
 listed_fit n [] kept = tt
@@ -188,7 +205,8 @@ with_term true a c k = sym (+ℚ_assoc a c k)
 with_term false a c k = zero-+ℚ (zero_ℚ +ℚ k)
 
 -- the coefficient at the marked monomial, and of the others
-taken_apart : (n : ℕ) (head : Exponents) (f : Terms) (e : Exponents) → length head ≡ n → HasVariables n f → coefficient f e ≡ part (same e head) (coefficient f head) +ℚ coefficient (others head f) e
+taken_apart : (n : ℕ) (head : Exponents) (f : Terms) (e : Exponents) → length head ≡ n → HasVariables n f →
+    coefficient f e ≡ part (same e head) (coefficient f head) +ℚ coefficient (others head f) e
 unfolding part
 taken_apart n head [] e same_length variables = by (same e head)
   where
@@ -200,15 +218,18 @@ taken_apart n head (t ∷ f) e same_length variables = by (bytes_eq t.mono head)
     c : Fraction
     c = coefficient f head
 
-    at_head : t.mono ≡ head → coefficient f e ≡ part (same e head) (coefficient f head) +ℚ coefficient (others head f) e → coefficient (t ∷ f) e ≡ part (same e head) (coefficient (t ∷ f) head) +ℚ coefficient (others head f) e
+    at_head : t.mono ≡ head → coefficient f e ≡ part (same e head) (coefficient f head) +ℚ coefficient (others head f) e →
+        coefficient (t ∷ f) e ≡ part (same e head) (coefficient (t ∷ f) head) +ℚ coefficient (others head f) e
     at_head is later =
-        let here : coefficient (t ∷ f) head ≡ t.coef +ℚ coefficient f head = ap (λ x. part (same head x) t.coef +ℚ coefficient f head) is ∙ ap (λ b. part b t.coef +ℚ coefficient f head) (same-refl head) in
+        let here : coefficient (t ∷ f) head ≡ t.coef +ℚ coefficient f head =
+        ap (λ x. part (same head x) t.coef +ℚ coefficient f head) is ∙ ap (λ b. part b t.coef +ℚ coefficient f head) (same-refl head) in
         ap (λ x. part (same e x) t.coef +ℚ coefficient f e) is
         ∙ ap (λ k. part (same e head) t.coef +ℚ k) later
         ∙ with_term (same e head) t.coef (coefficient f head) (coefficient (others head f) e)
         ∙ ap (λ k. part (same e head) k +ℚ coefficient (others head f) e) (sym here)
 
-    elsewhere : (t.mono ≡ head → ⊥) → coefficient f e ≡ part (same e head) (coefficient f head) +ℚ coefficient (others head f) e → coefficient (t ∷ f) e ≡ part (same e head) (coefficient (t ∷ f) head) +ℚ coefficient (t ∷ others head f) e
+    elsewhere : (t.mono ≡ head → ⊥) → coefficient f e ≡ part (same e head) (coefficient f head) +ℚ coefficient (others head f) e →
+        coefficient (t ∷ f) e ≡ part (same e head) (coefficient (t ∷ f) head) +ℚ coefficient (t ∷ others head f) e
     elsewhere differs later =
         let other : same head t.mono ≡ false = apart head t.mono (same_length ∙ sym variables.0) (λ is. differs (sym is)) in
         let here : coefficient (t ∷ f) head ≡ coefficient f head = ap (λ b. part b t.coef +ℚ coefficient f head) other ∙ zero-+ℚ (coefficient f head) in

@@ -1,6 +1,9 @@
 -- Terms and sums of terms, one after another.
--- To cite: terms_on, terms_end, terms_fit; sums_push_ok, sums_push_refused, sums_push_after; sums_append_ok, sums_append_refused, sums_append_after; found_place; not_yet, none_left, first_found. The rest are steps.
-use Rattle.std.proofs.Common.{◌≡◌, ◌≢◌, ◌<◌, ◌≤◌, ℕ, zero, suc, ◌+◌, ◌^◌, Bool, true, false, nat_lt, slice_index, slice_set, replicate, IfSome, inl, inr, arith, if◌then◌else◌, List, [], ◌∷◌, ◌++◌, length, drop, get_or, Result, Ok, Err, Option, Some, None, MatchOption, slice_get, refl, sym, ap, subst, ◌∙◌, add-one, append_assoc, append-nil}
+-- To cite: terms_on, terms_end, terms_fit; sums_push_ok, sums_push_refused, sums_push_after; sums_append_ok, sums_append_refused, sums_append_after;
+-- found_place; not_yet, none_left, first_found. The rest are steps.
+use Rattle.std.proofs.Common.{◌≡◌, ◌≢◌, ◌<◌, ◌≤◌, ℕ, zero, suc, ◌+◌, ◌^◌, Bool, true, false, nat_lt, slice_index, slice_set, replicate, IfSome, inl, inr, arith}
+use Rattle.std.proofs.Common.{if◌then◌else◌, List, [], ◌∷◌, ◌++◌, length, drop, get_or, Result, Ok, Err, Option, Some, None, MatchOption, slice_get, refl, sym}
+use Rattle.std.proofs.Common.{ap, subst, ◌∙◌, add-one, append_assoc, append-nil}
 use Rattle.std.proofs.Math.Seq.{drop-cons}
 use Rattle.std.proofs.lemmas.List.{drop_all}
 use Rattle.std.proofs.lemmas.Option.{slice_get-get_or, slice_get_past}
@@ -23,7 +26,8 @@ use Rattle.gf_poly.proofs.CoefficientLaws.{apart, coefficient-contains}
 use Rattle.gf_poly.proofs.DescendingLaws.{equal_same, greater_trans}
 use Rattle.gf_text.specs.declared.tree.Factor.{Factor}
 use Rattle.gf_text.specs.declared.tree.WrittenTerm.{WrittenTerm}
-use Rattle.gf_text.specs.Combining.{raised_by, then_factors, times_factors, exponents_of, coefficient_of, term_written, terms_written, sums_of, SumsHaveVariables, before_all, with_coefficient, IsPlaceOf, IsFirstRemainingAt, FindsFirst, IsSumOf}
+use Rattle.gf_text.specs.Combining.{raised_by, then_factors, times_factors, exponents_of, coefficient_of, term_written, terms_written, sums_of}
+use Rattle.gf_text.specs.Combining.{SumsHaveVariables, before_all, with_coefficient, IsPlaceOf, IsFirstRemainingAt, FindsFirst, IsSumOf}
 use Rattle.gf_poly.proofs.CollectLaws.{alike_itself}
 
 -- ---- powers, one after another
@@ -43,7 +47,8 @@ pub onto_nothing : {A : Type 0} (r : Result (List A) ExponentOverflow) → onto 
 onto_nothing (Ok ys) = refl
 onto_nothing (Err o) = refl
 
-terms_at : (n : ℕ) (us : List WrittenTerm) (i : ℕ) (d : WrittenTerm) → i < length us → terms_written n (drop i us) ≡ before_all (term_written n (get_or us i d)) (terms_written n (drop (i + 1) us))
+terms_at : (n : ℕ) (us : List WrittenTerm) (i : ℕ) (d : WrittenTerm) → i < length us →
+    terms_written n (drop i us) ≡ before_all (term_written n (get_or us i d)) (terms_written n (drop (i + 1) us))
 terms_at n us i d h = let front : drop i us ≡ get_or us i d ∷ drop (i + 1) us = rw add-one (drop-cons us i d h) in ap (terms_written n) front
 
 pub terms_on : (n : ℕ) (out : Terms) (t : Term) (us : List WrittenTerm) (i : ℕ) (d : WrittenTerm) → i < length us → term_written n (get_or us i d) ≡ Ok t
@@ -65,7 +70,8 @@ said_term n u x e = ap (with_coefficient (coefficient_of u)) e
 abbrev pub taken_none : (n : ℕ) (us : List WrittenTerm) → Taken n us 0
 taken_none n us = record { terms = []; all = onto_nothing (terms_written n us) }
 
-abbrev pub taken_on : (n : ℕ) (us : List WrittenTerm) (i : ℕ) (d : WrittenTerm) (x : Exponents) → i < length us → exponents_of n (get_or us i d) ≡ Ok x → Taken n us i → Taken n us (i + 1)
+abbrev pub taken_on : (n : ℕ) (us : List WrittenTerm) (i : ℕ) (d : WrittenTerm) (x : Exponents) → i < length us → exponents_of n (get_or us i d) ≡ Ok x →
+    Taken n us i → Taken n us (i + 1)
 taken_on n us i d x h e t =
     let next : Term = record { coef = coefficient_of (get_or us i d); mono = x } in
     record { terms = t.terms ++ next ∷ []; all = sym (terms_on n t.terms next us i d h (said_term n (get_or us i d) x e)) ∙ t.all }
@@ -101,7 +107,8 @@ rises f e descending i j d up within = elim (cases_lt i j) [
 ]
 
 -- no monomial is e
-no_coefficient : (f : Terms) (e : Exponents) → HasVariables (length e) f → ((k : ℕ) (d : Term) → k < length f → deglex e (get_or f k d).mono ≢ Equal) → coefficient f e ≡ zero_ℚ
+no_coefficient : (f : Terms) (e : Exponents) → HasVariables (length e) f → ((k : ℕ) (d : Term) → k < length f → deglex e (get_or f k d).mono ≢ Equal) →
+    coefficient f e ≡ zero_ℚ
 no_coefficient [] e h other = refl
 no_coefficient (t ∷ f) e h other =
     let differs : e ≡ t.mono → ⊥ = λ is. other 0 t (omega arith) (subst (λ z. deglex e z ≡ Equal) is (alike_itself e)) in
@@ -126,11 +133,13 @@ variables_at_place n (t ∷ f) zero d h k = h.0
 variables_at_place n (t ∷ f) (suc i) d h k = variables_at_place n f i d h.1 (omega arith)
 
 -- the term at a place where the monomial is e
-is_place : (f : Terms) (e : Exponents) (i : ℕ) (d : Term) → i < length f → IsDescending f → HasVariables (length e) f → deglex e (get_or f i d).mono ≡ Equal → IsPlaceOf f e i
+is_place : (f : Terms) (e : Exponents) (i : ℕ) (d : Term) → i < length f → IsDescending f → HasVariables (length e) f → deglex e (get_or f i d).mono ≡ Equal →
+    IsPlaceOf f e i
 is_place f e i d within descending variables is =
     let t = get_or f i d in
     let at : e ≡ t.mono = equal_same e t.mono is in
-    let here : coefficient f t.mono ≡ t.coef = coefficient-contains (length e) f t variables descending (i, within, same_at f i t d within) (variables_at_place (length e) f i d variables within) in
+    let here : coefficient f t.mono ≡ t.coef = coefficient-contains (length e) f t variables descending (i, within, same_at f i t d within)
+    (variables_at_place (length e) f i d variables within) in
     record {
       term = t;
       stands = slice_get-get_or f i d within;
@@ -145,7 +154,8 @@ never_over : (o : Ordering) → ((o ≡ Greater) × (o ≡ Equal)) → ⊥
 never_over o h = let a = h.0 in let b = h.1 in cc
 
 -- what a search finds
-pub found_place : (f : Terms) (e : Exponents) (r : Result ℕ ℕ) → IsDescending f → HasVariables (length e) f → IsSearchInRange r (length f) → IsBinarySearchResult (λ (t : Term). deglex e t.mono) f r
+pub found_place : (f : Terms) (e : Exponents) (r : Result ℕ ℕ) → IsDescending f → HasVariables (length e) f → IsSearchInRange r (length f) →
+    IsBinarySearchResult (λ (t : Term). deglex e t.mono) f r
     → MatchOption (result_ok r) (coefficient f e ≡ zero_ℚ) (IsPlaceOf f e)
 found_place [] e (Ok i) descending variables within found = absurd (omega arith)
 found_place (t ∷ f) e (Ok i) descending variables within found = is_place (t ∷ f) e i t within descending variables (found t)
@@ -177,7 +187,8 @@ stands_behind [] others t = refl
 stands_behind (s ∷ f) others t = stands_behind f others t
 
 -- the same coefficients in f
-same_zero : (f g : Terms) (k : ℕ) → SamePolynomial g f → IfSome (slice_get f k) (λ t. coefficient g t.mono ≡ zero_ℚ) → IfSome (slice_get f k) (λ t. coefficient f t.mono ≡ zero_ℚ)
+same_zero : (f g : Terms) (k : ℕ) → SamePolynomial g f → IfSome (slice_get f k) (λ t. coefficient g t.mono ≡ zero_ℚ) →
+    IfSome (slice_get f k) (λ t. coefficient f t.mono ≡ zero_ℚ)
 same_zero f g k same h = by (slice_get f k) h
   where
     by : (o : Option Term) → IfSome o (λ t. coefficient g t.mono ≡ zero_ℚ) → IfSome o (λ t. coefficient f t.mono ≡ zero_ℚ)
@@ -192,13 +203,15 @@ pub record Passed (n : ℕ) (us : List WrittenTerm) (g : Terms) (i : ℕ) : Type
 pub passed_none : (n : ℕ) (us : List WrittenTerm) (g : Terms) → Passed n us g 0
 passed_none n us g = record { taken = taken_none n us; vanish = tt }
 
-pub passed_on : (n : ℕ) (us : List WrittenTerm) (g : Terms) (i : ℕ) (d : WrittenTerm) (x : Exponents) → i < length us → exponents_of n (get_or us i d) ≡ Ok x → coefficient g x ≡ zero_ℚ → Passed n us g i → Passed n us g (i + 1)
+pub passed_on : (n : ℕ) (us : List WrittenTerm) (g : Terms) (i : ℕ) (d : WrittenTerm) (x : Exponents) → i < length us → exponents_of n (get_or us i d) ≡ Ok x →
+    coefficient g x ≡ zero_ℚ → Passed n us g i → Passed n us g (i + 1)
 passed_on n us g i d x h e none p = record {
   taken = taken_on n us i d x h e p.taken;
   vanish = vanish_push g p.taken.terms (record { coef = coefficient_of (get_or us i d); mono = x }) p.vanish none;
 }
 
-found_by : (g f F : Terms) (t : Term) (place : ℕ) (r : Result Terms ExponentOverflow) → onto f (before_all (Ok t) r) ≡ Ok F → SamePolynomial g F → Vanish g f → IsPlaceOf g t.mono place → IsFirstRemainingAt F g place
+found_by : (g f F : Terms) (t : Term) (place : ℕ) (r : Result Terms ExponentOverflow) → onto f (before_all (Ok t) r) ≡ Ok F → SamePolynomial g F → Vanish g f →
+    IsPlaceOf g t.mono place → IsFirstRemainingAt F g place
 found_by g f F t place (Err o) e same vanish found = cc
 found_by g f F t place (Ok others) e same vanish found =
     let whole : f ++ t ∷ others ≡ F = cc in
@@ -211,11 +224,13 @@ found_by g f F t place (Ok others) e same vanish found =
         stands = subst (λ l. slice_get l (length f) ≡ Some t) whole (stands_behind f others t);
         monomial = sym found.monomial;
         remains = λ zero. found.nonzero (same t.mono ∙ ap (coefficient F) (sym found.monomial) ∙ zero);
-        before = λ k below. same_zero F g k same (subst (λ l. IfSome (slice_get l k) (λ s. coefficient g s.mono ≡ zero_ℚ)) whole (vanish_at g f (t ∷ others) k vanish below));
+        before = λ k below. same_zero F g k same (subst (λ l. IfSome (slice_get l k) (λ s. coefficient g s.mono ≡ zero_ℚ)) whole
+            (vanish_at g f (t ∷ others) k vanish below));
       };
     }
 
-pub passed_found : (n : ℕ) (us : List WrittenTerm) (g : Terms) (i : ℕ) (d : WrittenTerm) (x : Exponents) (place : ℕ) → i < length us → exponents_of n (get_or us i d) ≡ Ok x → IsSumOf n us g → IsPlaceOf g x place → Passed n us g i → FindsFirst n us g (Some place)
+pub passed_found : (n : ℕ) (us : List WrittenTerm) (g : Terms) (i : ℕ) (d : WrittenTerm) (x : Exponents) (place : ℕ) → i < length us →
+    exponents_of n (get_or us i d) ≡ Ok x → IsSumOf n us g → IsPlaceOf g x place → Passed n us g i → FindsFirst n us g (Some place)
 passed_found n us g i d x place h e sum found p = λ F all.
     let next : Term = record { coef = coefficient_of (get_or us i d); mono = x } in
     let rest = terms_written n (drop (i + 1) us) in
@@ -246,15 +261,18 @@ within_by (s ∷ f) (suc i) t e = let h = within_by f i t e in omega arith
 raised_length : (x y : Exponents) (f : Factor) → raised_by x f ≡ Ok y → length y ≡ length x
 raised_length x y f e = by (nat_lt (slice_index x f.variable + f.exponent) (2 ^ 31)) (record { left = slice_index x f.variable; right = f.exponent }) e
   where
-    by : (b : Bool) (o : ExponentOverflow) → (if b then Ok (slice_set x f.variable (slice_index x f.variable + f.exponent)) else Err o) ≡ Ok y → length y ≡ length x
-    by true o h = let is : slice_set x f.variable (slice_index x f.variable + f.exponent) ≡ y = cc in ap length (sym is) ∙ length-set x f.variable (slice_index x f.variable + f.exponent)
+    by : (b : Bool) (o : ExponentOverflow) → (if b then Ok (slice_set x f.variable (slice_index x f.variable + f.exponent)) else Err o) ≡ Ok y →
+        length y ≡ length x
+    by true o h = let is : slice_set x f.variable (slice_index x f.variable + f.exponent) ≡ y =
+        cc in ap length (sym is) ∙ length-set x f.variable (slice_index x f.variable + f.exponent)
     by false o h = cc
 
 times_length : (fs : List Factor) (x y : Exponents) → times_factors x fs ≡ Ok y → length y ≡ length x
 times_length [] x y e = let is : x ≡ y = cc in ap length (sym is)
 times_length (f ∷ fs) x y e = by (λ z h. times_length fs z y h) (raised_by x f) refl e
   where
-    by : ((z : Exponents) → times_factors z fs ≡ Ok y → length y ≡ length z) → (r : Result Exponents ExponentOverflow) → raised_by x f ≡ r → then_factors r (λ z. times_factors z fs) ≡ Ok y → length y ≡ length x
+    by : ((z : Exponents) → times_factors z fs ≡ Ok y → length y ≡ length z) → (r : Result Exponents ExponentOverflow) → raised_by x f ≡ r →
+        then_factors r (λ z. times_factors z fs) ≡ Ok y → length y ≡ length x
     by later (Ok z) is h = later z h ∙ raised_length x z f is
     by later (Err o) is h = cc
 
@@ -274,7 +292,8 @@ pub terms_variables : (n : ℕ) (us : List WrittenTerm) (ts : Terms) → terms_w
 terms_variables n [] ts e = let none : [] ≡ ts = cc in subst (HasVariables n) none tt
 terms_variables n (u ∷ us) ts e = by (term_written n u) (terms_written n us) refl refl (terms_variables n us) e
   where
-    by : (r : Result Term ExponentOverflow) (rs : Result Terms ExponentOverflow) → term_written n u ≡ r → terms_written n us ≡ rs → ((xs : Terms) → terms_written n us ≡ Ok xs → HasVariables n xs) → before_all r rs ≡ Ok ts → HasVariables n ts
+    by : (r : Result Term ExponentOverflow) (rs : Result Terms ExponentOverflow) → term_written n u ≡ r → terms_written n us ≡ rs →
+        ((xs : Terms) → terms_written n us ≡ Ok xs → HasVariables n xs) → before_all r rs ≡ Ok ts → HasVariables n ts
     by (Ok t) (Ok xs) is are later h = let same : t ∷ xs ≡ ts = cc in subst (HasVariables n) same (term_length n u t is, later xs are)
     by (Ok t) (Err o) is are later h = cc
     by (Err o) rs is are later h = cc
@@ -295,19 +314,23 @@ sums_push n [] us = by (terms_written n us)
     by (Err o) = refl
 sums_push n (q ∷ qs) us = ap (before_all (terms_written n q)) (sums_push n qs us) ∙ by (terms_written n q) (sums_of n qs) (terms_written n us)
   where
-    by : (a : Result Terms ExponentOverflow) (rs : Result (List Terms) ExponentOverflow) (r : Result Terms ExponentOverflow) → before_all a (behind_all rs r) ≡ behind_all (before_all a rs) r
+    by : (a : Result Terms ExponentOverflow) (rs : Result (List Terms) ExponentOverflow) (r : Result Terms ExponentOverflow) →
+        before_all a (behind_all rs r) ≡ behind_all (before_all a rs) r
     by (Ok t) (Ok fs) (Ok f) = refl
     by (Ok t) (Ok fs) (Err o) = refl
     by (Ok t) (Err x) r = refl
     by (Err x) rs r = refl
 
-pub sums_push_ok : (n : ℕ) (qs : List (List WrittenTerm)) (us : List WrittenTerm) (fs : List Terms) (f : Terms) → sums_of n qs ≡ Ok fs → terms_written n us ≡ Ok f → sums_of n (qs ++ us ∷ []) ≡ Ok (fs ++ f ∷ [])
+pub sums_push_ok : (n : ℕ) (qs : List (List WrittenTerm)) (us : List WrittenTerm) (fs : List Terms) (f : Terms) → sums_of n qs ≡ Ok fs →
+    terms_written n us ≡ Ok f → sums_of n (qs ++ us ∷ []) ≡ Ok (fs ++ f ∷ [])
 sums_push_ok n qs us fs f h k = sums_push n qs us ∙ ap (λ r. behind_all r (terms_written n us)) h ∙ ap (behind_all (Ok fs)) k
 
-pub sums_push_refused : (n : ℕ) (qs : List (List WrittenTerm)) (us : List WrittenTerm) (fs : List Terms) (o : ExponentOverflow) → sums_of n qs ≡ Ok fs → terms_written n us ≡ Err o → sums_of n (qs ++ us ∷ []) ≡ Err o
+pub sums_push_refused : (n : ℕ) (qs : List (List WrittenTerm)) (us : List WrittenTerm) (fs : List Terms) (o : ExponentOverflow) → sums_of n qs ≡ Ok fs →
+    terms_written n us ≡ Err o → sums_of n (qs ++ us ∷ []) ≡ Err o
 sums_push_refused n qs us fs o h k = sums_push n qs us ∙ ap (λ r. behind_all r (terms_written n us)) h ∙ ap (behind_all (Ok fs)) k
 
-pub sums_push_after : (n : ℕ) (qs : List (List WrittenTerm)) (us : List WrittenTerm) (o : ExponentOverflow) → sums_of n qs ≡ Err o → sums_of n (qs ++ us ∷ []) ≡ Err o
+pub sums_push_after : (n : ℕ) (qs : List (List WrittenTerm)) (us : List WrittenTerm) (o : ExponentOverflow) → sums_of n qs ≡ Err o →
+    sums_of n (qs ++ us ∷ []) ≡ Err o
 sums_push_after n qs us o h = sums_push n qs us ∙ ap (λ r. behind_all r (terms_written n us)) h
 
 -- the sums of some polynomials and of others
@@ -330,10 +353,12 @@ sums_append n (q ∷ qs) ps = ap (before_all (terms_written n q)) (sums_append n
     by (Ok t) (Err x) ts = refl
     by (Err x) rs ts = refl
 
-pub sums_append_ok : (n : ℕ) (qs ps : List (List WrittenTerm)) (fs gs : List Terms) → sums_of n qs ≡ Ok fs → sums_of n ps ≡ Ok gs → sums_of n (qs ++ ps) ≡ Ok (fs ++ gs)
+pub sums_append_ok : (n : ℕ) (qs ps : List (List WrittenTerm)) (fs gs : List Terms) → sums_of n qs ≡ Ok fs → sums_of n ps ≡ Ok gs →
+    sums_of n (qs ++ ps) ≡ Ok (fs ++ gs)
 sums_append_ok n qs ps fs gs h k = sums_append n qs ps ∙ ap (λ r. both_all r (sums_of n ps)) h ∙ ap (both_all (Ok fs)) k
 
-pub sums_append_refused : (n : ℕ) (qs ps : List (List WrittenTerm)) (fs : List Terms) (o : ExponentOverflow) → sums_of n qs ≡ Ok fs → sums_of n ps ≡ Err o → sums_of n (qs ++ ps) ≡ Err o
+pub sums_append_refused : (n : ℕ) (qs ps : List (List WrittenTerm)) (fs : List Terms) (o : ExponentOverflow) → sums_of n qs ≡ Ok fs → sums_of n ps ≡ Err o →
+    sums_of n (qs ++ ps) ≡ Err o
 sums_append_refused n qs ps fs o h k = sums_append n qs ps ∙ ap (λ r. both_all r (sums_of n ps)) h ∙ ap (both_all (Ok fs)) k
 
 pub sums_append_after : (n : ℕ) (qs ps : List (List WrittenTerm)) (o : ExponentOverflow) → sums_of n qs ≡ Err o → sums_of n (qs ++ ps) ≡ Err o
@@ -343,7 +368,8 @@ pub sums_variables : (n : ℕ) (qs : List (List WrittenTerm)) (fs : List Terms) 
 sums_variables n [] fs e = let none : [] ≡ fs = cc in subst (SumsHaveVariables n) none tt
 sums_variables n (q ∷ qs) fs e = by (terms_written n q) (sums_of n qs) refl refl (sums_variables n qs) e
   where
-    by : (r : Result Terms ExponentOverflow) (rs : Result (List Terms) ExponentOverflow) → terms_written n q ≡ r → sums_of n qs ≡ rs → ((xs : List Terms) → sums_of n qs ≡ Ok xs → SumsHaveVariables n xs) → before_all r rs ≡ Ok fs → SumsHaveVariables n fs
+    by : (r : Result Terms ExponentOverflow) (rs : Result (List Terms) ExponentOverflow) → terms_written n q ≡ r → sums_of n qs ≡ rs →
+        ((xs : List Terms) → sums_of n qs ≡ Ok xs → SumsHaveVariables n xs) → before_all r rs ≡ Ok fs → SumsHaveVariables n fs
     by (Ok t) (Ok xs) is are later h = let same : t ∷ xs ≡ fs = cc in subst (SumsHaveVariables n) same (terms_variables n q t is, later xs are)
     by (Ok t) (Err o) is are later h = cc
     by (Err o) rs is are later h = cc

@@ -21,8 +21,10 @@ IsOneKind kind = (ts : List (List ℕ)) (t : List ℕ) (c d : Cause) → kind ts
 
 module _ {A : Type 0} where
   -- of two tokens after which nothing goes on, where it did before, neither stands before the other
-  stands_once : (grammar : List (List ℕ) → A → Type 0) (kind : List (List ℕ) → List ℕ → Cause → Type 0) → IsOneKind kind → (f g : List Lexeme) (x y : Lexeme) (b e : List Lexeme) (c d : Cause)
-      → f ++ x ∷ b ≡ g ++ y ∷ e → GoesOnToText grammar (texts f) → GoesOnToText grammar (texts g) → (GoesOnToText grammar (texts f ++ x.text ∷ []) → ⊥) → (GoesOnToText grammar (texts g ++ y.text ∷ []) → ⊥)
+  stands_once : (grammar : List (List ℕ) → A → Type 0) (kind : List (List ℕ) → List ℕ → Cause → Type 0) → IsOneKind kind →
+      (f g : List Lexeme) (x y : Lexeme) (b e : List Lexeme) (c d : Cause)
+      → f ++ x ∷ b ≡ g ++ y ∷ e → GoesOnToText grammar (texts f) → GoesOnToText grammar (texts g) → (GoesOnToText grammar (texts f ++ x.text ∷ []) → ⊥) →
+      (GoesOnToText grammar (texts g ++ y.text ∷ []) → ⊥)
       → kind (texts f) x.text c → kind (texts g) y.text d → (x.at ≡ y.at) × (c ≡ d)
   stands_once grammar kind once [] [] x y b e c d whole p q m n k l =
       let same : x ≡ y = cc in
@@ -36,7 +38,8 @@ module _ {A : Type 0} where
   stands_once grammar kind once (w ∷ f) (z ∷ g) x y b e c d whole p q m n k l =
       let same : z ≡ w = cc in
       let tails : f ++ x ∷ b ≡ g ++ y ∷ e = cc in
-      stands_once (λ ts a. grammar (w.text ∷ ts) a) (λ ts t cause. kind (w.text ∷ ts) t cause) (λ ts t i j h u. once (w.text ∷ ts) t i j h u) f g x y b e c d tails p
+      stands_once (λ ts a. grammar (w.text ∷ ts) a) (λ ts t cause. kind (w.text ∷ ts) t cause) (λ ts t i j h u. once (w.text ∷ ts) t i j h u)
+      f g x y b e c d tails p
       (subst (λ (v : Lexeme). GoesOnToText grammar (v.text ∷ texts g)) same q) m
       (subst (λ (v : Lexeme). GoesOnToText grammar (v.text ∷ (texts g ++ y.text ∷ [])) → ⊥) same n) k
       (subst (λ (v : Lexeme). kind (v.text ∷ texts g) y.text d) same l)
@@ -45,8 +48,10 @@ module _ {A : Type 0} where
     -- where all tokens go on, no fault stands at one of them
     never_stands : (place : ℕ) (cause : Cause) → GoesOnToText grammar (texts xs) → StandsAt grammar kind xs place cause → ⊥
     never_stands place cause p h =
-        let all : texts xs ≡ texts h.front ++ (h.token.text ∷ texts h.back) = ap texts h.whole ∙ map-append (λ (x : Lexeme). x.text) h.front (h.token ∷ h.back) in
-        let whole : texts xs ++ p.0 ≡ (texts h.front ++ h.token.text ∷ []) ++ (texts h.back ++ p.0) = ap (λ l. l ++ p.0) all ∙ regroup (texts h.front) h.token.text (texts h.back) p.0 in
+        let all : texts xs ≡ texts h.front ++ (h.token.text ∷ texts h.back) =
+        ap texts h.whole ∙ map-append (λ (x : Lexeme). x.text) h.front (h.token ∷ h.back) in
+        let whole : texts xs ++ p.0 ≡ (texts h.front ++ h.token.text ∷ []) ++ (texts h.back ++ p.0) =
+        ap (λ l. l ++ p.0) all ∙ regroup (texts h.front) h.token.text (texts h.back) p.0 in
         h.never (texts h.back ++ p.0, p.1, subst (λ ts. grammar ts p.1) whole p.2)
       where
         regroup : (a : List (List ℕ)) (t : List ℕ) (b l : List (List ℕ)) → (a ++ t ∷ b) ++ l ≡ (a ++ t ∷ []) ++ (b ++ l)
@@ -70,7 +75,8 @@ module _ {A : Type 0} where
     parted_once p q c d (inl h) (inr k) = absurd (never_stands q d h.2 k)
     parted_once p q c d (inr h) (inl k) = absurd (never_stands p c k.2 h)
     parted_once p q c d (inr h) (inr k) =
-        let same = stands_once grammar kind once h.front k.front h.token k.token h.back k.back c d (sym h.whole ∙ k.whole) h.before k.before h.never k.never h.of_kind k.of_kind in
+        let same = stands_once grammar kind once h.front k.front h.token k.token h.back k.back c d (sym h.whole ∙ k.whole) h.before k.before h.never k.never
+        h.of_kind k.of_kind in
         (sym h.at ∙ same.0 ∙ k.at, same.1)
 
     pub fault_once : (f g : Fault) → IsFault grammar kind xs end f → IsFault grammar kind xs end g → f ≡ g

@@ -18,10 +18,12 @@ kept_push : (n : ℕ) (ms : List MarkedPolynomial) (m : MarkedPolynomial) → Ar
 kept_push n [] m h one = (one, tt)
 kept_push n (k ∷ ms) m h one = (h.0, kept_push n ms m h.1 one)
 
-pub kept_next : (n : ℕ) (ms : List MarkedPolynomial) (i : ℕ) (d : MarkedPolynomial) → i < length ms → AreKept n (take i ms) → IsKeptMarked n (get_or ms i d) → AreKept n (take (i + 1) ms)
+pub kept_next : (n : ℕ) (ms : List MarkedPolynomial) (i : ℕ) (d : MarkedPolynomial) → i < length ms → AreKept n (take i ms) → IsKeptMarked n (get_or ms i d) →
+    AreKept n (take (i + 1) ms)
 kept_next n ms i d h before one = rw (take_more ms i d h) (kept_push n (take i ms) (get_or ms i d) before one)
 
-pub variables_of : (n : ℕ) (ms : List MarkedPolynomial) (i : ℕ) (d : MarkedPolynomial) → HaveVariables n ms → i < length ms → HasVariables n (get_or ms i d).poly
+pub variables_of : (n : ℕ) (ms : List MarkedPolynomial) (i : ℕ) (d : MarkedPolynomial) → HaveVariables n ms → i < length ms →
+    HasVariables n (get_or ms i d).poly
 variables_of n [] i d h k = absurd (omega arith)
 variables_of n (m ∷ ms) zero d h k = h.0
 variables_of n (m ∷ ms) (suc i) d h k = variables_of n ms i d h.1 (omega arith)

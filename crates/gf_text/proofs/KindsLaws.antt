@@ -107,7 +107,8 @@ module _ {S A : Type 0} {step : S → List ℕ → Move S A} {start : S} {gramma
     no_number t (inl none) e digits f = may_not f.0 Unexpected (none f.0 f.1) f.2
     no_number t (inr n) e digits f = n.expected t digits e
 
-    no_word : (ring : List (List ℕ)) → ((t : List ℕ) (v : ℕ) → variable ring t ≡ Some v → is_word t ≡ true) → (t : List ℕ) → NoWords (gate s) ⊎ Words ring (gate s) → gate s t ≡ Some Unexpected → is_word t ≡ true → NameMayFollow ring grammar ts → ⊥
+    no_word : (ring : List (List ℕ)) → ((t : List ℕ) (v : ℕ) → variable ring t ≡ Some v → is_word t ≡ true) → (t : List ℕ) →
+        NoWords (gate s) ⊎ Words ring (gate s) → gate s t ≡ Some Unexpected → is_word t ≡ true → NameMayFollow ring grammar ts → ⊥
     no_word ring named t (inl none) e word f = may_not f.0 Unexpected (none f.0 (named f.0 f.1 f.2)) f.3
     no_word ring named t (inr w) e word f = w.expected t word e
 
@@ -118,7 +119,8 @@ module _ {S A : Type 0} {step : S → List ℕ → Move S A} {start : S} {gramma
       λ m numeral follows. (let small = within n m numeral follows in let above = n.small t digits e in omega arith),
     )
 
-    kind_by : (ring : List (List ℕ)) → ((t : List ℕ) (v : ℕ) → variable ring t ≡ Some v → is_word t ≡ true) → IsGate ring (gate s) → (t : List ℕ) (cause : Cause) → gate s t ≡ Some cause → Reason ring (gate s) t cause → IsTokenKind ring grammar ts t cause
+    kind_by : (ring : List (List ℕ)) → ((t : List ℕ) (v : ℕ) → variable ring t ≡ Some v → is_word t ≡ true) → IsGate ring (gate s) →
+        (t : List ℕ) (cause : Cause) → gate s t ≡ Some cause → Reason ring (gate s) t cause → IsTokenKind ring grammar ts t cause
     kind_by ring named g t Ended e r = r
     kind_by ring named g t Unexpected e r = (no_number t g.numbers e, no_word ring named t g.words e)
     kind_by ring named g t RepeatedName e r = r
@@ -144,4 +146,5 @@ module _ {S A : Type 0} {step : S → List ℕ → Move S A} {start : S} {gramma
   -- where numbers alone are told apart
   pub gate_number_kind : ((s : S) → IsGate [] (gate s)) → ((s : S) (t : List ℕ) (cause : Cause) → step s t ≡ halt cause → IsNumberCause cause)
       → (ts : List (List ℕ)) (s : S) (t : List ℕ) (cause : Cause) → after step start ts ≡ go s → step s t ≡ halt cause → IsNumberKind grammar ts t cause
-  gate_number_kind gates causes ts s t cause reached e = number_kind ts t cause (causes s t cause e) (gate_kind [] (λ u v none. cc) gates ts s t cause reached e)
+  gate_number_kind gates causes ts s t cause reached e =
+      number_kind ts t cause (causes s t cause e) (gate_kind [] (λ u v none. cc) gates ts s t cause reached e)

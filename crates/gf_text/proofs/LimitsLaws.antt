@@ -1,10 +1,12 @@
 -- What a text of a set says is within its limits.
 -- To cite: set_within; factor_at, term_at for a loop. The rest are steps.
-use Rattle.std.proofs.Common.{◌≡◌, ◌<◌, ◌^◌, ◌+◌, ℕ, zero, suc, Bool, true, false, List, [], ◌∷◌, length, get_or, Some, inl, inr, arith, bytes_eq, if◌then◌else◌}
+use Rattle.std.proofs.Common.{◌≡◌, ◌<◌, ◌^◌, ◌+◌, ℕ, zero, suc, Bool, true, false, List, [], ◌∷◌, length, get_or, Some, inl, inr, arith, bytes_eq}
+use Rattle.std.proofs.Common.{if◌then◌else◌}
 use Rattle.std.specs.List.{position_from}
 use Rattle.gf_text.specs.declared.tree.Factor.{Factor}
 use Rattle.gf_text.specs.declared.tree.WrittenTerm.{WrittenTerm}
-use Rattle.gf_text.specs.SetText.{variable, IsFactorText, AreMoreFactors, IsMonomialText, IsRationalText, IsTermText, AreMoreTerms, IsPolynomialText, AreMorePolynomials, IsSetText}
+use Rattle.gf_text.specs.SetText.{variable, IsFactorText, AreMoreFactors, IsMonomialText, IsRationalText, IsTermText, AreMoreTerms, IsPolynomialText}
+use Rattle.gf_text.specs.SetText.{AreMorePolynomials, IsSetText}
 use Rattle.gf_text.specs.Limits.{IsFactorWithin, AreFactorsWithin, IsTermWithin, AreTermsWithin, ArePolynomialsWithin}
 
 -- ---- from the grammar
@@ -14,7 +16,8 @@ position_within : (t : List ℕ) (ns : List (List ℕ)) (i v : ℕ) → position
 position_within t [] i v e = cc
 position_within t (n ∷ ns) i v e = by (bytes_eq n t) (position_within t ns (i + 1) v) e
   where
-    by : (b : Bool) → (position_from (λ n. bytes_eq n t) (i + 1) ns ≡ Some v → v < (i + 1) + length ns) → (if b then Some i else position_from (λ n. bytes_eq n t) (i + 1) ns) ≡ Some v → v < i + suc (length ns)
+    by : (b : Bool) → (position_from (λ n. bytes_eq n t) (i + 1) ns ≡ Some v → v < (i + 1) + length ns) →
+        (if b then Some i else position_from (λ n. bytes_eq n t) (i + 1) ns) ≡ Some v → v < i + suc (length ns)
     by true later h = let same : i ≡ v = cc in omega arith
     by false later h = let k = later h in omega arith
 
@@ -42,7 +45,12 @@ module _ (ring : List (List ℕ)) where
   term_within ts u (inl (one, rest, whole, rational, others)) =
       let h = rational_within one u.numer u.denom rational in
       record { numer = h.0; denom = h.1; nonzero = h.2; factors = factors_within rest u.factors others }
-  term_within ts u (inr (p, q, monomial)) = record { numer = omega arith; denom = omega arith; nonzero = omega arith; factors = monomial_within ts u.factors monomial }
+  term_within ts u (inr (p, q, monomial)) = record {
+    numer = omega arith;
+    denom = omega arith;
+    nonzero = omega arith;
+    factors = monomial_within ts u.factors monomial;
+  }
 
   terms_within : (ts : List (List ℕ)) (us : List WrittenTerm) → AreMoreTerms ring ts us → AreTermsWithin (length ring) us
   terms_within ts [] h = tt

@@ -1,6 +1,7 @@
 -- The machine of lists reads exactly what the grammar of lists says, where that of the items does so.
 -- To cite: list_machine, list_gate, list_causes. The rest are steps.
-use Rattle.std.proofs.Common.{◌≡◌, ℕ, Bool, true, false, List, [], ◌∷◌, ◌++◌, Option, Some, refl, sym, ap, subst, ◌∙◌, ◌⊎◌, inl, inr, append_assoc, append-nil, bytes_eq, if◌then◌else◌}
+use Rattle.std.proofs.Common.{◌≡◌, ℕ, Bool, true, false, List, [], ◌∷◌, ◌++◌, Option, Some, refl, sym, ap, subst, ◌∙◌, ◌⊎◌, inl, inr, append_assoc, append-nil}
+use Rattle.std.proofs.Common.{bytes_eq, if◌then◌else◌}
 use Rattle.gf_text.specs.declared.error.Cause.{Cause}
 use Rattle.gf_text.specs.declared.error.Cause.TheVariants.{Ended, Unexpected, RepeatedName, ZeroDenominator, TooWide, UnknownName}
 use Rattle.gf_text.specs.Machine.{Move, go, done, halt, after, followed}
@@ -66,7 +67,8 @@ module _ {S A : Type 0} {step : S → List ℕ → Move S A} {start : S} {item :
   one_more before t ts all mark n = record {
     items = comma ∷ (n.front ++ n.more.items);
     later = n.x ∷ n.more.later;
-    tokens = ap (λ y. y ∷ ts) mark ∙ ap (λ l. comma ∷ l) (n.tokens ∙ ap (λ l. n.front ++ l) n.more.tokens ∙ sym (append_assoc n.front n.more.items (brace_end ∷ [])));
+    tokens = ap (λ y. y ∷ ts) mark ∙ ap (λ l. comma ∷ l) (n.tokens ∙ ap (λ l. n.front ++ l) n.more.tokens ∙
+        sym (append_assoc n.front n.more.items (brace_end ∷ [])));
     are_items = (n.front, n.more.items, refl, is.said n.front n.x n.read, n.more.are_items);
     whole = n.more.whole ∙ append_assoc before (n.x ∷ []) n.more.later;
   }
@@ -83,7 +85,8 @@ module _ {S A : Type 0} {step : S → List ℕ → Move S A} {start : S} {item :
   -- ---- what is read, token by token
 
   module _ (t : List ℕ) (ts : Texts) (later : Later ts) where
-    item_by : (s : S) (m : Move S A) → step s t ≡ m → (before all : List A) → Then (list_step step start) (in_item before m) ts all → Within s before (t ∷ ts) all
+    item_by : (s : S) (m : Move S A) → step s t ≡ m → (before all : List A) → Then (list_step step start) (in_item before m) ts all →
+        Within s before (t ∷ ts) all
     unfolding Said Later
     item_by s (go u) on before all e =
         let w = later (inside u) before all e in
@@ -105,24 +108,29 @@ module _ {S A : Type 0} {step : S → List ℕ → Move S A} {start : S} {item :
     }
     item_by s (halt cause) on before all e = cc
 
-    on_token : (place : ListPlace S) (before all : List A) → Then (list_step step start) (list_step step start (place, before) t) ts all → Said place before (t ∷ ts) all
+    on_token : (place : ListPlace S) (before all : List A) → Then (list_step step start) (list_step step start (place, before) t) ts all →
+        Said place before (t ∷ ts) all
     unfolding Said Later
     on_token opening before all e = elim (chosen (list_step step start) (bytes_eq t brace) (go (first_item, before)) (halt Unexpected) ts all e) [
       | inl h ↦ (ts, ap (λ y. y ∷ ts) (is_mark t brace h.0), later first_item before all h.1)
       | inr h ↦ halted (list_step step start) Unexpected ts all h.1
     ]
     on_token first_item before all e = elim (chosen (list_step step start) (bytes_eq t brace_end) (done before) (in_item before (step start t)) ts all e) [
-      | inl h ↦ (let end = ended (list_step step start) before ts all h.1 in inl (ap (λ y. y ∷ ts) (is_mark t brace_end h.0) ∙ ap (λ l. brace_end ∷ l) end.0, end.1))
+      | inl h ↦ (let end = ended (list_step step start) before ts all h.1 in inl (
+        ap (λ y. y ∷ ts) (is_mark t brace_end h.0) ∙ ap (λ l. brace_end ∷ l) end.0,
+        end.1,
+      ))
       | inr h ↦ inr (item_by start (step start t) refl before all h.1)
     ]
     on_token (inside s) before all e = item_by s (step s t) refl before all e
-    on_token behind_item before all e = elim (chosen (list_step step start) (bytes_eq t comma) (go (inside start, before)) (if bytes_eq t brace_end then done before else halt Unexpected) ts all e) [
-      | inl h ↦ one_more before t ts all (is_mark t comma h.0) (later (inside start) before all h.1)
-      | inr h ↦ elim (chosen (list_step step start) (bytes_eq t brace_end) (done before) (halt Unexpected) ts all h.1) [
-        | inl k ↦ (let end = ended (list_step step start) before ts all k.1 in at_end before t ts all (is_mark t brace_end k.0) end.0 end.1)
-        | inr k ↦ halted (list_step step start) Unexpected ts all k.1
-      ]
-    ]
+    on_token behind_item before all e = elim (chosen (list_step step start) (bytes_eq t comma)
+        (go (inside start, before)) (if bytes_eq t brace_end then done before else halt Unexpected) ts all e) [
+          | inl h ↦ one_more before t ts all (is_mark t comma h.0) (later (inside start) before all h.1)
+          | inr h ↦ elim (chosen (list_step step start) (bytes_eq t brace_end) (done before) (halt Unexpected) ts all h.1) [
+            | inl k ↦ (let end = ended (list_step step start) before ts all k.1 in at_end before t ts all (is_mark t brace_end k.0) end.0 end.1)
+            | inr k ↦ halted (list_step step start) Unexpected ts all k.1
+          ]
+        ]
 
   said : (ts : Texts) → Later ts
   unfolding Later
@@ -145,14 +153,18 @@ module _ {S A : Type 0} {step : S → List ℕ → Move S A} {start : S} {item :
 
   -- ---- a list's text is read
 
-  in_read : (s : S) (front : Texts) (x : A) → after step s front ≡ done x → (before : List A) (rest : Texts) → after (list_step step start) (inside s, before) (front ++ rest) ≡ after (list_step step start) (behind_item, before ++ x ∷ []) rest
+  in_read : (s : S) (front : Texts) (x : A) → after step s front ≡ done x → (before : List A) (rest : Texts) →
+      after (list_step step start) (inside s, before) (front ++ rest) ≡ after (list_step step start) (behind_item, before ++ x ∷ []) rest
   in_read s [] x e before rest = absurd (not_yet step s x e)
   in_read s (t ∷ front) x e before rest = elim (first step s t front x e) [
-    | inl g ↦ after-go (list_step step start) (inside s, before) (inside g.0, before) t (front ++ rest) (ap (in_item before) g.1) ∙ in_read g.0 front x g.2 before rest
-    | inr d ↦ after-go (list_step step start) (inside s, before) (behind_item, before ++ x ∷ []) t (front ++ rest) (ap (in_item before) d.0) ∙ ap (λ l. after (list_step step start) (behind_item, before ++ x ∷ []) (l ++ rest)) d.1
+    | inl g ↦ after-go (list_step step start) (inside s, before) (inside g.0, before) t (front ++ rest) (ap (in_item before) g.1) ∙
+        in_read g.0 front x g.2 before rest
+    | inr d ↦ after-go (list_step step start) (inside s, before) (behind_item, before ++ x ∷ []) t (front ++ rest) (ap (in_item before) d.0) ∙
+        ap (λ l. after (list_step step start) (behind_item, before ++ x ∷ []) (l ++ rest)) d.1
   ]
 
-  same_after : (s u : ListState S A) (t : List ℕ) (ts : Texts) → list_step step start s t ≡ list_step step start u t → after (list_step step start) s (t ∷ ts) ≡ after (list_step step start) u (t ∷ ts)
+  same_after : (s u : ListState S A) (t : List ℕ) (ts : Texts) → list_step step start s t ≡ list_step step start u t →
+      after (list_step step start) s (t ∷ ts) ≡ after (list_step step start) u (t ∷ ts)
   unfolding after
   same_after s u t ts e = ap (λ m. followed m ts (λ v. after (list_step step start) v ts)) e
 
@@ -170,14 +182,16 @@ module _ {S A : Type 0} {step : S → List ℕ → Move S A} {start : S} {item :
               | inr d ↦ (let on = d.0 in absurd (let none : ⊥ = cc in none))
             ]
 
-    first_read : (front : Texts) (x : A) → after step start front ≡ done x → (before : List A) (rest : Texts) → after (list_step step start) (first_item, before) (front ++ rest) ≡ after (list_step step start) (behind_item, before ++ x ∷ []) rest
+    first_read : (front : Texts) (x : A) → after step start front ≡ done x → (before : List A) (rest : Texts) →
+        after (list_step step start) (first_item, before) (front ++ rest) ≡ after (list_step step start) (behind_item, before ++ x ∷ []) rest
     first_read [] x e before rest = absurd (not_yet step start x e)
     first_read (t ∷ front) x e before rest =
         let other = no_end t front x e in
         let same : list_step step start (first_item, before) t ≡ list_step step start (inside start, before) t = rw other refl in
         same_after (first_item, before) (inside start, before) t (front ++ rest) same ∙ in_read start (t ∷ front) x e before rest
 
-    more_given : (xs : List A) (ts : Texts) → AreMoreItems item ts xs → (before : List A) → From (list_step step start) (behind_item, before) (ts ++ brace_end ∷ []) (before ++ xs)
+    more_given : (xs : List A) (ts : Texts) → AreMoreItems item ts xs → (before : List A) →
+        From (list_step step start) (behind_item, before) (ts ++ brace_end ∷ []) (before ++ xs)
     more_given [] ts none before =
         ap (λ l. after (list_step step start) (behind_item, before) (l ++ brace_end ∷ [])) none
         ∙ after-done (list_step step start) (behind_item, before) before brace_end refl
@@ -212,7 +226,12 @@ module _ {S A : Type 0} {step : S → List ℕ → Move S A} {start : S} {item :
     behind_live xs = after-done (list_step step start) (behind_item, xs) xs brace_end refl
 
     is_live : (s : ListState S A) → Live s
-    is_live (opening, xs) = (brace ∷ brace_end ∷ [], xs, after-go (list_step step start) (opening, xs) (first_item, xs) brace (brace_end ∷ []) refl ∙ after-done (list_step step start) (first_item, xs) xs brace_end refl)
+    is_live (opening, xs) = (
+      brace ∷ brace_end ∷ [],
+      xs,
+      after-go (list_step step start) (opening, xs) (first_item, xs) brace (brace_end ∷ []) refl ∙
+          after-done (list_step step start) (first_item, xs) xs brace_end refl,
+    )
     is_live (first_item, xs) = (brace_end ∷ [], xs, after-done (list_step step start) (first_item, xs) xs brace_end refl)
     is_live (inside s, xs) =
         let l = is.live s in
@@ -227,21 +246,25 @@ module _ {S A : Type 0} {step : S → List ℕ → Move S A} {start : S} {item :
     item_halts xs (halt other) cause e = let same : other ≡ cause = cc in ap (λ c. halt c) same
 
     -- the cause is that nothing can stand there, or that of an item
-    item_cause : (s : ListState S A) (t : List ℕ) (cause : Cause) → list_step step start s t ≡ halt cause → (cause ≡ Unexpected) ⊎ ((u : S) × (step u t ≡ halt cause))
+    item_cause : (s : ListState S A) (t : List ℕ) (cause : Cause) → list_step step start s t ≡ halt cause →
+        (cause ≡ Unexpected) ⊎ ((u : S) × (step u t ≡ halt cause))
     item_cause (opening, xs) t cause e = by (bytes_eq t brace) e
       where
-        by : (b : Bool) → (if b then goes step start (first_item, xs) else stops step start Unexpected) ≡ stops step start cause → (cause ≡ Unexpected) ⊎ ((u : S) × (step u t ≡ halt cause))
+        by : (b : Bool) → (if b then goes step start (first_item, xs) else stops step start Unexpected) ≡ stops step start cause →
+            (cause ≡ Unexpected) ⊎ ((u : S) × (step u t ≡ halt cause))
         by true f = cc
         by false f = inl cc
     item_cause (first_item, xs) t cause e = by (bytes_eq t brace_end) e
       where
-        by : (b : Bool) → (if b then ends step start xs else in_item xs (step start t)) ≡ stops step start cause → (cause ≡ Unexpected) ⊎ ((u : S) × (step u t ≡ halt cause))
+        by : (b : Bool) → (if b then ends step start xs else in_item xs (step start t)) ≡ stops step start cause →
+            (cause ≡ Unexpected) ⊎ ((u : S) × (step u t ≡ halt cause))
         by true f = cc
         by false f = inr (start, item_halts xs (step start t) cause f)
     item_cause (inside s, xs) t cause e = inr (s, item_halts xs (step s t) cause e)
     item_cause (behind_item, xs) t cause e = by (bytes_eq t comma) (bytes_eq t brace_end) e
       where
-        by : (b c : Bool) → (if b then goes step start (inside start, xs) else if c then ends step start xs else stops step start Unexpected) ≡ stops step start cause → (cause ≡ Unexpected) ⊎ ((u : S) × (step u t ≡ halt cause))
+        by : (b c : Bool) → (if b then goes step start (inside start, xs) else if c then ends step start xs else stops step start Unexpected) ≡
+            stops step start cause → (cause ≡ Unexpected) ⊎ ((u : S) × (step u t ≡ halt cause))
         by true c f = cc
         by false true f = cc
         by false false f = inl cc
@@ -257,7 +280,8 @@ module _ {S A : Type 0} {step : S → List ℕ → Move S A} {start : S} {item :
     list_machine = record { said = list_said; given = list_given; live = is_live; tells = list_tells }
 
     -- where numbers alone are told apart in the items, they are in a list
-    pub list_causes : ((s : S) (t : List ℕ) (cause : Cause) → step s t ≡ halt cause → IsNumberCause cause) → (s : ListState S A) (t : List ℕ) (cause : Cause) → list_step step start s t ≡ halt cause → IsNumberCause cause
+    pub list_causes : ((s : S) (t : List ℕ) (cause : Cause) → step s t ≡ halt cause → IsNumberCause cause) → (s : ListState S A) (t : List ℕ) (cause : Cause) →
+        list_step step start s t ≡ halt cause → IsNumberCause cause
     list_causes causes s t cause e = elim (item_cause s t cause e) [
       | inl h ↦ subst IsNumberCause (sym h) tt
       | inr h ↦ causes h.0 t cause h.1
@@ -310,14 +334,17 @@ module _ (ring : Texts) (named : (t : List ℕ) (v : ℕ) → variable ring t �
   }
 
 -- what takes marks alone
-marks_gate : (ring : Texts) (refuses : List ℕ → Option Cause) → ((t : List ℕ) → is_number t ≡ true → refuses t ≡ Some Unexpected) → ((t : List ℕ) → is_word t ≡ true → refuses t ≡ Some Unexpected) → ((t : List ℕ) (cause : Cause) → refuses t ≡ Some cause → cause ≡ Unexpected) → IsGate ring refuses
+marks_gate : (ring : Texts) (refuses : List ℕ → Option Cause) → ((t : List ℕ) → is_number t ≡ true → refuses t ≡ Some Unexpected) →
+    ((t : List ℕ) → is_word t ≡ true → refuses t ≡ Some Unexpected) → ((t : List ℕ) (cause : Cause) → refuses t ≡ Some cause → cause ≡ Unexpected) →
+    IsGate ring refuses
 marks_gate ring refuses numbers words causes = record {
   numbers = inl numbers;
   words = inl words;
   reason = λ t cause e. subst (Reason ring refuses t) (sym (causes t cause e)) tt;
 }
 
-module _ {S A : Type 0} (step : S → List ℕ → Move S A) (start : S) (ring : Texts) (named : (t : List ℕ) (v : ℕ) → variable ring t ≡ Some v → is_word t ≡ true) (gates : (s : S) → IsGate ring (λ t. refused_by (step s t))) where
+module _ {S A : Type 0} (step : S → List ℕ → Move S A) (start : S) (ring : Texts) (named : (t : List ℕ) (v : ℕ) → variable ring t ≡ Some v →
+    is_word t ≡ true) (gates : (s : S) → IsGate ring (λ t. refused_by (step s t))) where
   abbrev list_gate_of : ListState S A → List ℕ → Option Cause
   list_gate_of s t = refused_by (list_step step start s t)
 
@@ -343,21 +370,24 @@ module _ {S A : Type 0} (step : S → List ℕ → Move S A) (start : S) (ring :
   behind_causes : (xs : List A) (t : List ℕ) (cause : Cause) → list_gate_of (behind_item, xs) t ≡ Some cause → cause ≡ Unexpected
   behind_causes xs t cause e = by (bytes_eq t comma) (bytes_eq t brace_end) e
     where
-      by : (b c : Bool) → refused_by (if b then goes step start (inside start, xs) else if c then ends step start xs else stops step start Unexpected) ≡ Some cause → cause ≡ Unexpected
+      by : (b c : Bool) → refused_by (if b then goes step start (inside start, xs) else if c then ends step start xs else stops step start Unexpected) ≡
+          Some cause → cause ≡ Unexpected
       by true c f = cc
       by false true f = cc
       by false false f = cc
 
   -- in each state of a list numbers and letters are taken as the kinds of faults say
   pub list_gate : (s : ListState S A) → IsGate ring (λ t. refused_by (list_step step start s t))
-  list_gate (opening, xs) = marks_gate ring (list_gate_of (opening, xs)) (λ t digits. rw (number_no_mark t 123 digits refl) refl) (λ t word. rw (word_no_mark t 123 word refl) refl) (opening_causes xs)
+  list_gate (opening, xs) = marks_gate ring (list_gate_of (opening, xs)) (λ t digits. rw (number_no_mark t 123 digits refl) refl)
+      (λ t word. rw (word_no_mark t 123 word refl) refl) (opening_causes xs)
   list_gate (first_item, xs) =
       like_gate ring named (λ t. refused_by (step start t)) (list_gate_of (first_item, xs))
       (λ t digits. rw (number_no_mark t 125 digits refl) (item_refuses xs (step start t)))
       (λ t word. rw (word_no_mark t 125 word refl) (item_refuses xs (step start t)))
       (first_causes xs) (gates start)
   list_gate (inside s, xs) =
-      like_gate ring named (λ t. refused_by (step s t)) (list_gate_of (inside s, xs)) (λ t digits. item_refuses xs (step s t)) (λ t word. item_refuses xs (step s t))
+      like_gate ring named (λ t. refused_by (step s t)) (list_gate_of (inside s, xs)) (λ t digits. item_refuses xs (step s t))
+      (λ t word. item_refuses xs (step s t))
       (λ t cause e. sym (item_refuses xs (step s t)) ∙ e) (gates s)
   list_gate (behind_item, xs) =
       marks_gate ring (list_gate_of (behind_item, xs)) (λ t digits. rw (number_no_mark t 44 digits refl, number_no_mark t 125 digits refl) refl)

@@ -2,11 +2,13 @@
 -- To cite: run_go, run_done, run_halt, run_ended for a loop; reads, is_read for grammars; failed, IsMachineOf with fault, no_text, caused for refusals,
 -- IsTaken, taken_follows, never for their kinds;
 -- after-go, after-done, after-++, first, not_yet; Then, From, move, chosen, halted, ended for what follows a move. The rest are steps.
-use Rattle.std.proofs.Common.{◌≡◌, ℕ, Bool, true, false, if◌then◌else◌, Result, Ok, Err, List, [], ◌∷◌, ◌++◌, refl, sym, ap, ◌∙◌, subst, ◌⊎◌, inl, inr, append_assoc, append-nil}
+use Rattle.std.proofs.Common.{◌≡◌, ℕ, Bool, true, false, if◌then◌else◌, Result, Ok, Err, List, [], ◌∷◌, ◌++◌, refl, sym, ap, ◌∙◌, subst, ◌⊎◌, inl, inr}
+use Rattle.std.proofs.Common.{append_assoc, append-nil}
 use Rattle.gf_text.specs.declared.error.Cause.{Cause}
 use Rattle.gf_text.specs.declared.error.Cause.TheVariants.{Ended, Unexpected, RepeatedName, ZeroDenominator, TooWide, UnknownName}
 use Rattle.gf_text.specs.declared.error.TextError.{TextError}
-use Rattle.gf_text.specs.Machine.{Lexeme, behind, texts, behind_all, Move, go, done, halt, Fault, moved, run, followed, after, Reads, GoesOnToText, StandsAt, IsFaultAt, IsFault, HasOneMeaning}
+use Rattle.gf_text.specs.Machine.{Lexeme, behind, texts, behind_all, Move, go, done, halt, Fault, moved, run, followed, after, Reads, GoesOnToText, StandsAt}
+use Rattle.gf_text.specs.Machine.{IsFaultAt, IsFault, HasOneMeaning}
 use Rattle.gf_text.specs.Kinds.{MayFollow}
 use Rattle.gf_text.specs.Given.{IsRefusedAs, Fails, IsNoText}
 use Rattle.gf_text.specs.Refusing.{refusal_at}
@@ -14,17 +16,21 @@ use Rattle.gf_text.specs.Refusing.{refusal_at}
 module _ {S A : Type 0} (step : S → List ℕ → Move S A) where
   -- ---- one turn of a loop, whose next token is x
 
-  run_at : (s : S) (end : ℕ) (all : List Lexeme) (x : Lexeme) (xs : List Lexeme) (m : Move S A) → all ≡ x ∷ xs → step s x.text ≡ m → run step s end all ≡ moved m x (λ t. run step t end xs)
+  run_at : (s : S) (end : ℕ) (all : List Lexeme) (x : Lexeme) (xs : List Lexeme) (m : Move S A) → all ≡ x ∷ xs → step s x.text ≡ m →
+      run step s end all ≡ moved m x (λ t. run step t end xs)
   unfolding run
   run_at s end all x xs m tokens e = ap (run step s end) tokens ∙ ap (λ y. moved y x (λ t. run step t end xs)) e
 
-  pub run_go : (s t : S) (end : ℕ) (all : List Lexeme) (x : Lexeme) (xs : List Lexeme) → all ≡ x ∷ xs → step s x.text ≡ go t → run step s end all ≡ run step t end xs
+  pub run_go : (s t : S) (end : ℕ) (all : List Lexeme) (x : Lexeme) (xs : List Lexeme) → all ≡ x ∷ xs → step s x.text ≡ go t →
+      run step s end all ≡ run step t end xs
   run_go s t end all x xs tokens e = run_at s end all x xs (go t) tokens e
 
-  pub run_done : (s : S) (a : A) (end : ℕ) (all : List Lexeme) (x : Lexeme) (xs : List Lexeme) → all ≡ x ∷ xs → step s x.text ≡ done a → run step s end all ≡ Ok (a, behind x)
+  pub run_done : (s : S) (a : A) (end : ℕ) (all : List Lexeme) (x : Lexeme) (xs : List Lexeme) → all ≡ x ∷ xs → step s x.text ≡ done a →
+      run step s end all ≡ Ok (a, behind x)
   run_done s a end all x xs tokens e = run_at s end all x xs (done a) tokens e
 
-  pub run_halt : (s : S) (cause : Cause) (end : ℕ) (all : List Lexeme) (x : Lexeme) (xs : List Lexeme) → all ≡ x ∷ xs → step s x.text ≡ halt cause → run step s end all ≡ Err (record { at = x.at; cause = cause })
+  pub run_halt : (s : S) (cause : Cause) (end : ℕ) (all : List Lexeme) (x : Lexeme) (xs : List Lexeme) → all ≡ x ∷ xs → step s x.text ≡ halt cause →
+      run step s end all ≡ Err (record { at = x.at; cause = cause })
   run_halt s cause end all x xs tokens e = run_at s end all x xs (halt cause) tokens e
 
   pub run_ended : (s : S) (end : ℕ) (all : List Lexeme) → all ≡ [] → run step s end all ≡ Err (record { at = end; cause = Ended })
@@ -93,7 +99,8 @@ module _ {S A : Type 0} (step : S → List ℕ → Move S A) where
   unfolding after
   move s t ts all e = e
 
-  pub chosen : (b : Bool) (x y : Move S A) (ts : List (List ℕ)) (all : A) → Then (if b then x else y) ts all → ((b ≡ true) × Then x ts all) ⊎ ((b ≡ false) × Then y ts all)
+  pub chosen : (b : Bool) (x y : Move S A) (ts : List (List ℕ)) (all : A) → Then (if b then x else y) ts all →
+      ((b ≡ true) × Then x ts all) ⊎ ((b ≡ false) × Then y ts all)
   chosen true x y ts all e = inl (refl, e)
   chosen false x y ts all e = inr (refl, e)
 
@@ -116,7 +123,8 @@ module _ {S A : Type 0} (step : S → List ℕ → Move S A) where
   read_by (halt cause) x front back a end later e = cc
 
   -- tokens with which the machine is done are read, whatever follows them
-  pub read : (s : S) (d end : ℕ) (front back : List Lexeme) (a : A) → after step s (texts front) ≡ done a → run step s end (front ++ back) ≡ Ok (a, behind_all d front)
+  pub read : (s : S) (d end : ℕ) (front back : List Lexeme) (a : A) → after step s (texts front) ≡ done a →
+      run step s end (front ++ back) ≡ Ok (a, behind_all d front)
   unfolding run after
   read s d end [] back a e = cc
   read s d end (x ∷ front) back a e = read_by (step s x.text) x front back a end (λ t f. read t (behind x) end front back a f) e
@@ -174,7 +182,8 @@ module _ {S A : Type 0} (step : S → List ℕ → Move S A) where
       ap (run step s end) r.whole ∙ read s 0 end r.front r.back a (said (texts r.front) r.text) ∙ ap (λ n. Ok (a, n)) r.end
 
   -- a grammar whose texts the machine reads gives tokens at most one meaning
-  pub one_meaning : (grammar : List (List ℕ) → A → Type 0) (s : S) → ((ts : List (List ℕ)) (a : A) → grammar ts a → after step s ts ≡ done a) → HasOneMeaning grammar
+  pub one_meaning : (grammar : List (List ℕ) → A → Type 0) (s : S) → ((ts : List (List ℕ)) (a : A) → grammar ts a → after step s ts ≡ done a) →
+      HasOneMeaning grammar
   one_meaning grammar s said xs a b place other first second =
       let one = is_read grammar s 0 xs a place (λ ts. said ts a) first in
       let two = is_read grammar s 0 xs b other (λ ts. said ts b) second in
@@ -271,7 +280,8 @@ module _ {S A : Type 0} {step : S → List ℕ → Move S A} {start : S} {gramma
       (l.0, l.1, is.said (ts ++ l.0) l.1 (after-++ step start s ts l.0 e ∙ l.2))
 
   -- and with a token that it can't take they never do
-  pub never : (ts : List (List ℕ)) (s : S) (t : List ℕ) (cause : Cause) → after step start ts ≡ go s → step s t ≡ halt cause → GoesOnToText grammar (ts ++ t ∷ []) → ⊥
+  pub never : (ts : List (List ℕ)) (s : S) (t : List ℕ) (cause : Cause) → after step start ts ≡ go s → step s t ≡ halt cause →
+      GoesOnToText grammar (ts ++ t ∷ []) → ⊥
   never ts s t cause e h g =
       let whole = is.given ((ts ++ t ∷ []) ++ g.0) g.1 g.2 in
       let stops = ap (after step start) (append_assoc ts (t ∷ []) g.0) ∙ after-++ step start s ts (t ∷ g.0) e ∙ after-halt step s cause t g.0 h in
@@ -283,12 +293,19 @@ module _ {S A : Type 0} {step : S → List ℕ → Move S A} {start : S} {gramma
     where
       by : (m : Move S A) → step s t ≡ m → IsTaken m → MayFollow grammar ts t
       by (go u) on h = goes_on (ts ++ t ∷ []) u (after-++ step start s ts (t ∷ []) e ∙ after-go step s u t [] on ∙ after-none step u)
-      by (done a) on h = ([], a, is.said ((ts ++ t ∷ []) ++ []) a (ap (after step start) (append-nil (ts ++ t ∷ [])) ∙ after-++ step start s ts (t ∷ []) e ∙ after-done step s a t on))
+      by (done a) on h = (
+        [],
+        a,
+        is.said ((ts ++ t ∷ []) ++ []) a (ap (after step start) (append-nil (ts ++ t ∷ [])) ∙ after-++ step start s ts (t ∷ []) e ∙
+            after-done step s a t on),
+      )
       by (halt cause) on h = absurd h
 
   -- where the machine stops, the fault is of this kind
-  module _ (kind : List (List ℕ) → List ℕ → Cause → Type 0) (kinds : (ts : List (List ℕ)) (s : S) (t : List ℕ) (cause : Cause) → after step start ts ≡ go s → step s t ≡ halt cause → kind ts t cause) where
-    stands_at : (xs : List Lexeme) (place : ℕ) (cause : Cause) (h : Halted step start xs (record { at = place; cause = cause })) → StandsAt grammar kind xs place cause
+  module _ (kind : List (List ℕ) → List ℕ → Cause → Type 0) (kinds : (ts : List (List ℕ)) (s : S) (t : List ℕ) (cause : Cause) → after step start ts ≡ go s →
+      step s t ≡ halt cause → kind ts t cause) where
+    stands_at : (xs : List Lexeme) (place : ℕ) (cause : Cause) (h : Halted step start xs (record { at = place; cause = cause })) →
+        StandsAt grammar kind xs place cause
     stands_at xs place cause h = record {
       front = h.front;
       token = h.token;
@@ -300,7 +317,8 @@ module _ {S A : Type 0} {step : S → List ℕ → Move S A} {start : S} {gramma
       of_kind = kinds (texts h.front) h.state h.token.text cause h.reached h.halts;
     }
 
-    halted_fault : (xs : List Lexeme) (end place : ℕ) (cause : Cause) → Halted step start xs (record { at = place; cause = cause }) → IsFaultAt grammar kind xs end place cause
+    halted_fault : (xs : List Lexeme) (end place : ℕ) (cause : Cause) → Halted step start xs (record { at = place; cause = cause }) →
+        IsFaultAt grammar kind xs end place cause
     halted_fault xs end place Ended h = absurd (is.tells h.state h.token.text h.halts)
     halted_fault xs end place Unexpected h = stands_at xs place Unexpected h
     halted_fault xs end place RepeatedName h = stands_at xs place RepeatedName h
@@ -327,7 +345,8 @@ module _ {S A : Type 0} {step : S → List ℕ → Move S A} {start : S} {gramma
     }
 
 -- a fault is refused as what it is
-pub failed : {Y : Type 0} (read : Result Y Fault) (place : ℕ) (cause : Cause) → read ≡ Err (record { at = place; cause = cause }) → Fails (refusal_at place cause) read
+pub failed : {Y : Type 0} (read : Result Y Fault) (place : ℕ) (cause : Cause) → read ≡ Err (record { at = place; cause = cause }) →
+    Fails (refusal_at place cause) read
 failed read place Ended e = (record { at = place; cause = Ended }, e, refl)
 failed read place Unexpected e = (record { at = place; cause = Unexpected }, e, refl)
 failed read place RepeatedName e = (record { at = place; cause = RepeatedName }, e, refl)

@@ -1,6 +1,7 @@
 -- Different names, kept as keys of a set.
 -- To cite: new_key, with_key, one_more; with_new. The rest are steps.
-use Rattle.std.proofs.Common.{◌≡◌, ℕ, Bool, true, false, ◌||◌, not, List, [], ◌∷◌, ◌++◌, ◌<◌, ◌+◌, length, map, take, get_or, refl, sym, ap, ◌∙◌, bytes_eq, append_assoc, append-nil, length-append, subst, arith, if◌then◌else◌}
+use Rattle.std.proofs.Common.{◌≡◌, ℕ, Bool, true, false, ◌||◌, not, List, [], ◌∷◌, ◌++◌, ◌<◌, ◌+◌, length, map, take, get_or, refl, sym, ap, ◌∙◌, bytes_eq}
+use Rattle.std.proofs.Common.{append_assoc, append-nil, length-append, subst, arith, if◌then◌else◌}
 use Rattle.std.proofs.lemmas.Bool.Decides.{same_from_decides}
 use Rattle.std.proofs.lemmas.Slice.Eq.{bytes_eq-Decides}
 use Rattle.std.proofs.lemmas.List.{map-append, get_or-map, take_more, length-map}
@@ -23,7 +24,8 @@ module _ {K : Type 0} (bytes : K → List ℕ) where
 
   found : (k : K) (ks : List K) → list_any (λ x. bytes_eq (bytes k) (bytes x)) ks ≡ has (names ks) (bytes k)
   found k [] = refl
-  found k (x ∷ ks) = ap (λ b. b || list_any (λ y. bytes_eq (bytes k) (bytes y)) ks) (same_either_way (bytes k) (bytes x)) ∙ ap (λ b. bytes_eq (bytes x) (bytes k) || b) (found k ks)
+  found k (x ∷ ks) = ap (λ b. b || list_any (λ y. bytes_eq (bytes k) (bytes y)) ks) (same_either_way (bytes k) (bytes x)) ∙
+      ap (λ b. bytes_eq (bytes x) (bytes k) || b) (found k ks)
 
   -- whether a key with this name is new
   pub new_key : (k : K) (ks : List K) (name : List ℕ) → bytes k ≡ name → not (list_any (λ x. bytes_eq (bytes k) (bytes x)) ks) ≡ not (has (names ks) name)
@@ -34,7 +36,8 @@ module _ {K : Type 0} (bytes : K → List ℕ) where
   with_by k ks false = map-append bytes ks (k ∷ [])
 
   -- the names with a key of this name
-  pub with_key : (k : K) (ks : List K) (name : List ℕ) → bytes k ≡ name → names (if list_any (λ x. bytes_eq (bytes k) (bytes x)) ks then ks else ks ++ k ∷ []) ≡ (if has (names ks) name then names ks else names ks ++ name ∷ [])
+  pub with_key : (k : K) (ks : List K) (name : List ℕ) → bytes k ≡ name → names (if list_any (λ x. bytes_eq (bytes k) (bytes x)) ks then ks else ks ++ k ∷ []) ≡
+      (if has (names ks) name then names ks else names ks ++ name ∷ [])
   with_key k ks name is =
       with_by k ks (list_any (λ x. bytes_eq (bytes k) (bytes x)) ks)
       ∙ ap (λ v. if v then names ks else names ks ++ bytes k ∷ []) (found k ks)
@@ -51,9 +54,11 @@ module _ {K : Type 0} (bytes : K → List ℕ) where
 
 new_last : (before ns : List (List ℕ)) (n : List ℕ) → AreNew before ns → is_name n ≡ true → has (before ++ ns) n ≡ false → AreNew before (ns ++ n ∷ [])
 new_last before [] n all named new = (named, subst (λ l. has l n ≡ false) (append-nil before) new, tt)
-new_last before (m ∷ ms) n all named new = (all.0, all.1, new_last (before ++ m ∷ []) ms n all.2 named (subst (λ l. has l n ≡ false) (sym (append_assoc before (m ∷ []) ms)) new))
+new_last before (m ∷ ms) n all named new =
+    (all.0, all.1, new_last (before ++ m ∷ []) ms n all.2 named (subst (λ l. has l n ≡ false) (sym (append_assoc before (m ∷ []) ms)) new))
 
-pub with_new : (names : List (List ℕ)) (n : List ℕ) → IsRing names → is_name n ≡ true → has names n ≡ false → length names < MOST_VARIABLES → IsRing (names ++ n ∷ [])
+pub with_new : (names : List (List ℕ)) (n : List ℕ) → IsRing names → is_name n ≡ true → has names n ≡ false → length names < MOST_VARIABLES →
+    IsRing (names ++ n ∷ [])
 with_new names n ring named new room = record {
   some = omega (arith, length-append names (n ∷ []));
   few = omega (arith, length-append names (n ∷ []));

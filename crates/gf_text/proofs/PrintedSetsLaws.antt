@@ -1,6 +1,7 @@
 -- The parts of printed polynomials and sets, one after another.
 -- To cite: marked_parts, other_test, members_parts. The rest are steps.
-use Rattle.std.proofs.Common.{◌≡◌, ◌<◌, ◌≤◌, ◌-◌, ℕ, zero, suc, List, [], ◌∷◌, ◌++◌, length, take, take_all, drop, get_or, flat_map, refl, sym, ap, ◌∙◌, arith, Bool, bytes_eq, if◌then◌else◌}
+use Rattle.std.proofs.Common.{◌≡◌, ◌<◌, ◌≤◌, ◌-◌, ℕ, zero, suc, List, [], ◌∷◌, ◌++◌, length, take, take_all, drop, get_or, flat_map, refl, sym, ap, ◌∙◌, arith}
+use Rattle.std.proofs.Common.{Bool, bytes_eq, if◌then◌else◌}
 use Rattle.gf_exponents_theory.specs.Exponents.{Exponents}
 use Rattle.gf_poly.specs.declared.Term.{Term}
 use Rattle.gf_poly.specs.Polynomial.{Terms, IsDescending, HasVariables, coefficient}
@@ -16,7 +17,8 @@ head_of-get (t ∷ f) zero d h = refl
 head_of-get (t ∷ f) (suc i) d h = head_of-get f i d (omega arith)
 
 -- the coefficient at the monomial of the term at a place is that term's
-coefficient_at : (n : ℕ) (f : Terms) (i : ℕ) (d : Term) → i < length f → HasVariables n f → IsDescending f → coefficient f (get_or f i d).mono ≡ (get_or f i d).coef
+coefficient_at : (n : ℕ) (f : Terms) (i : ℕ) (d : Term) → i < length f → HasVariables n f → IsDescending f →
+    coefficient f (get_or f i d).mono ≡ (get_or f i d).coef
 coefficient_at n f i d h variables descending =
     let t = get_or f i d in
     coefficient-contains n f t variables descending (i, h, same_at f i t d h) (variables_at_place n f i d variables h)
@@ -29,7 +31,8 @@ marked_parts names m terms n i t exponents same is h variables descending head e
     let term : t ≡ get_or m.poly i t = is ∙ ap (λ f. get_or f i t) same in
     let mono : t.mono ≡ m.head = ap (λ (s : Term). s.mono) term ∙ sym (head_of-get m.poly i t h) ∙ head in
     let coef : t.coef ≡ coefficient m.poly m.head =
-    ap (λ (s : Term). s.coef) term ∙ sym (coefficient_at n m.poly i t h variables descending) ∙ ap (coefficient m.poly) (sym (head_of-get m.poly i t h) ∙ head) in
+    ap (λ (s : Term). s.coef) term ∙ sym (coefficient_at n m.poly i t h variables descending) ∙ ap (coefficient m.poly)
+    (sym (head_of-get m.poly i t h) ∙ head) in
     let start = first_text names (coefficient m.poly m.head) m.head in
     ap (λ c. first_text names c t.mono ++ flat_map (other_text names exponents) terms) coef
     ∙ ap (λ e. first_text names (coefficient m.poly m.head) e ++ flat_map (other_text names exponents) terms) mono

@@ -1,6 +1,7 @@
 -- What printed terms say: their tokens, and that these are the text of a term.
 -- To cite: term_said, unsigned_tokens, unsigned_piece, unsigned_said. The rest are steps.
-use Rattle.std.proofs.Common.{◌≡◌, ◌≤◌, ◌<◌, ◌^◌, ◌+◌, ℕ, Bool, true, false, ◌==◌, List, [], ◌∷◌, ◌++◌, length, flat_map, decimal, refl, inl, inr, arith, if◌then◌else◌}
+use Rattle.std.proofs.Common.{◌≡◌, ◌≤◌, ◌<◌, ◌^◌, ◌+◌, ℕ, Bool, true, false, ◌==◌, List, [], ◌∷◌, ◌++◌, length, flat_map, decimal, refl, inl, inr, arith}
+use Rattle.std.proofs.Common.{if◌then◌else◌}
 use Rattle.std.proofs.lemmas.Bool.Decides.{eqb_tells}
 use Rattle.std.specs.Int.RustNames.{unsigned_abs}
 use Rattle.gf_frac.specs.Fraction.{Fraction}
@@ -10,7 +11,8 @@ use Rattle.gf_text.specs.SetText.{most, most_exponent, IsNumberText, IsFactorTex
 use Rattle.gf_text.specs.Marks.{star, slash, caret}
 use Rattle.gf_text.specs.PrintedText.{joined, power_text, powers, is_below_zero, size_text, is_unit, pieces, unsigned_text}
 use Rattle.gf_text.proofs.SpelledLaws.{goes_on}
-use Rattle.gf_text.proofs.PrintedTokensLaws.{IsPiece, ArePieces, piece-none, piece-token, piece-++, mark_spelled, number_piece, decimal_number, IsNameOf, AreNamesFrom}
+use Rattle.gf_text.proofs.PrintedTokensLaws.{IsPiece, ArePieces, piece-none, piece-token, piece-++, mark_spelled, number_piece, decimal_number, IsNameOf}
+use Rattle.gf_text.proofs.PrintedTokensLaws.{AreNamesFrom}
 
 -- each number is below 2^31
 abbrev pub AreSmall : List ℕ → Type 0
@@ -85,7 +87,9 @@ module _ (ring : List (List ℕ)) where
   power_piece i n e name small = by (e == 1)
     where
       raised : IsPiece ring (94 ∷ decimal e) (caret ∷ decimal e ∷ [])
-      raised = record { spelled = λ rest stops. mark_spelled ring 94 (decimal e) rest (decimal e ∷ []) refl refl ((number_piece ring e (omega arith)).spelled rest stops) }
+      raised = record {
+        spelled = λ rest stops. mark_spelled ring 94 (decimal e) rest (decimal e ∷ []) refl refl ((number_piece ring e (omega arith)).spelled rest stops);
+      }
 
       by : (v : Bool) → IsPiece ring (if v then n else n ++ (94 ∷ decimal e)) (if v then n ∷ [] else n ∷ caret ∷ decimal e ∷ [])
       by true = piece-token ring n name.token
@@ -96,7 +100,8 @@ module _ (ring : List (List ℕ)) where
   powers_pieces i (n ∷ ns) [] names small = tt
   powers_pieces i (n ∷ ns) (e ∷ es) names small = by (e == 0) (powers_pieces (i + 1) ns es names.1 small.1)
     where
-      by : (v : Bool) → ArePieces ring (powers ns es) (powers_tokens ns es) → ArePieces ring (if v then powers ns es else power_text n e ∷ powers ns es) (if v then powers_tokens ns es else power_tokens n e ∷ powers_tokens ns es)
+      by : (v : Bool) → ArePieces ring (powers ns es) (powers_tokens ns es) →
+          ArePieces ring (if v then powers ns es else power_text n e ∷ powers ns es) (if v then powers_tokens ns es else power_tokens n e ∷ powers_tokens ns es)
       by true later = later
       by false later = (power_piece i n e names.0 small.0, later)
 
@@ -107,13 +112,18 @@ module _ (ring : List (List ℕ)) where
       numerator = number_piece ring (unsigned_abs c.num) small
 
       denominator : IsPiece ring (47 ∷ decimal c.den) (slash ∷ decimal c.den ∷ [])
-      denominator = record { spelled = λ rest stops. mark_spelled ring 47 (decimal c.den) rest (decimal c.den ∷ []) refl refl ((number_piece ring c.den below).spelled rest stops) }
+      denominator = record {
+        spelled = λ rest stops. mark_spelled ring 47 (decimal c.den) rest (decimal c.den ∷ []) refl refl ((number_piece ring c.den below).spelled rest stops);
+      }
 
-      by : (v : Bool) → IsPiece ring (if v then decimal (unsigned_abs c.num) else decimal (unsigned_abs c.num) ++ (47 ∷ decimal c.den)) (if v then decimal (unsigned_abs c.num) ∷ [] else decimal (unsigned_abs c.num) ∷ slash ∷ decimal c.den ∷ [])
+      by : (v : Bool) → IsPiece ring (if v then decimal (unsigned_abs c.num) else decimal (unsigned_abs c.num) ++ (47 ∷ decimal c.den)) (if v then decimal
+          (unsigned_abs c.num) ∷ [] else decimal (unsigned_abs c.num) ∷ slash ∷ decimal c.den ∷ [])
       by true = numerator
-      by false = piece-++ ring (decimal (unsigned_abs c.num)) (47 ∷ decimal c.den) (decimal (unsigned_abs c.num) ∷ []) (slash ∷ decimal c.den ∷ []) numerator (λ rest stops. refl) denominator
+      by false = piece-++ ring (decimal (unsigned_abs c.num)) (47 ∷ decimal c.den) (decimal (unsigned_abs c.num) ∷ []) (slash ∷ decimal c.den ∷ []) numerator
+          (λ rest stops. refl) denominator
 
-  grouped : (unit : Bool) (size : List ℕ) (ss : List (List ℕ)) (ps : List (List ℕ)) (tss : List (List (List ℕ))) → IsPiece ring size ss → ArePieces ring ps tss → ArePieces ring (pieces unit size ps) (groups unit ss tss)
+  grouped : (unit : Bool) (size : List ℕ) (ss : List (List ℕ)) (ps : List (List ℕ)) (tss : List (List (List ℕ))) → IsPiece ring size ss →
+      ArePieces ring ps tss → ArePieces ring (pieces unit size ps) (groups unit ss tss)
   grouped unit size ss [] [] one others = (one, tt)
   grouped unit size ss [] (ts ∷ tss) one others = absurd others
   grouped unit size ss (p ∷ ps) [] one others = absurd others
@@ -121,10 +131,12 @@ module _ (ring : List (List ℕ)) where
   grouped false size ss (p ∷ ps) (ts ∷ tss) one others = (one, others)
 
   -- a term without its sign
-  pub unsigned_piece : (ns : List (List ℕ)) (c : Fraction) (es : List ℕ) → AreNamesFrom ring 0 ns → unsigned_abs c.num < 2 ^ 127 → c.den < 2 ^ 127 → AreSmall es → IsPiece ring (unsigned_text ns c es) (unsigned_tokens ns c es)
+  pub unsigned_piece : (ns : List (List ℕ)) (c : Fraction) (es : List ℕ) → AreNamesFrom ring 0 ns → unsigned_abs c.num < 2 ^ 127 → c.den < 2 ^ 127 →
+      AreSmall es → IsPiece ring (unsigned_text ns c es) (unsigned_tokens ns c es)
   unsigned_piece ns c es names small below exponents =
       joined_piece (pieces (is_unit c) (size_text c) (powers ns es)) (groups (is_unit c) (size_tokens c) (powers_tokens ns es))
-      (grouped (is_unit c) (size_text c) (size_tokens c) (powers ns es) (powers_tokens ns es) (size_piece c small below) (powers_pieces 0 ns es names exponents))
+      (grouped (is_unit c) (size_text c) (size_tokens c) (powers ns es) (powers_tokens ns es) (size_piece c small below)
+      (powers_pieces 0 ns es names exponents))
 
   -- ---- the grammar
 
@@ -144,7 +156,8 @@ module _ (ring : List (List ℕ)) where
     | inr h ↦ rw h.0 (n, name.variable_is, inr (decimal e, refl, number_text e most_exponent (omega arith) (omega arith)))
   ]
 
-  powers_said : (i : ℕ) (ns : List (List ℕ)) (es : List ℕ) → AreNamesFrom ring i ns → length es ≡ length ns → AreSmall es → ArePowers (powers_tokens ns es) (factors_from i es)
+  powers_said : (i : ℕ) (ns : List (List ℕ)) (es : List ℕ) → AreNamesFrom ring i ns → length es ≡ length ns → AreSmall es →
+      ArePowers (powers_tokens ns es) (factors_from i es)
   unfolding ArePowers
   powers_said i [] [] names same small = tt
   powers_said i [] (e ∷ es) names same small = absurd (omega arith)
@@ -152,7 +165,10 @@ module _ (ring : List (List ℕ)) where
   powers_said i (n ∷ ns) (e ∷ es) names same small = by (e == 0) (powers_said (i + 1) ns es names.1 (omega arith) small.1)
     where
       by : (v : Bool) → ArePowers (powers_tokens ns es) (factors_from (i + 1) es)
-          → ArePowers (if v then powers_tokens ns es else power_tokens n e ∷ powers_tokens ns es) (if v then factors_from (i + 1) es else record { variable = i; exponent = e } ∷ factors_from (i + 1) es)
+          → ArePowers (if v then powers_tokens ns es else power_tokens n e ∷ powers_tokens ns es) (if v then factors_from (i + 1) es else record {
+            variable = i;
+            exponent = e;
+          } ∷ factors_from (i + 1) es)
       by true later = later
       by false later = (power_said i n e names.0 small.0, later)
 
@@ -166,7 +182,14 @@ module _ (ring : List (List ℕ)) where
   rational_said : (c : Fraction) → unsigned_abs c.num < 2 ^ 127 → c.den < 2 ^ 127 → IsRationalText (size_tokens c) (unsigned_abs c.num) c.den
   rational_said c small below = elim (eqb_tells c.den 1) [
     | inl h ↦ rw h.0 (inl (decimal (unsigned_abs c.num), refl, number_text (unsigned_abs c.num) most small (omega arith), h.1))
-    | inr h ↦ rw h.0 (inr (decimal (unsigned_abs c.num), decimal c.den, refl, number_text (unsigned_abs c.num) most small (omega arith), number_text c.den most below (omega arith), c.positive))
+    | inr h ↦ rw h.0 (inr (
+      decimal (unsigned_abs c.num),
+      decimal c.den,
+      refl,
+      number_text (unsigned_abs c.num) most small (omega arith),
+      number_text c.den most below (omega arith),
+      c.positive,
+    ))
   ]
 
   unit_parts : (c : Fraction) → is_unit c ≡ true → (unsigned_abs c.num ≡ 1) × (c.den ≡ 1)
@@ -175,15 +198,25 @@ module _ (ring : List (List ℕ)) where
     | inr a ↦ let no : is_unit c ≡ false = rw a.0 refl in cc
   ]
 
-  said_by : (unit : Bool) (c : Fraction) (tss : List (List (List ℕ))) (fs : List Factor) (m : Bool) → is_unit c ≡ unit → unsigned_abs c.num < 2 ^ 127 → c.den < 2 ^ 127 → ArePowers tss fs
+  said_by : (unit : Bool) (c : Fraction) (tss : List (List (List ℕ))) (fs : List Factor) (m : Bool) → is_unit c ≡ unit → unsigned_abs c.num < 2 ^ 127 →
+      c.den < 2 ^ 127 → ArePowers tss fs
       → IsTermText ring (joined_tokens (groups unit (size_tokens c) tss)) (record { minus = m; numer = unsigned_abs c.num; denom = c.den; factors = fs })
   unfolding ArePowers
   said_by unit c [] [] m is small below h = inl (size_tokens c, [], refl, rational_said c small below, refl)
   said_by unit c [] (f ∷ fs) m is small below h = absurd h
   said_by unit c (ts ∷ tss) [] m is small below h = absurd h
-  said_by true c (ts ∷ tss) (f ∷ fs) m is small below h = let parts = unit_parts c is in inr (parts.0, parts.1, (ts, behind_tokens tss, refl, h.0, more_said tss fs h.1))
-  said_by false c (ts ∷ tss) (f ∷ fs) m is small below h = inl (size_tokens c, behind_tokens (ts ∷ tss), refl, rational_said c small below, more_said (ts ∷ tss) (f ∷ fs) h)
+  said_by true c (ts ∷ tss) (f ∷ fs) m is small below h = let parts =
+      unit_parts c is in inr (parts.0, parts.1, (ts, behind_tokens tss, refl, h.0, more_said tss fs h.1))
+  said_by false c (ts ∷ tss) (f ∷ fs) m is small below h = inl (
+    size_tokens c,
+    behind_tokens (ts ∷ tss),
+    refl,
+    rational_said c small below,
+    more_said (ts ∷ tss) (f ∷ fs) h,
+  )
 
   -- the tokens of a term are the text of it
-  pub unsigned_said : (ns : List (List ℕ)) (c : Fraction) (es : List ℕ) → AreNamesFrom ring 0 ns → length es ≡ length ns → unsigned_abs c.num < 2 ^ 127 → c.den < 2 ^ 127 → AreSmall es → IsTermText ring (unsigned_tokens ns c es) (term_said c es)
-  unsigned_said ns c es names same small below exponents = said_by (is_unit c) c (powers_tokens ns es) (factors_from 0 es) (is_below_zero c.num) refl small below (powers_said 0 ns es names same exponents)
+  pub unsigned_said : (ns : List (List ℕ)) (c : Fraction) (es : List ℕ) → AreNamesFrom ring 0 ns → length es ≡ length ns → unsigned_abs c.num < 2 ^ 127 →
+      c.den < 2 ^ 127 → AreSmall es → IsTermText ring (unsigned_tokens ns c es) (term_said c es)
+  unsigned_said ns c es names same small below exponents = said_by (is_unit c) c (powers_tokens ns es) (factors_from 0 es) (is_below_zero c.num)
+      refl small below (powers_said 0 ns es names same exponents)

@@ -1,7 +1,9 @@
 -- The parts of printed terms and vectors, one after another.
 -- To cite: over_other, raised_other, size_parts, fraction_parts, power_parts, left_next, left_end, unit_term, sized_term, terms_parts, entry_same,
 -- entries_parts, parts_split, numbers_split. The rest are steps.
-use Rattle.std.proofs.Common.{◌≡◌, ◌≢◌, ℕ, zero, suc, ◌+◌, ◌-◌, ◌<◌, ◌≤◌, arith, add-one, slice_get, Some, take, take_all, flat_map, ℤ, pos, negsuc, Bool, true, false, not, ◌||◌, ◌==◌, List, [], ◌∷◌, ◌++◌, length, get_or, drop, decimal, codes, refl, sym, ap, ◌∙◌, append-nil, append_assoc, if◌then◌else◌}
+use Rattle.std.proofs.Common.{◌≡◌, ◌≢◌, ℕ, zero, suc, ◌+◌, ◌-◌, ◌<◌, ◌≤◌, arith, add-one, slice_get, Some, take, take_all, flat_map, ℤ, pos, negsuc, Bool, true}
+use Rattle.std.proofs.Common.{false, not, ◌||◌, ◌==◌, List, [], ◌∷◌, ◌++◌, length, get_or, drop, decimal, codes, refl, sym, ap, ◌∙◌, append-nil, append_assoc}
+use Rattle.std.proofs.Common.{if◌then◌else◌}
 use Rattle.std.proofs.lemmas.Bool.{ne_eqb, eqb-true, and_parts}
 use Rattle.std.proofs.lemmas.Option.{get_or_from_slice_get}
 use Rattle.std.proofs.lemmas.List.{drop_all, get_or_default}
@@ -12,7 +14,8 @@ use Rattle.std.specs.Int.RustNames.{unsigned_abs}
 use Rattle.gf_frac.specs.Fraction.{Fraction}
 use Rattle.gf_poly.specs.declared.Term.{Term}
 use Rattle.gf_poly.specs.Polynomial.{Terms}
-use Rattle.gf_text.specs.PrintedText.{over_text, times_text, raised_text, is_below_zero, leading_sign, size_text, fraction_text, power_text, powers, next_text, joined, pieces, left_text, is_unit, unsigned_text, first_text, later_text, terms_text}
+use Rattle.gf_text.specs.PrintedText.{over_text, times_text, raised_text, is_below_zero, leading_sign, size_text, fraction_text, power_text, powers, next_text}
+use Rattle.gf_text.specs.PrintedText.{joined, pieces, left_text, is_unit, unsigned_text, first_text, later_text, terms_text}
 use Rattle.gf_text.specs.VectorText.{entry_text, entries_text}
 
 -- a denominator or an exponent other than 1
@@ -75,7 +78,8 @@ left_by false true text later = refl
 left_by false false text later = refl
 
 left_on : (names : List (List ℕ)) (es : List ℕ) (b : Bool) (i : ℕ) (d : List ℕ) → i < length names → i < length es
-    → left_text b (powers (drop i names) (drop i es)) ≡ next_text b (get_or names i d) (get_or es i 0) ++ left_text (b || not (get_or es i 0 == 0)) (powers (drop (i + 1) names) (drop (i + 1) es))
+    → left_text b (powers (drop i names) (drop i es)) ≡ next_text b (get_or names i d) (get_or es i 0) ++
+    left_text (b || not (get_or es i 0 == 0)) (powers (drop (i + 1) names) (drop (i + 1) es))
 left_on names es b i d h k =
     let name = get_or names i d in
     let e = get_or es i 0 in
@@ -85,7 +89,8 @@ left_on names es b i d h k =
     ∙ left_by b (e == 0) (power_text name e) (powers (drop (i + 1) names) (drop (i + 1) es))
 
 -- what is written at one place, and what is left then
-pub left_next : (names : List (List ℕ)) (es done whole : List ℕ) (b after : Bool) (i : ℕ) (name : List ℕ) → i < length es → length es ≡ length names → slice_get names i ≡ Some name
+pub left_next : (names : List (List ℕ)) (es done whole : List ℕ) (b after : Bool) (i : ℕ) (name : List ℕ) → i < length es → length es ≡ length names →
+    slice_get names i ≡ Some name
     → after ≡ (b || not (get_or es i 0 == 0)) → done ++ left_text b (powers (drop i names) (drop i es)) ≡ whole
     → (done ++ next_text b name (get_or es i 0)) ++ left_text after (powers (drop (i + 1) names) (drop (i + 1) es)) ≡ whole
 left_next names es done whole b after i name h same is some so_far =
@@ -98,7 +103,8 @@ left_next names es done whole b after i name h same is some so_far =
     ∙ so_far
 
 -- nothing is left of the powers
-pub left_end : (names : List (List ℕ)) (es done whole : List ℕ) (b : Bool) (i : ℕ) → length names ≤ i → done ++ left_text b (powers (drop i names) (drop i es)) ≡ whole
+pub left_end : (names : List (List ℕ)) (es done whole : List ℕ) (b : Bool) (i : ℕ) → length names ≤ i →
+    done ++ left_text b (powers (drop i names) (drop i es)) ≡ whole
     → done ++ left_text b [] ≡ whole
 left_end names es done whole b i h so_far = ap (λ ns. done ++ left_text b (powers ns (drop i es))) (sym (drop_all i names h)) ∙ so_far
 
@@ -122,17 +128,21 @@ size_left size [] = refl
 size_left size (p ∷ ps) = refl
 
 -- a term of another coefficient
-pub sized_term : (names : List (List ℕ)) (c : Fraction) (es : List ℕ) → is_unit c ≡ false → size_text c ++ left_text true (powers names es) ≡ unsigned_text names c es
+pub sized_term : (names : List (List ℕ)) (c : Fraction) (es : List ℕ) → is_unit c ≡ false →
+    size_text c ++ left_text true (powers names es) ≡ unsigned_text names c es
 sized_term names c es e =
     size_left (size_text c) (powers names es) ∙ ap (λ b. joined (42 ∷ []) (pieces b (size_text c) (powers names es))) (sym e)
 
 -- a polynomial's first term, and the others
 pub terms_parts : (names : List (List ℕ)) (f : Terms) (t : Term) → t ≡ get_or f 0 t → 1 ≤ length f
-    → ((if is_below_zero t.coef.num then 45 ∷ [] else []) ++ unsigned_text names t.coef t.mono) ++ flat_map (λ (u : Term). later_text names u.coef u.mono) (take (length f - 1) (drop 1 f)) ≡ terms_text names f
+    → ((if is_below_zero t.coef.num then 45 ∷ [] else []) ++ unsigned_text names t.coef t.mono) ++ flat_map (λ (u : Term). later_text names u.coef u.mono)
+    (take (length f - 1) (drop 1 f)) ≡ terms_text names f
 terms_parts names [] t is h = absurd (omega arith)
 terms_parts names (u ∷ f) t is h =
-    ap (λ (v : Term). ((if is_below_zero v.coef.num then 45 ∷ [] else []) ++ unsigned_text names v.coef v.mono) ++ flat_map (λ (w : Term). later_text names w.coef w.mono) (take (length (u ∷ f) - 1) f)) is
-    ∙ ap (λ (ts : Terms). first_text names u.coef u.mono ++ flat_map (λ (w : Term). later_text names w.coef w.mono) ts) (take_all (length (u ∷ f) - 1) f (omega arith))
+    ap (λ (v : Term). ((if is_below_zero v.coef.num then 45 ∷ [] else []) ++ unsigned_text names v.coef v.mono) ++
+    flat_map (λ (w : Term). later_text names w.coef w.mono) (take (length (u ∷ f) - 1) f)) is
+    ∙ ap (λ (ts : Terms). first_text names u.coef u.mono ++ flat_map (λ (w : Term). later_text names w.coef w.mono) ts)
+    (take_all (length (u ∷ f) - 1) f (omega arith))
 
 -- ---- parts, one after another
 
@@ -147,7 +157,8 @@ parts_split f (y ∷ ys) (suc i) x h is =
     append_both a b c d = simp append_assoc
 
 -- the same of numbers, which are read at any default
-pub numbers_split : (f : ℤ → List ℕ) (xs : List ℤ) (i : ℕ) (d : ℤ) → i < length xs → (flat_map f (take i xs) ++ f (get_or xs i d)) ++ flat_map f (drop (suc i) xs) ≡ flat_map f xs
+pub numbers_split : (f : ℤ → List ℕ) (xs : List ℤ) (i : ℕ) (d : ℤ) → i < length xs →
+    (flat_map f (take i xs) ++ f (get_or xs i d)) ++ flat_map f (drop (suc i) xs) ≡ flat_map f xs
 numbers_split f xs i d h = parts_split f xs i (get_or xs i d) h (get_or_default xs i d (get_or xs i d) h)
 
 -- an entry as it is written
@@ -156,6 +167,7 @@ entry_same (pos n) = refl
 entry_same (negsuc n) = refl
 
 -- the first entry of a vector, and the others
-pub entries_parts : (xs : List ℤ) (d : ℤ) → 1 ≤ length xs → entry_text (get_or xs 0 d) ++ flat_map (λ y. 44 ∷ entry_text y) (take (length xs - 1) (drop 1 xs)) ≡ entries_text xs
+pub entries_parts : (xs : List ℤ) (d : ℤ) → 1 ≤ length xs → entry_text (get_or xs 0 d) ++ flat_map (λ y. 44 ∷ entry_text y) (take (length xs - 1) (drop 1 xs)) ≡
+    entries_text xs
 entries_parts [] d h = absurd (omega arith)
 entries_parts (x ∷ xs) d h = ap (λ ys. entry_text x ++ flat_map (λ y. 44 ∷ entry_text y) ys) (take_all (length (x ∷ xs) - 1) xs (omega arith))

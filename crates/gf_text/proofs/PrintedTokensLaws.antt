@@ -1,6 +1,7 @@
 -- The tokens of printed numbers, names and powers, where no letter, digit or _ follows.
 -- To cite: IsPiece, piece-none, piece-token, piece-++; number_word, decimal_number, number_piece, names_of_ring. The rest are steps.
-use Rattle.std.proofs.Common.{◌≡◌, ◌≤◌, ◌<◌, ◌^◌, ◌*◌, ◌/◌, ◌%◌, ◌+◌, ◌-◌, ℕ, zero, suc, Bool, true, false, ◌||◌, ◌==◌, nat_eq, max, List, [], ◌∷◌, ◌++◌, length, get_or, decimal, Some, refl, sym, ap, ◌∙◌, subst, arith, inl, inr, bytes_eq, if◌then◌else◌}
+use Rattle.std.proofs.Common.{◌≡◌, ◌≤◌, ◌<◌, ◌^◌, ◌*◌, ◌/◌, ◌%◌, ◌+◌, ◌-◌, ℕ, zero, suc, Bool, true, false, ◌||◌, ◌==◌, nat_eq, max, List, [], ◌∷◌, ◌++◌}
+use Rattle.std.proofs.Common.{length, get_or, decimal, Some, refl, sym, ap, ◌∙◌, subst, arith, inl, inr, bytes_eq, if◌then◌else◌}
 use Rattle.std.proofs.lemmas.Bool.Decides.{nat_tests, eqb_tells}
 use Rattle.std.proofs.lemmas.Fmt.{decimal_by_steps_wide}
 use Rattle.std.proofs.lemmas.List.Folds.{length-prefix_len, list_any-append}
@@ -173,7 +174,8 @@ not_before before n y h =
     (both.0, (or_parts (bytes_eq n y) false both.1).0)
 
 -- a name that stands before isn't one of the new ones
-different : (n : List ℕ) (before ns : List (List ℕ)) (v : ℕ) → ((y : List ℕ) → has before y ≡ false → bytes_eq n y ≡ false) → AreNew before ns → v < length ns → bytes_eq n (get_or ns v []) ≡ false
+different : (n : List ℕ) (before ns : List (List ℕ)) (v : ℕ) → ((y : List ℕ) → has before y ≡ false → bytes_eq n y ≡ false) → AreNew before ns → v < length ns →
+    bytes_eq n (get_or ns v []) ≡ false
 different n before [] v stands new h = absurd (omega arith)
 different n before (m ∷ ms) zero stands new h = stands m new.1
 different n before (m ∷ ms) (suc v) stands new h = different n (before ++ m ∷ []) ms v (λ y k. stands y (not_before before m y k).0) new.2 (omega arith)
@@ -217,7 +219,8 @@ name_of ring is v h = record {
 }
 
 pub names_of_ring : (ring : List (List ℕ)) → IsRing ring → AreNamesFrom ring 0 ring
-names_of_ring ring is = names_from ring 0 ring (λ v h. (let here : v ≡ 0 + v = omega arith in subst (λ k. IsNameOf ring k (get_or ring v [])) here (name_of ring is v h)))
+names_of_ring ring is =
+    names_from ring 0 ring (λ v h. (let here : v ≡ 0 + v = omega arith in subst (λ k. IsNameOf ring k (get_or ring v [])) here (name_of ring is v h)))
 
 -- ---- pieces of a text
 
@@ -239,11 +242,15 @@ module _ (ring : List (List ℕ)) where
   pub piece-token : (t : List ℕ) → ((rest : List ℕ) → goes_on rest ≡ false → IsToken (ring_more ring) t rest) → IsPiece ring t (t ∷ [])
   piece-token t token = record { spelled = λ rest stops. spelled-token (ring_more ring) t rest (token rest stops) }
 
-  pub piece-++ : (xs ys : List ℕ) (ts us : List (List ℕ)) → IsPiece ring xs ts → ((rest : List ℕ) → goes_on rest ≡ false → goes_on (ys ++ rest) ≡ false) → IsPiece ring ys us → IsPiece ring (xs ++ ys) (ts ++ us)
-  piece-++ xs ys ts us one between other = record { spelled = λ rest stops. spelled-++ (ring_more ring) xs ys rest ts us (one.spelled (ys ++ rest) (between rest stops)) (other.spelled rest stops) }
+  pub piece-++ : (xs ys : List ℕ) (ts us : List (List ℕ)) → IsPiece ring xs ts → ((rest : List ℕ) → goes_on rest ≡ false → goes_on (ys ++ rest) ≡ false) →
+      IsPiece ring ys us → IsPiece ring (xs ++ ys) (ts ++ us)
+  piece-++ xs ys ts us one between other = record {
+    spelled = λ rest stops. spelled-++ (ring_more ring) xs ys rest ts us (one.spelled (ys ++ rest) (between rest stops)) (other.spelled rest stops);
+  }
 
   -- a mark, and what follows it
-  pub mark_spelled : (b : ℕ) (bs rest : List ℕ) (ts : List (List ℕ)) → is_space b ≡ false → ring_more ring (b ∷ (bs ++ rest)) ≡ 0 → IsSpelled (ring_more ring) bs rest ts → IsSpelled (ring_more ring) (b ∷ bs) rest ((b ∷ []) ∷ ts)
+  pub mark_spelled : (b : ℕ) (bs rest : List ℕ) (ts : List (List ℕ)) → is_space b ≡ false → ring_more ring (b ∷ (bs ++ rest)) ≡ 0 →
+      IsSpelled (ring_more ring) bs rest ts → IsSpelled (ring_more ring) (b ∷ bs) rest ((b ∷ []) ∷ ts)
   mark_spelled b bs rest ts visible whole later =
       let token : IsToken (ring_more ring) (b ∷ []) (bs ++ rest) = record { first = b; others = []; shape = refl; visible = visible; whole = whole } in
       spelled-++ (ring_more ring) (b ∷ []) bs rest ((b ∷ []) ∷ []) ts (spelled-token (ring_more ring) (b ∷ []) (bs ++ rest) token) later

@@ -1,6 +1,7 @@
 -- A set is read in one way, and is not refused where it is read; so printed sets are read again as what they are.
 -- To cite: all_written, read_once, none_overflows, not_refused, sets_again, bases_again. The rest are steps.
-use Rattle.std.proofs.Common.{◌≡◌, ◌<◌, ◌+◌, ℕ, List, [], ◌∷◌, ◌++◌, length, flat_map, map, slice_get, IfSome, Option, Ok, Err, Some, refl, sym, ap, subst, ◌∙◌, inl, inr, arith}
+use Rattle.std.proofs.Common.{◌≡◌, ◌<◌, ◌+◌, ℕ, List, [], ◌∷◌, ◌++◌, length, flat_map, map, slice_get, IfSome, Option, Ok, Err, Some, refl, sym, ap, subst, ◌∙◌}
+use Rattle.std.proofs.Common.{inl, inr, arith}
 use Rattle.std.proofs.lemmas.Bool.{cases_lt}
 use Rattle.gf_frac.specs.Fraction.{Fraction, ◌+ℚ◌, zero_ℚ}
 use Rattle.gf_frac.specs.Fits.{FitsAdd}
@@ -57,7 +58,8 @@ none_remains f x none a = a.remains (ap (coefficient f) (sym a.monomial) ∙ van
 
 marked_same : (n : ℕ) (f : Terms) (m k : MarkedPolynomial) → HasVariables n f → IsSumMarked f m → IsSumMarked f k → m ≡ k
 marked_same n f m k variables a b =
-    let polys : m.poly ≡ k.poly = descending_unique n m.poly k.poly (a.variables.at n variables) (b.variables.at n variables) a.descending b.descending (λ e. a.sum e ∙ sym (b.sum e)) in
+    let polys : m.poly ≡ k.poly = descending_unique n m.poly k.poly (a.variables.at n variables) (b.variables.at n variables) a.descending b.descending
+    (λ e. a.sum e ∙ sym (b.sum e)) in
     let heads : m.head ≡ k.head = first_same f m.head k.head a.marked b.marked in
     λ i. record { poly = polys i; head = heads i }
 
@@ -78,7 +80,8 @@ all_written n (f ∷ fs) (w ∷ ws) (v ∷ vs) variables a b =
 
 -- ---- a set is read in one way
 
-pub read_once : (ring : List (List ℕ)) (old : Position) (place end : ℕ) (ws vs : List Written) → IsSetRead ring old place ws → IsSetRead ring old end vs → (end ≡ place) × (vs ≡ ws)
+pub read_once : (ring : List (List ℕ)) (old : Position) (place end : ℕ) (ws vs : List Written) → IsSetRead ring old place ws → IsSetRead ring old end vs →
+    (end ≡ place) × (vs ≡ ws)
 read_once ring old place end ws vs a b =
     let same = one_set ring a.names (lexemes (ring_more ring) old.source old.at) b.said a.said end place b.text a.text in
     let said : b.said ≡ a.said = same.0 in
@@ -92,7 +95,8 @@ read_once ring old place end ws vs a b =
 
 fits_last : (c : Fraction) (earlier later : Terms) (t : Term) → SumsFitFrom c (earlier ++ t ∷ later) → FitsAdd (c +ℚ sum_of_coefficients earlier) t.coef
 fits_last c [] later t fits = subst (λ k. FitsAdd k t.coef) (sym (+ℚ-zero c)) fits.0
-fits_last c (s ∷ earlier) later t fits = subst (λ k. FitsAdd k t.coef) (+ℚ_assoc c s.coef (sum_of_coefficients earlier)) (fits_last (c +ℚ s.coef) earlier later t fits.1)
+fits_last c (s ∷ earlier) later t fits = subst (λ k. FitsAdd k t.coef) (+ℚ_assoc c s.coef (sum_of_coefficients earlier))
+    (fits_last (c +ℚ s.coef) earlier later t fits.1)
 
 fits_at : (earlier later : Terms) (t : Term) → 0 < length earlier → SumsFit (earlier ++ t ∷ later) → FitsAdd (sum_of_coefficients earlier) t.coef
 fits_at [] later t some fits = absurd (omega arith)
@@ -101,7 +105,8 @@ fits_at (s ∷ earlier) later t some fits = fits_last s.coef earlier later t fit
 no_overflow : (f : Terms) (o : Overflow) → LikeSumsFit f → IsLikeSumOverflow f o → ⊥
 no_overflow f o fits over =
     let all : SumsFit (over.earlier ++ over.last ∷ over.later) = subst SumsFit over.split (fits.at over.at) in
-    over.leaves (subst (λ k. FitsAdd k o.right) (sym over.left) (subst (λ k. FitsAdd (sum_of_coefficients over.earlier) k) (sym over.right) (fits_at over.earlier over.later over.last over.some all)))
+    over.leaves (subst (λ k. FitsAdd k o.right) (sym over.left) (subst (λ k. FitsAdd (sum_of_coefficients over.earlier) k) (sym over.right)
+    (fits_at over.earlier over.later over.last over.some all)))
 
 fit_in : (front back : List Terms) (f : Terms) → AllSumsFit (front ++ f ∷ back) → LikeSumsFit f
 fit_in [] back f fits = fits.0
@@ -164,7 +169,8 @@ sets_again ring gap ws before text is space kept =
 abbrev nonzero : List MarkedPolynomial → List Written
 nonzero ms = map (λ m. written.Nonzero m) ms
 
-more_same : (ring : List (List ℕ)) (ms : List MarkedPolynomial) → flat_map (λ k. 44 ∷ 10 ∷ marked_text ring k) ms ≡ flat_map (λ v. 44 ∷ ((10 ∷ []) ++ polynomial_text ring v)) (nonzero ms)
+more_same : (ring : List (List ℕ)) (ms : List MarkedPolynomial) →
+    flat_map (λ k. 44 ∷ 10 ∷ marked_text ring k) ms ≡ flat_map (λ v. 44 ∷ ((10 ∷ []) ++ polynomial_text ring v)) (nonzero ms)
 more_same ring [] = refl
 more_same ring (m ∷ ms) = ap (λ l. (44 ∷ 10 ∷ marked_text ring m) ++ l) (more_same ring ms)
 
@@ -224,7 +230,8 @@ module _ (ring : List (List ℕ)) (is : IsRing ring) (old : Position) (place : �
 
 pub bases_again : BasesAreReadAgain
 bases_again ring ms before text is kept =
-    let P : List ℕ → Type 0 = λ bs. IsReadAsMarked ring (record { source = before ++ (bs ++ text); at = length before }) (length before + length bs) (record { variables = length ring; items = ms }) in
+    let P : List ℕ → Type 0 = λ bs. IsReadAsMarked ring (record { source = before ++ (bs ++ text); at = length before }) (length before + length bs)
+    (record { variables = length ring; items = ms }) in
     let words = set_text (10 ∷ []) ring (nonzero ms) in
     subst P (basis_same ring ms)
     (marked_again ring is (record { source = before ++ (words ++ text); at = length before }) (length before + length words) ms

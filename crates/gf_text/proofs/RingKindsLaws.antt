@@ -1,6 +1,7 @@
 -- Of which kind a fault of a ring's text is, and why no ring is read.
 -- To cite: no_ring_same, ring_kind_once, is_unknown, ring_refused. The rest are steps.
-use Rattle.std.proofs.Common.{◌≡◌, ℕ, Bool, true, false, ◌||◌, Err, List, [], ◌∷◌, ◌++◌, length, bytes_eq, refl, sym, ap, subst, ◌∙◌, ◌⊎◌, inl, inr, if◌then◌else◌}
+use Rattle.std.proofs.Common.{◌≡◌, ℕ, Bool, true, false, ◌||◌, Err, List, [], ◌∷◌, ◌++◌, length, bytes_eq, refl, sym, ap, subst, ◌∙◌, ◌⊎◌, inl, inr}
+use Rattle.std.proofs.Common.{if◌then◌else◌}
 use Rattle.gf_text.specs.declared.error.Cause.{Cause}
 use Rattle.gf_text.specs.declared.error.Cause.TheVariants.{Ended, Unexpected, RepeatedName, ZeroDenominator, TooWide, UnknownName}
 use Rattle.gf_text.specs.declared.error.TextError.{TextError}
@@ -16,15 +17,18 @@ use Rattle.gf_text.specs.Rings.{HasNoRing, IsRingCause}
 use Rattle.gf_text.specs.Tokens.{Position, lexemes, word_more}
 use Rattle.gf_text.proofs.MachineLaws.{after-go, after-none, after-++, no_text, caused, goes_on, never}
 use Rattle.gf_text.proofs.FaultsLaws.{IsOneKind, no_text_once}
-use Rattle.gf_text.proofs.RingTextLaws.{Names, goes, stops, ends, is_letter_q, is_bracket, is_variable, is_comma, long_name, long_is_name, long_is_new, long_stops, IsRingHalt, ring_halts, ring_machine}
+use Rattle.gf_text.proofs.RingTextLaws.{Names, goes, stops, ends, is_letter_q, is_bracket, is_variable, is_comma, long_name, long_is_name, long_is_new}
+use Rattle.gf_text.proofs.RingTextLaws.{long_stops, IsRingHalt, ring_halts, ring_machine}
 
 -- ---- the names that were read are among the tokens behind Q and [
 
-peel : (s v : RingState) (t : List ℕ) (ts : Names) → after ring_step s (t ∷ ts) ≡ goes v → (u : RingState) × (ring_step s t ≡ goes u) × (after ring_step u ts ≡ goes v)
+peel : (s v : RingState) (t : List ℕ) (ts : Names) → after ring_step s (t ∷ ts) ≡ goes v →
+    (u : RingState) × (ring_step s t ≡ goes u) × (after ring_step u ts ≡ goes v)
 unfolding after
 peel s v t ts e = by (ring_step s t) ts refl e
   where
-    by : (m : Move RingState Names) (rest : Names) → ring_step s t ≡ m → followed m rest (λ u. after ring_step u rest) ≡ goes v → (u : RingState) × (ring_step s t ≡ goes u) × (after ring_step u rest ≡ goes v)
+    by : (m : Move RingState Names) (rest : Names) → ring_step s t ≡ m → followed m rest (λ u. after ring_step u rest) ≡ goes v →
+        (u : RingState) × (ring_step s t ≡ goes u) × (after ring_step u rest ≡ goes v)
     by (go u) rest is e = (u, is, e)
     by (done a) [] is e = cc
     by (done a) (x ∷ xs) is e = cc
@@ -44,7 +48,8 @@ has_last [] t n h = by (bytes_eq t n) refl h
     by false is h = inl h
 has_last (m ∷ ms) t n h = by (has_last ms t n) (bytes_eq m n) h
   where
-    by : (has (ms ++ t ∷ []) n ≡ true → (has ms n ≡ true) ⊎ (bytes_eq t n ≡ true)) → (v : Bool) → (v || has (ms ++ t ∷ []) n) ≡ true → ((v || has ms n) ≡ true) ⊎ (bytes_eq t n ≡ true)
+    by : (has (ms ++ t ∷ []) n ≡ true → (has ms n ≡ true) ⊎ (bytes_eq t n ≡ true)) → (v : Bool) → (v || has (ms ++ t ∷ []) n) ≡ true →
+        ((v || has ms n) ≡ true) ⊎ (bytes_eq t n ≡ true)
     by later true h = inl refl
     by later false h = later h
 
@@ -89,7 +94,8 @@ are_listed [] names n e h =
 are_listed (q ∷ []) names n e h =
     let p = peel (at.Letter, []) (at.Variable, names) q [] e in
     let is = (is_letter_q [] q (bytes_eq q letter_q) refl p.0 p.1).1 in
-    let place = same_place (at.Bracket, []) (at.Variable, names) (sym (after-none ring_step (at.Bracket, [])) ∙ ap (λ u. after ring_step u []) (sym is) ∙ p.2) in
+    let place = same_place (at.Bracket, []) (at.Variable, names) (sym (after-none ring_step (at.Bracket, [])) ∙ ap (λ u. after ring_step u []) (sym is) ∙
+    p.2) in
     cc
 are_listed (q ∷ b ∷ ts) names n e h =
     let p = peel (at.Letter, []) (at.Variable, names) q (b ∷ ts) e in
@@ -120,7 +126,8 @@ new_names ts names reached = λ n named other.
     let new = is_new ts names n reached other in
     let on : ring_step (at.Variable, names) n ≡ goes (at.Behind, names ++ n ∷ []) = rw (named, new) refl in
     goes_on ring_machine (ts ++ n ∷ []) (at.Behind, names ++ n ∷ [])
-    (after-++ ring_step (at.Letter, []) (at.Variable, names) ts (n ∷ []) reached ∙ after-go ring_step (at.Variable, names) (at.Behind, names ++ n ∷ []) n [] on ∙ after-none ring_step (at.Behind, names ++ n ∷ []))
+    (after-++ ring_step (at.Letter, []) (at.Variable, names) ts (n ∷ []) reached ∙ after-go ring_step (at.Variable, names) (at.Behind, names ++ n ∷ []) n
+    [] on ∙ after-none ring_step (at.Behind, names ++ n ∷ []))
 
 -- where some name can't stand, not each new name may
 not_each : (ts : Names) (s : RingState) → Reaches ts s → ring_step s (long_name (listed ts)) ≡ stops Unexpected → NewNamesMayFollow ts → ⊥
@@ -133,7 +140,8 @@ unexpected ts (at.Letter, names) t reached stop named all = not_each ts (at.Lett
 unexpected ts (at.Bracket, names) t reached stop named all = not_each ts (at.Bracket, names) reached (long_stops (listed ts) names).bracket all
 unexpected ts (at.Variable, names) t reached stop named all = by (is_name t) (has names t) named stop
   where
-    by : (v w : Bool) → v ≡ true → (if v then (if w then stops RepeatedName else goes (at.Behind, names ++ t ∷ [])) else stops Unexpected) ≡ stops Unexpected → ⊥
+    by : (v w : Bool) → v ≡ true → (if v then (if w then stops RepeatedName else goes (at.Behind, names ++ t ∷ [])) else stops Unexpected) ≡ stops Unexpected →
+        ⊥
     by true true is e = cc
     by true false is e = cc
     by false w is e = cc
@@ -152,13 +160,15 @@ repeated ts (at.Bracket, names) t reached stop = by (bytes_eq t bracket) stop
     by false e = cc
 repeated ts (at.Variable, names) t reached stop = by (is_name t) (has names t) refl refl stop
   where
-    by : (v w : Bool) → is_name t ≡ v → has names t ≡ w → (if v then (if w then stops RepeatedName else goes (at.Behind, names ++ t ∷ [])) else stops Unexpected) ≡ stops RepeatedName → IsRingKind ts t RepeatedName
+    by : (v w : Bool) → is_name t ≡ v → has names t ≡ w → (if v then (if w then stops RepeatedName else goes (at.Behind, names ++ t ∷ [])) else stops
+        Unexpected) ≡ stops RepeatedName → IsRingKind ts t RepeatedName
     by true true named there e = (named, are_listed ts names t reached there, new_names ts names reached)
     by true false named there e = cc
     by false w named there e = cc
 repeated ts (at.Behind, names) t reached stop = by (bytes_eq t comma) (bytes_eq t bracket_end) stop
   where
-    by : (v w : Bool) → (if v then goes (at.Variable, names) else if w then ends names else stops Unexpected) ≡ stops RepeatedName → IsRingKind ts t RepeatedName
+    by : (v w : Bool) → (if v then goes (at.Variable, names) else if w then ends names else stops Unexpected) ≡ stops RepeatedName →
+        IsRingKind ts t RepeatedName
     by true w e = cc
     by false true e = cc
     by false false e = cc
@@ -196,7 +206,10 @@ no_ring_same old e d h k = no_text_once IsRingText IsRingKind ring_kind_once (le
 not_refused_as : (source : List ℕ) (from : ℕ) (f : Fault) → ring_at source from ≡ Err f → (f.cause ≡ TooWide → ⊥) × (f.cause ≡ UnknownName → ⊥)
 not_refused_as source from f e =
     let P : Cause → Type 0 = λ c. (c ≡ TooWide → ⊥) × (c ≡ UnknownName → ⊥) in
-    caused ring_step P (λ h. cc, λ h. cc) (λ s t cause h. (λ is. subst IsRingHalt is (ring_halts s t cause h), λ is. subst IsRingHalt is (ring_halts s t cause h)))
+    caused ring_step P (λ h. cc, λ h. cc) (λ s t cause h. (
+      λ is. subst IsRingHalt is (ring_halts s t cause h),
+      λ is. subst IsRingHalt is (ring_halts s t cause h),
+    ))
     (at.Letter, []) (length source) (lexemes word_more source from) f e
 
 is_too_wide : (place : ℕ) (cause : Cause) (at : ℕ) → refusal_at place cause ≡ errors.TooWide at → cause ≡ TooWide
@@ -220,7 +233,8 @@ is_unknown place UnknownName at e = refl
 no_ring : (source : List ℕ) (from : ℕ) (error : TextError) → IsRefusedAs error (ring_at source from) → HasNoRing (record { source = source; at = from }) error
 no_ring source from error r = no_text ring_machine IsRingKind ring_kinds (length source) (lexemes word_more source from) error r
 
-pub ring_refused : (source : List ℕ) (from : ℕ) (error : TextError) → Fails error (ring_at source from) → IsRingCause (record { source = source; at = from }) error
+pub ring_refused : (source : List ℕ) (from : ℕ) (error : TextError) → Fails error (ring_at source from) →
+    IsRingCause (record { source = source; at = from }) error
 ring_refused source from (errors.Overflow o) h = absurd h
 ring_refused source from (errors.Exponent o) h = absurd h
 ring_refused source from (errors.Syntax s) h = no_ring source from (errors.Syntax s) h

@@ -1,6 +1,7 @@
 -- The machine of rings reads exactly what the grammar of rings says, and a printed ring is read again.
 -- To cite: ring_machine, ring_reads, ring_read, ring_halts, long_name, long_is_name, long_is_new, long_stops, one_ring, rings_again. The rest are steps.
-use Rattle.std.proofs.Common.{◌≡◌, ◌<◌, ◌≤◌, ℕ, zero, suc, ◌+◌, Bool, true, false, ◌||◌, List, [], ◌∷◌, ◌++◌, length, flat_map, Ok, refl, sym, ap, ◌∙◌, subst, inl, inr, append_assoc, append-nil, bytes_eq, arith, if◌then◌else◌, replicate}
+use Rattle.std.proofs.Common.{◌≡◌, ◌<◌, ◌≤◌, ℕ, zero, suc, ◌+◌, Bool, true, false, ◌||◌, List, [], ◌∷◌, ◌++◌, length, flat_map, Ok, refl, sym, ap, ◌∙◌, subst}
+use Rattle.std.proofs.Common.{inl, inr, append_assoc, append-nil, bytes_eq, arith, if◌then◌else◌, replicate}
 use Rattle.std.proofs.lemmas.List.{length-replicate}
 use Rattle.std.specs.List.{list_all}
 use Rattle.gf_text.specs.declared.TheConstants.{MOST_VARIABLES}
@@ -32,11 +33,13 @@ stops cause = halt cause
 abbrev pub ends : Names → Move RingState Names
 ends names = done names
 
-pub is_letter_q : (before : Names) (t : List ℕ) (v : Bool) → bytes_eq t letter_q ≡ v → (u : RingState) → (if v then goes (at.Bracket, before) else stops Unexpected) ≡ goes u → (t ≡ letter_q) × (u ≡ (at.Bracket, before))
+pub is_letter_q : (before : Names) (t : List ℕ) (v : Bool) → bytes_eq t letter_q ≡ v → (u : RingState) →
+    (if v then goes (at.Bracket, before) else stops Unexpected) ≡ goes u → (t ≡ letter_q) × (u ≡ (at.Bracket, before))
 is_letter_q before t true is u e = (is_mark t letter_q is, cc)
 is_letter_q before t false is u e = cc
 
-pub is_bracket : (before : Names) (t : List ℕ) (v : Bool) → bytes_eq t bracket ≡ v → (u : RingState) → (if v then goes (at.Variable, before) else stops Unexpected) ≡ goes u → (t ≡ bracket) × (u ≡ (at.Variable, before))
+pub is_bracket : (before : Names) (t : List ℕ) (v : Bool) → bytes_eq t bracket ≡ v → (u : RingState) →
+    (if v then goes (at.Variable, before) else stops Unexpected) ≡ goes u → (t ≡ bracket) × (u ≡ (at.Variable, before))
 is_bracket before t true is u e = (is_mark t bracket is, cc)
 is_bracket before t false is u e = cc
 
@@ -47,12 +50,14 @@ is_variable before t true true named new u e = cc
 is_variable before t true false named new u e = (named, new, cc)
 is_variable before t false w named new u e = cc
 
-pub is_comma : (before : Names) (t : List ℕ) (v w : Bool) → bytes_eq t comma ≡ v → (u : RingState) → (if v then goes (at.Variable, before) else if w then ends before else stops Unexpected) ≡ goes u → (t ≡ comma) × (u ≡ (at.Variable, before))
+pub is_comma : (before : Names) (t : List ℕ) (v w : Bool) → bytes_eq t comma ≡ v → (u : RingState) →
+    (if v then goes (at.Variable, before) else if w then ends before else stops Unexpected) ≡ goes u → (t ≡ comma) × (u ≡ (at.Variable, before))
 is_comma before t true w is u e = (is_mark t comma is, cc)
 is_comma before t false true is u e = cc
 is_comma before t false false is u e = cc
 
-is_end : (before names : Names) (t : List ℕ) (v w : Bool) → bytes_eq t bracket_end ≡ w → (if v then goes (at.Variable, before) else if w then ends before else stops Unexpected) ≡ ends names → (t ≡ bracket_end) × (before ≡ names)
+is_end : (before names : Names) (t : List ℕ) (v w : Bool) → bytes_eq t bracket_end ≡ w →
+    (if v then goes (at.Variable, before) else if w then ends before else stops Unexpected) ≡ ends names → (t ≡ bracket_end) × (before ≡ names)
 is_end before names t true w is e = cc
 is_end before names t false true is e = (is_mark t bracket_end is, cc)
 is_end before names t false false is e = cc
@@ -62,7 +67,8 @@ never_first : {X : Type 0} (u : RingState) (v : Bool) (names : Names) → (if v 
 never_first u true names e = cc
 never_first u false names e = cc
 
-never_name : {X : Type 0} (u : RingState) (v w : Bool) (names : Names) → (if v then (if w then stops RepeatedName else goes u) else stops Unexpected) ≡ ends names → X
+never_name : {X : Type 0} (u : RingState) (v w : Bool) (names : Names) →
+    (if v then (if w then stops RepeatedName else goes u) else stops Unexpected) ≡ ends names → X
 never_name u true true names e = cc
 never_name u true false names e = cc
 never_name u false w names e = cc
@@ -93,7 +99,8 @@ with_comma before names t ts is n = record {
   new = (n.named, n.new, n.more.new);
 }
 
-named_said : (t : List ℕ) (ts before names : Names) → ((u : Names) → after ring_step (at.Behind, u) ts ≡ done names → More u names ts) → after ring_step (at.Variable, before) (t ∷ ts) ≡ done names → Named before names (t ∷ ts)
+named_said : (t : List ℕ) (ts before names : Names) → ((u : Names) → after ring_step (at.Behind, u) ts ≡ done names → More u names ts) →
+    after ring_step (at.Variable, before) (t ∷ ts) ≡ done names → Named before names (t ∷ ts)
 named_said t ts before names later e = elim (first ring_step (at.Variable, before) t ts names e) [
   | inr d ↦ never_name (at.Behind, before ++ t ∷ []) (is_name t) (has before t) names d.0
   | inl g ↦
@@ -101,7 +108,8 @@ named_said t ts before names later e = elim (first ring_step (at.Variable, befor
       record { name = t; rest = ts; tokens = refl; named = is.0; new = is.1; more = later (before ++ t ∷ []) (ap (λ u. after ring_step u ts) (sym is.2) ∙ g.2) }
 ]
 
-comma_said : (t : List ℕ) (before names ts : Names) → (after ring_step (at.Variable, before) ts ≡ done names → Named before names ts) → after ring_step (at.Behind, before) (t ∷ ts) ≡ done names → More before names (t ∷ ts)
+comma_said : (t : List ℕ) (before names ts : Names) → (after ring_step (at.Variable, before) ts ≡ done names → Named before names ts) →
+    after ring_step (at.Behind, before) (t ∷ ts) ≡ done names → More before names (t ∷ ts)
 comma_said t before names ts later e = elim (first ring_step (at.Behind, before) t ts names e) [
   | inr d ↦
       let is = is_end before names t (bytes_eq t comma) (bytes_eq t bracket_end) refl d.0 in
@@ -151,7 +159,8 @@ ring_said (t ∷ ts) names e = elim (first ring_step (at.Letter, []) t ts names 
 
 -- ---- a ring's text is read
 
-variable_go : (before : Names) (n : List ℕ) (ts : Names) → is_name n ≡ true → has before n ≡ false → after ring_step (at.Variable, before) (n ∷ ts) ≡ after ring_step (at.Behind, before ++ n ∷ []) ts
+variable_go : (before : Names) (n : List ℕ) (ts : Names) → is_name n ≡ true → has before n ≡ false →
+    after ring_step (at.Variable, before) (n ∷ ts) ≡ after ring_step (at.Behind, before ++ n ∷ []) ts
 variable_go before n ts named new = after-go ring_step (at.Variable, before) (at.Behind, before ++ n ∷ []) n ts (rw (named, new) refl)
 
 more_given : (ns before : Names) → AreNew before ns → after ring_step (at.Behind, before) (more_names ns ++ bracket_end ∷ []) ≡ done (before ++ ns)
@@ -289,10 +298,13 @@ ring_machine = record {
   tells = λ s t e. ring_halts s t Ended e;
 }
 
-pub ring_reads : (source : List ℕ) (from : ℕ) (names : Names) (place : ℕ) → ring_at source from ≡ Ok (names, place) → Reads IsRingText (lexemes word_more source from) names place
-ring_reads source from names place e = reads ring_step IsRingText (at.Letter, []) (length source) (lexemes word_more source from) names place (λ ts. ring_said ts names) e
+pub ring_reads : (source : List ℕ) (from : ℕ) (names : Names) (place : ℕ) → ring_at source from ≡ Ok (names, place) →
+    Reads IsRingText (lexemes word_more source from) names place
+ring_reads source from names place e = reads ring_step IsRingText (at.Letter, []) (length source) (lexemes word_more source from) names place
+    (λ ts. ring_said ts names) e
 
-pub ring_read : (source : List ℕ) (from : ℕ) (names : Names) (place : ℕ) → ring_at source from ≡ Ok (names, place) → length names ≤ MOST_VARIABLES → IsRingRead (record { source = source; at = from }) place names
+pub ring_read : (source : List ℕ) (from : ℕ) (names : Names) (place : ℕ) → ring_at source from ≡ Ok (names, place) → length names ≤ MOST_VARIABLES →
+    IsRingRead (record { source = source; at = from }) place names
 ring_read source from names place e few =
     let r = ring_reads source from names place e in
     record { text = r; ring = record { some = r.text.some; few = few; different = r.text.different } }
@@ -329,7 +341,13 @@ read_as old place names a = record { read = a; only = only; taken = taken }
     only end ns b = let same = one_ring xs ns names end place b.text a.text in (same.1, same.0)
 
     not_many : (count : ℕ) → HasTooMany old count → ⊥
-    not_many count h = let same = one_ring xs names h.names place h.place a.text h.text in omega (arith, ap (λ (l : Names). length l) same.0, a.ring.few, h.number, h.many)
+    not_many count h = let same = one_ring xs names h.names place h.place a.text h.text in omega (
+      arith,
+      ap (λ (l : Names). length l) same.0,
+      a.ring.few,
+      h.number,
+      h.many,
+    )
 
     taken : (e : TextError) → IsRingCause old e → e ≡ errors.Memory
     taken (errors.Overflow o) h = absurd h
@@ -346,15 +364,23 @@ rings_again [] before text ring = absurd (omega (arith, ring.some))
 rings_again (n ∷ ns) before text ring =
     let more = flat_map (λ m. 44 ∷ m) ns in
     let end = 93 ∷ text in
-    let name : IsSpelled word_more n (more ++ end) (n ∷ []) = spelled-token word_more n (more ++ end) (word_token n (more ++ end) ring.different.0 (name_stops ns text)) in
+    let name : IsSpelled word_more n (more ++ end) (n ∷ []) =
+    spelled-token word_more n (more ++ end) (word_token n (more ++ end) ring.different.0 (name_stops ns text)) in
     let later = names_spelled (n ∷ []) ns text ring.different.2 in
     let names : IsSpelled word_more (n ++ more) end (n ∷ more_names ns) = spelled-++ word_more n more end (n ∷ []) (more_names ns) name later in
     let opened : IsSpelled word_more (91 ∷ (n ++ more)) end (bracket ∷ n ∷ more_names ns) =
-    spelled-++ word_more bracket (n ++ more) end (bracket ∷ []) (n ∷ more_names ns) (spelled-token word_more bracket ((n ++ more) ++ end) (mark_token 91 ((n ++ more) ++ end) refl refl)) names in
+    spelled-++ word_more bracket (n ++ more) end (bracket ∷ []) (n ∷ more_names ns)
+    (spelled-token word_more bracket ((n ++ more) ++ end) (mark_token 91 ((n ++ more) ++ end) refl refl)) names in
     let whole : IsSpelled word_more (81 ∷ 91 ∷ (n ++ more)) end (letter_q ∷ bracket ∷ n ∷ more_names ns) =
-    spelled-++ word_more letter_q (91 ∷ (n ++ more)) end (letter_q ∷ []) (bracket ∷ n ∷ more_names ns) (spelled-token word_more letter_q (91 ∷ ((n ++ more) ++ end)) (mark_token 81 (91 ∷ ((n ++ more) ++ end)) refl refl)) opened in
-    let said : IsRingText ((letter_q ∷ bracket ∷ n ∷ more_names ns) ++ bracket_end ∷ []) (n ∷ ns) = record { tokens = refl; some = ring.some; different = ring.different } in
+    spelled-++ word_more letter_q (91 ∷ (n ++ more)) end (letter_q ∷ []) (bracket ∷ n ∷ more_names ns)
+    (spelled-token word_more letter_q (91 ∷ ((n ++ more) ++ end)) (mark_token 81 (91 ∷ ((n ++ more) ++ end)) refl refl)) opened in
+    let said : IsRingText ((letter_q ∷ bracket ∷ n ∷ more_names ns) ++ bracket_end ∷ []) (n ∷ ns) = record {
+      tokens = refl;
+      some = ring.some;
+      different = ring.different;
+    } in
     read_as (record { source = before ++ (ring_words (n ∷ ns) ++ text); at = length before }) (length before + length (ring_words (n ∷ ns))) (n ∷ ns) (record {
-      text = spelled-read word_more IsRingText (n ∷ ns) before (81 ∷ 91 ∷ (n ++ more)) bracket_end text (letter_q ∷ bracket ∷ n ∷ more_names ns) whole (mark_token 93 text refl refl) said;
+      text = spelled-read word_more IsRingText (n ∷ ns) before (81 ∷ 91 ∷ (n ++ more)) bracket_end text (letter_q ∷ bracket ∷ n ∷ more_names ns) whole
+          (mark_token 93 text refl refl) said;
       ring = ring;
     })

@@ -1,7 +1,8 @@
 -- The machine of sets at powers of variables, and at what may follow them.
 -- A name or a number is read before it is known what it belongs to: behind a number a / may follow, behind a name a ^. At
 -- any other token the machine does what it does behind a whole factor (`Like`).
--- To cite: Leads, Like, Takes; behind_like, number_like; like_sign, like_comma, like_end; Behind, then_factors, behind_at, factors_read, monomial_read. The rest are steps.
+-- To cite: Leads, Like, Takes; behind_like, number_like; like_sign, like_comma, like_end; Behind, then_factors, behind_at, factors_read, monomial_read. The
+-- rest are steps.
 use Rattle.std.proofs.Common.{◌≡◌, ℕ, Bool, true, false, List, [], ◌∷◌, ◌++◌, Some, refl, sym, ap, ◌∙◌, inl, inr, append_assoc, append-nil, bytes_eq}
 use Rattle.gf_text.specs.declared.tree.Factor.{Factor}
 use Rattle.gf_text.specs.declared.set_reader.SetPlace.TheVariants as at
@@ -9,7 +10,8 @@ use Rattle.gf_text.specs.declared.set_reader.Part.{Part}
 use Rattle.gf_text.specs.Machine.{go, done, after}
 use Rattle.gf_text.specs.Tokens.{decimal_value}
 use Rattle.gf_text.specs.RingText.{IsRing}
-use Rattle.gf_text.specs.SetText.{variable, sign, most_exponent, IsFactorText, IsStar, AreMoreFactors, IsMonomialText, SetState, with_variable, with_factor, next_term, all_of, next_polynomial, behind_step, set_step}
+use Rattle.gf_text.specs.SetText.{variable, sign, most_exponent, IsFactorText, IsStar, AreMoreFactors, IsMonomialText, SetState, with_variable, with_factor}
+use Rattle.gf_text.specs.SetText.{next_term, all_of, next_polynomial, behind_step, set_step}
 use Rattle.gf_text.specs.Marks.{plus_mark, minus_mark, comma, star, slash, caret, brace_end}
 use Rattle.gf_text.proofs.MachineLaws.{after-go, after-done}
 use Rattle.gf_text.proofs.SetTokensLaws.{named_word, no_name, word_no_mark, number_within}
@@ -93,7 +95,8 @@ module _ (ring : List (List ℕ)) (is_ring : IsRing ring) where
 
   -- ---- factors
 
-  factor_read : (f : Factor) (ts : Texts) → IsFactorText ring ts f → (s : SetState) (p : Part) → Takes ring s p → (rest : Texts) → Behind ring s ts rest (record p { factors = p.factors ++ f ∷ [] })
+  factor_read : (f : Factor) (ts : Texts) → IsFactorText ring ts f → (s : SetState) (p : Part) → Takes ring s p → (rest : Texts) →
+      Behind ring s ts rest (record p { factors = p.factors ++ f ∷ [] })
   factor_read f ts (name, named, inl h) s p takes rest =
       let q = with_variable p f.variable in
       record {
@@ -119,7 +122,8 @@ module _ (ring : List (List ℕ)) (is_ring : IsRing ring) where
       }
 
   -- tokens, and then factors
-  pub then_factors : (s : SetState) (ts others rest : Texts) (p : Part) (fs : List Factor) (b : Behind ring s ts (others ++ rest) p) → Behind ring b.state others rest (record b.part { factors = b.part.factors ++ fs })
+  pub then_factors : (s : SetState) (ts others rest : Texts) (p : Part) (fs : List Factor) (b : Behind ring s ts (others ++ rest) p) →
+      Behind ring b.state others rest (record b.part { factors = b.part.factors ++ fs })
       → Behind ring s (ts ++ others) rest (record p { factors = p.factors ++ fs })
   then_factors s ts others rest p fs b r = record {
     state = r.state;
@@ -157,11 +161,13 @@ module _ (ring : List (List ℕ)) (is_ring : IsRing ring) where
       → (s : SetState) (p : Part) → Takes ring s p → Behind ring s (first ++ others) rest (record p { factors = p.factors ++ f ∷ fs })
   next_read f fs first others rest factor later s p takes =
       let b = factor_read f first factor s p takes (others ++ rest) in
-      behind_at s (first ++ others) (first ++ others) rest (record p { factors = (p.factors ++ f ∷ []) ++ fs }) (record p { factors = p.factors ++ f ∷ fs }) refl
+      behind_at s (first ++ others) (first ++ others) rest (record p { factors = (p.factors ++ f ∷ []) ++ fs }) (record p { factors = p.factors ++ f ∷ fs })
+      refl
       (ap (λ l. record p { factors = l }) (append_assoc p.factors (f ∷ []) fs))
       (then_factors s first others rest (record p { factors = p.factors ++ f ∷ [] }) fs b (later b.state b.part b.like))
 
-  pub factors_read : (fs : List Factor) (ts : Texts) → AreMoreFactors ring ts fs → (rest : Texts) (s : SetState) (p : Part) → Like ring s p → Behind ring s ts rest (record p { factors = p.factors ++ fs })
+  pub factors_read : (fs : List Factor) (ts : Texts) → AreMoreFactors ring ts fs → (rest : Texts) (s : SetState) (p : Part) → Like ring s p →
+      Behind ring s ts rest (record p { factors = p.factors ++ fs })
   factors_read [] ts h rest s p like = record {
     state = s;
     part = p;
@@ -183,7 +189,8 @@ module _ (ring : List (List ℕ)) (is_ring : IsRing ring) where
             ∙ r.on;
       }
 
-  pub monomial_read : (fs : List Factor) (ts : Texts) → IsMonomialText ring ts fs → (rest : Texts) (s : SetState) (p : Part) → Takes ring s p → Behind ring s ts rest (record p { factors = p.factors ++ fs })
+  pub monomial_read : (fs : List Factor) (ts : Texts) → IsMonomialText ring ts fs → (rest : Texts) (s : SetState) (p : Part) → Takes ring s p →
+      Behind ring s ts rest (record p { factors = p.factors ++ fs })
   monomial_read [] ts h rest s p takes = absurd h
   monomial_read (f ∷ fs) ts (first, others, is, factor, later) rest s p takes =
       behind_at s ts (first ++ others) rest (record p { factors = p.factors ++ f ∷ fs }) (record p { factors = p.factors ++ f ∷ fs }) is refl

@@ -1,6 +1,7 @@
 -- A set is read polynomial by polynomial: the machine only adds to the polynomials that were read before.
 -- To cite: following, Reading, reading_start, reading_go, reading_done, reading_halt, reading_ended, go_within, done_within. The rest are steps.
-use Rattle.std.proofs.Common.{◌≡◌, ℕ, Bool, true, false, nat_le, ◌&&◌, ◌==◌, Ok, Err, List, [], ◌∷◌, ◌++◌, length, Option, Some, None, refl, sym, ap, subst, ◌∙◌, bytes_eq, append_assoc, append-nil, if◌then◌else◌}
+use Rattle.std.proofs.Common.{◌≡◌, ℕ, Bool, true, false, nat_le, ◌&&◌, ◌==◌, Ok, Err, List, [], ◌∷◌, ◌++◌, length, Option, Some, None, refl, sym, ap, subst}
+use Rattle.std.proofs.Common.{◌∙◌, bytes_eq, append_assoc, append-nil, if◌then◌else◌}
 use Rattle.gf_text.specs.declared.error.Cause.{Cause}
 use Rattle.gf_text.specs.declared.error.Cause.TheVariants.{Ended, Unexpected, ZeroDenominator, TooWide, UnknownName}
 use Rattle.gf_text.specs.declared.tree.WrittenTerm.{WrittenTerm}
@@ -10,7 +11,9 @@ use Rattle.gf_text.specs.declared.set_reader.Part.{Part}
 use Rattle.gf_text.specs.Machine.{Lexeme, behind, texts, go, done, halt, run, followed, after}
 use Rattle.gf_text.specs.Tokens.{is_number, decimal_value, lexemes, ring_more}
 use Rattle.gf_text.specs.RingText.{IsRing}
-use Rattle.gf_text.specs.SetText.{variable, most, most_exponent, SetState, SetMove, with_factor, with_numer, with_denom, part_terms, next_term, all_of, next_polynomial, is_word, name_or_by, number_or, term_or, front_step, end_step, behind_step, denominator_step, exponent_step, token_step, set_step, empty, set_at}
+use Rattle.gf_text.specs.SetText.{variable, most, most_exponent, SetState, SetMove, with_factor, with_numer, with_denom, part_terms, next_term, all_of}
+use Rattle.gf_text.specs.SetText.{next_polynomial, is_word, name_or_by, number_or, term_or, front_step, end_step, behind_step, denominator_step, exponent_step}
+use Rattle.gf_text.specs.SetText.{token_step, set_step, empty, set_at}
 use Rattle.gf_text.specs.Marks.{plus_mark, minus_mark, comma, star, slash, caret, brace, brace_end}
 use Rattle.gf_text.specs.Limits.{ArePolynomialsWithin}
 use Rattle.gf_text.proofs.LimitsLaws.{set_within}
@@ -45,7 +48,8 @@ module _ (ring : List (List ℕ)) (qs : Sets) where
   name_follows (Some n) p t x v h = refl
   name_follows None p t x v h = either (is_word t) (halt UnknownName) x (halt UnknownName) v refl h
 
-  number_follows : (t : List ℕ) (limit : ℕ) (x y v w : SetMove) → v ≡ follows qs x → w ≡ follows qs y → number_or t limit v w ≡ follows qs (number_or t limit x y)
+  number_follows : (t : List ℕ) (limit : ℕ) (x y v w : SetMove) → v ≡ follows qs x → w ≡ follows qs y →
+      number_or t limit v w ≡ follows qs (number_or t limit x y)
   number_follows t limit x y v w h k =
       either (is_number t) (if nat_le (decimal_value t) limit then x else halt TooWide) y (if nat_le (decimal_value t) limit then v else halt TooWide) w
       (either (nat_le (decimal_value t) limit) x (halt TooWide) v (halt TooWide) h refl) k
@@ -82,22 +86,27 @@ module _ (ring : List (List ℕ)) (qs : Sets) where
   denominator_follows : (p : Part) (t : List ℕ) → denominator_step (following qs p) t ≡ follows qs (denominator_step p t)
   denominator_follows p t =
       either (is_number t && decimal_value t == 0) (halt ZeroDenominator) _ (halt ZeroDenominator) _ refl
-      (number_follows t most (go (at.Behind, with_denom p (decimal_value t))) (halt Unexpected) (go (at.Behind, with_denom (following qs p) (decimal_value t))) (halt Unexpected) refl refl)
+      (number_follows t most (go (at.Behind, with_denom p (decimal_value t))) (halt Unexpected) (go (at.Behind, with_denom (following qs p) (decimal_value t)))
+      (halt Unexpected) refl refl)
 
   exponent_follows : (p : Part) (t : List ℕ) → exponent_step (following qs p) t ≡ follows qs (exponent_step p t)
   exponent_follows p t =
-      number_follows t most_exponent (go (at.Behind, with_factor p (decimal_value t))) (halt Unexpected) (go (at.Behind, with_factor (following qs p) (decimal_value t))) (halt Unexpected) refl refl
+      number_follows t most_exponent (go (at.Behind, with_factor p (decimal_value t))) (halt Unexpected)
+      (go (at.Behind, with_factor (following qs p) (decimal_value t))) (halt Unexpected) refl refl
 
   token_follows : (place : SetPlace) (p : Part) (t : List ℕ) → token_step ring place (following qs p) t ≡ follows qs (token_step ring place p t)
   token_follows at.Brace p t = either (bytes_eq t brace) (go (at.First, p)) (halt Unexpected) (go (at.First, following qs p)) (halt Unexpected) refl refl
-  token_follows at.First p t = either (bytes_eq t brace_end) (done p.polynomials) (front_step ring p t) (done (qs ++ p.polynomials)) (front_step ring (following qs p) t) refl (front_follows p t)
+  token_follows at.First p t = either (bytes_eq t brace_end) (done p.polynomials) (front_step ring p t)
+      (done (qs ++ p.polynomials)) (front_step ring (following qs p) t) refl (front_follows p t)
   token_follows at.Polynomial p t = front_follows p t
   token_follows at.Term p t = term_follows p t
-  token_follows at.Number p t = either (bytes_eq t slash) (go (at.Denominator, p)) (behind_step ring p t) (go (at.Denominator, following qs p)) (behind_step ring (following qs p) t) refl (behind_follows p t)
+  token_follows at.Number p t = either (bytes_eq t slash) (go (at.Denominator, p)) (behind_step ring p t) (go (at.Denominator, following qs p))
+      (behind_step ring (following qs p) t) refl (behind_follows p t)
   token_follows at.Denominator p t = denominator_follows p t
   token_follows at.Star p t = name_follows (variable ring t) p t (halt Unexpected) (halt Unexpected) refl
   token_follows at.Name p t =
-      either (bytes_eq t caret) (go (at.Exponent, p)) (behind_step ring (with_factor p 1) t) (go (at.Exponent, following qs p)) (behind_step ring (following qs (with_factor p 1)) t) refl (behind_follows (with_factor p 1) t)
+      either (bytes_eq t caret) (go (at.Exponent, p)) (behind_step ring (with_factor p 1) t) (go (at.Exponent, following qs p))
+      (behind_step ring (following qs (with_factor p 1)) t) refl (behind_follows (with_factor p 1) t)
   token_follows at.Exponent p t = exponent_follows p t
   token_follows at.Behind p t = behind_follows p t
 
@@ -165,9 +174,11 @@ module _ (ring : List (List ℕ)) (is_ring : IsRing ring) where
       let l = (set_machine ring is_ring).live s in
       let whole = after-++ (set_step ring) (at.Brace, empty) s ts l.0 reached ∙ l.2 in
       let b = begins ring s l.0 l.1 l.2 in
-      within_front (length ring) s.1.polynomials b.0 (subst (ArePolynomialsWithin (length ring)) b.1 (set_within ring (ts ++ l.0) l.1 (set_said ring (ts ++ l.0) l.1 whole)))
+      within_front (length ring) s.1.polynomials b.0 (subst (ArePolynomialsWithin (length ring)) b.1
+      (set_within ring (ts ++ l.0) l.1 (set_said ring (ts ++ l.0) l.1 whole)))
 
-  module _ (source : List ℕ) (from place next : ℕ) (x : Lexeme) (s : SetState) (said : Sets) (r : Reading ring source from place s said) (tokens : lexemes (ring_more ring) source place ≡ x ∷ lexemes (ring_more ring) source next) where
+  module _ (source : List ℕ) (from place next : ℕ) (x : Lexeme) (s : SetState) (said : Sets) (r : Reading ring source from place s said)
+      (tokens : lexemes (ring_more ring) source place ≡ x ∷ lexemes (ring_more ring) source next) where
     moves : (m : SetMove) → set_step ring s x.text ≡ m → set_step ring (s.0, following said s.1) x.text ≡ follows said m
     moves m is = token_follows ring said s.0 s.1 x.text ∙ ap (follows said) is
 
@@ -187,10 +198,12 @@ module _ (ring : List (List ℕ)) (is_ring : IsRing ring) where
         within_back (length ring) said u.1.polynomials (reached_within n.front (u.0, following said u.1) n.reached)
 
     -- the machine goes on, and what it has read is kept elsewhere
-    pub reading_go : (u : SetState) → set_step ring s x.text ≡ go u → Reading ring source from next (u.0, record (u.1) { polynomials = [] }) (said ++ u.1.polynomials)
+    pub reading_go : (u : SetState) → set_step ring s x.text ≡ go u →
+        Reading ring source from next (u.0, record (u.1) { polynomials = [] }) (said ++ u.1.polynomials)
     reading_go u is =
         let n = reading_on u is in
-        let same : following said u.1 ≡ following (said ++ u.1.polynomials) (record (u.1) { polynomials = [] }) = ap (λ l. record (u.1) { polynomials = l }) (sym (append-nil (said ++ u.1.polynomials))) in
+        let same : following said u.1 ≡ following (said ++ u.1.polynomials) (record (u.1) { polynomials = [] }) =
+        ap (λ l. record (u.1) { polynomials = l }) (sym (append-nil (said ++ u.1.polynomials))) in
         record {
           front = n.front;
           reached = n.reached ∙ ap (λ (p : Part). go (u.0, p)) same;
@@ -210,5 +223,6 @@ module _ (ring : List (List ℕ)) (is_ring : IsRing ring) where
     pub reading_halt : (cause : Cause) → set_step ring s x.text ≡ halt cause → set_at ring source from ≡ Err (record { at = x.at; cause = cause })
     reading_halt cause is = sym r.same ∙ run_halt (set_step ring) (s.0, following said s.1) cause (length source) _ x _ tokens (moves (halt cause) is)
 
-  pub reading_ended : (source : List ℕ) (from place : ℕ) (s : SetState) (said : Sets) → Reading ring source from place s said → lexemes (ring_more ring) source place ≡ [] → set_at ring source from ≡ Err (record { at = length source; cause = Ended })
+  pub reading_ended : (source : List ℕ) (from place : ℕ) (s : SetState) (said : Sets) → Reading ring source from place s said →
+      lexemes (ring_more ring) source place ≡ [] → set_at ring source from ≡ Err (record { at = length source; cause = Ended })
   reading_ended source from place s said r none = sym r.same ∙ run_ended (set_step ring) (s.0, following said s.1) (length source) _ none

@@ -19,7 +19,8 @@ use Rattle.gf_text.proofs.MachineLaws.{no_text}
 use Rattle.gf_text.proofs.FaultsLaws.{token_kind_once, no_text_once}
 use Rattle.gf_text.proofs.KindsLaws.{refused_by, halts, NoNumbers, Numbers, NoWords, Words, Reason as IsReason, IsGate, gate_kind}
 use Rattle.gf_text.proofs.SetTokensLaws.{named_word}
-use Rattle.gf_text.proofs.SetStopsLaws.{takes_number, takes_name, limit, Reason, reason, one_goes, name_goes, number_stops, number_wide, number_taken, word_stops, word_taken}
+use Rattle.gf_text.proofs.SetStopsLaws.{takes_number, takes_name, limit, Reason, reason, one_goes, name_goes, number_stops, number_wide, number_taken}
+use Rattle.gf_text.proofs.SetStopsLaws.{word_stops, word_taken}
 use Rattle.gf_text.proofs.SetMachineLaws.{set_machine, first_name}
 
 module _ (ring : List (List ℕ)) (is_ring : IsRing ring) where
@@ -72,18 +73,23 @@ module _ (ring : List (List ℕ)) (is_ring : IsRing ring) where
     reason = λ t cause e. is_reason s.0 s.1 t cause (reason ring s.0 s.1 t cause (halts (set_step ring s t) cause e));
   }
 
-  pub set_kinds : (ts : List (List ℕ)) (s : SetState) (t : List ℕ) (cause : Cause) → after (set_step ring) (at.Brace, empty) ts ≡ go s → set_step ring s t ≡ halt cause → IsTokenKind ring (IsSetText ring) ts t cause
+  pub set_kinds : (ts : List (List ℕ)) (s : SetState) (t : List ℕ) (cause : Cause) → after (set_step ring) (at.Brace, empty) ts ≡ go s →
+      set_step ring s t ≡ halt cause → IsTokenKind ring (IsSetText ring) ts t cause
   set_kinds = gate_kind (set_machine ring is_ring) ring (named_word ring is_ring) set_gate
 
 -- where none is read the refusal is one
 pub no_set_same : (ring : List (List ℕ)) (old : Position) (e d : TextError) → HasNoSet ring old e → HasNoSet ring old d → d ≡ e
-no_set_same ring old e d h k = no_text_once (IsSetText ring) (IsTokenKind ring (IsSetText ring)) (token_kind_once (IsSetText ring) ring) (lexemes (ring_more ring) old.source old.at) (length old.source) d e k h
+no_set_same ring old e d h k = no_text_once (IsSetText ring) (IsTokenKind ring (IsSetText ring)) (token_kind_once (IsSetText ring) ring)
+    (lexemes (ring_more ring) old.source old.at) (length old.source) d e k h
 
 -- why nothing is read is a cause of the set
-no_set : (ring : List (List ℕ)) → IsRing ring → (source : List ℕ) (from : ℕ) (e : TextError) → IsRefusedAs e (set_at ring source from) → HasNoSet ring (record { source = source; at = from }) e
-no_set ring is source from e r = no_text (set_machine ring is) (IsTokenKind ring (IsSetText ring)) (set_kinds ring is) (length source) (lexemes (ring_more ring) source from) e r
+no_set : (ring : List (List ℕ)) → IsRing ring → (source : List ℕ) (from : ℕ) (e : TextError) → IsRefusedAs e (set_at ring source from) →
+    HasNoSet ring (record { source = source; at = from }) e
+no_set ring is source from e r = no_text (set_machine ring is) (IsTokenKind ring (IsSetText ring)) (set_kinds ring is) (length source)
+    (lexemes (ring_more ring) source from) e r
 
-pub set_cause : (ring : List (List ℕ)) → IsRing ring → (source : List ℕ) (from : ℕ) (e : TextError) → Fails e (set_at ring source from) → IsSetCause ring (record { source = source; at = from }) e
+pub set_cause : (ring : List (List ℕ)) → IsRing ring → (source : List ℕ) (from : ℕ) (e : TextError) → Fails e (set_at ring source from) →
+    IsSetCause ring (record { source = source; at = from }) e
 set_cause ring is source from (errors.Overflow o) h = absurd h
 set_cause ring is source from (errors.Exponent o) h = absurd h
 set_cause ring is source from (errors.Syntax s) h = no_set ring is source from (errors.Syntax s) h

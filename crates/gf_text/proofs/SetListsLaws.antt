@@ -1,6 +1,8 @@
 -- Lists of sets: what comes of them, set by set, and that they are read as the grammar of lists says.
--- To cite: sets_fit, sets_overflow, sets_exponent, exponents_fit, AllFit, all_fit, keeps_overflow, overflow_exponent, keeps_exponent, remain_variables; sets_reads, sets_refused, one_list_of_sets, no_sets_same; in_middle, marked_push, zero_of. The rest are steps.
-use Rattle.std.proofs.Common.{◌≡◌, ◌-◌, ◌^◌, ℕ, suc, min, Ok, Err, Vec, Global, List, [], ◌∷◌, ◌++◌, length, refl, sym, ap, subst, ◌∙◌, append_assoc, append-nil}
+-- To cite: sets_fit, sets_overflow, sets_exponent, exponents_fit, AllFit, all_fit, keeps_overflow, overflow_exponent, keeps_exponent, remain_variables;
+-- sets_reads, sets_refused, one_list_of_sets, no_sets_same; in_middle, marked_push, zero_of. The rest are steps.
+use Rattle.std.proofs.Common.{◌≡◌, ◌-◌, ◌^◌, ℕ, suc, min, Ok, Err, Vec, Global, List, [], ◌∷◌, ◌++◌, length, refl, sym, ap, subst, ◌∙◌, append_assoc}
+use Rattle.std.proofs.Common.{append-nil}
 use Rattle.std.proofs.lemmas.List.{map-append}
 use Rattle.gf_frac.specs.declared.refusal.Overflow.{Overflow}
 use Rattle.gf_poly.specs.declared.monomial.ExponentOverflow.{ExponentOverflow}
@@ -48,7 +50,8 @@ fits_append [] gs h k = k
 fits_append (f ∷ fs) gs h k = (h.0, fits_append fs gs h.1 k)
 
 -- where no exponent is refused, none passes its limit
-pub exponents_fit : (n : ℕ) (q : List (List WrittenTerm)) (next : Sums) → ((o : ExponentOverflow) → next ≡ came.Exponent o → ⊥) → HasSums n q next → (fs : List Terms) × (sums_of n q ≡ Ok fs)
+pub exponents_fit : (n : ℕ) (q : List (List WrittenTerm)) (next : Sums) → ((o : ExponentOverflow) → next ≡ came.Exponent o → ⊥) → HasSums n q next →
+    (fs : List Terms) × (sums_of n q ≡ Ok fs)
 exponents_fit n q (came.Fit ws) none h = (h.sums, h.exponents)
 exponents_fit n q (came.Overflow o) none h = (h.0, h.1)
 exponents_fit n q (came.Exponent o) none h = absurd (none o refl)
@@ -71,7 +74,8 @@ all_fit n (q ∷ qs) (ws ∷ sets) h =
       fits = fits_append h.0.sums rest.sums h.0.fits rest.fits;
     }
 
-remain_push : (n : ℕ) (qs : Sets) (sets : List (List Written)) (q : List (List WrittenTerm)) (ws : List Written) → AreWhatRemain n qs sets → IsWhatRemains n q ws → AreWhatRemain n (qs ++ q ∷ []) (sets ++ ws ∷ [])
+remain_push : (n : ℕ) (qs : Sets) (sets : List (List Written)) (q : List (List WrittenTerm)) (ws : List Written) → AreWhatRemain n qs sets →
+    IsWhatRemains n q ws → AreWhatRemain n (qs ++ q ∷ []) (sets ++ ws ∷ [])
 remain_push n [] [] q ws h k = (k, tt)
 remain_push n [] (vs ∷ sets) q ws h k = absurd h
 remain_push n (p ∷ qs) [] q ws h k = absurd h
@@ -79,13 +83,15 @@ remain_push n (p ∷ qs) (vs ∷ sets) q ws h k = (h.0, remain_push n qs sets q 
 
 module _ (n : ℕ) (qs : Sets) (q : List (List WrittenTerm)) where
   -- the set that is added fits
-  pub sets_fit : (old new : List (Vec Written Global)) (w : Vec Written Global) → new ≡ old ++ w ∷ [] → AreWhatRemain n qs (sets_in old) → IsWhatRemains n q w.items → AreWhatRemain n (qs ++ q ∷ []) (sets_in new)
+  pub sets_fit : (old new : List (Vec Written Global)) (w : Vec Written Global) → new ≡ old ++ w ∷ [] → AreWhatRemain n qs (sets_in old) →
+      IsWhatRemains n q w.items → AreWhatRemain n (qs ++ q ∷ []) (sets_in new)
   sets_fit old new w is h k =
       subst (λ vs. AreWhatRemain n (qs ++ q ∷ []) vs) (sym (ap sets_in is ∙ map-append (λ (v : Vec Written Global). v.items) old (w ∷ [])))
       (remain_push n qs (sets_in old) q w.items h k)
 
   -- a sum of it leaves its range
-  pub sets_overflow : (old : List (List Written)) (o : Overflow) → AreWhatRemain n qs old → IsCombiningCause n q (errors.Overflow o) → IsCombiningCause n (polynomials_of (qs ++ q ∷ [])) (errors.Overflow o)
+  pub sets_overflow : (old : List (List Written)) (o : Overflow) → AreWhatRemain n qs old → IsCombiningCause n q (errors.Overflow o) →
+      IsCombiningCause n (polynomials_of (qs ++ q ∷ [])) (errors.Overflow o)
   sets_overflow old o h k =
       let all = all_fit n qs old h in
       let first = k.2 in (
@@ -102,11 +108,14 @@ module _ (n : ℕ) (qs : Sets) (q : List (List WrittenTerm)) where
       )
 
   -- an exponent of it passes its limit
-  pub sets_exponent : (old : List (List Written)) (o : ExponentOverflow) → AreWhatRemain n qs old → IsCombiningCause n q (errors.Exponent o) → IsCombiningCause n (polynomials_of (qs ++ q ∷ [])) (errors.Exponent o)
-  sets_exponent old o h k = let all = all_fit n qs old h in ap (sums_of n) (last_of qs q) ∙ sums_append_refused n (polynomials_of qs) q all.sums o all.exponents k
+  pub sets_exponent : (old : List (List Written)) (o : ExponentOverflow) → AreWhatRemain n qs old → IsCombiningCause n q (errors.Exponent o) →
+      IsCombiningCause n (polynomials_of (qs ++ q ∷ [])) (errors.Exponent o)
+  sets_exponent old o h k = let all = all_fit n qs old h in ap (sums_of n) (last_of qs q) ∙ sums_append_refused n (polynomials_of qs)
+      q all.sums o all.exponents k
 
   -- a sum before it leaves its range, and its exponents fit
-  pub keeps_overflow : (o : Overflow) (fs : List Terms) → sums_of n q ≡ Ok fs → IsCombiningCause n (polynomials_of qs) (errors.Overflow o) → IsCombiningCause n (polynomials_of (qs ++ q ∷ [])) (errors.Overflow o)
+  pub keeps_overflow : (o : Overflow) (fs : List Terms) → sums_of n q ≡ Ok fs → IsCombiningCause n (polynomials_of qs) (errors.Overflow o) →
+      IsCombiningCause n (polynomials_of (qs ++ q ∷ [])) (errors.Overflow o)
   keeps_overflow o fs fit h =
       let first = h.2 in (
         h.0 ++ fs,
@@ -122,18 +131,23 @@ module _ (n : ℕ) (qs : Sets) (q : List (List WrittenTerm)) where
       )
 
   -- a sum before it leaves its range, and an exponent of it passes its limit
-  pub overflow_exponent : (o : Overflow) (x : ExponentOverflow) → sums_of n q ≡ Err x → IsCombiningCause n (polynomials_of qs) (errors.Overflow o) → IsCombiningCause n (polynomials_of (qs ++ q ∷ [])) (errors.Exponent x)
+  pub overflow_exponent : (o : Overflow) (x : ExponentOverflow) → sums_of n q ≡ Err x → IsCombiningCause n (polynomials_of qs) (errors.Overflow o) →
+      IsCombiningCause n (polynomials_of (qs ++ q ∷ [])) (errors.Exponent x)
   overflow_exponent o x k h = ap (sums_of n) (last_of qs q) ∙ sums_append_refused n (polynomials_of qs) q (h.0) x (h.1) k
 
   -- an exponent before it passes its limit
-  pub keeps_exponent : (x : ExponentOverflow) → IsCombiningCause n (polynomials_of qs) (errors.Exponent x) → IsCombiningCause n (polynomials_of (qs ++ q ∷ [])) (errors.Exponent x)
+  pub keeps_exponent : (x : ExponentOverflow) → IsCombiningCause n (polynomials_of qs) (errors.Exponent x) →
+      IsCombiningCause n (polynomials_of (qs ++ q ∷ [])) (errors.Exponent x)
   keeps_exponent x h = ap (sums_of n) (last_of qs q) ∙ sums_append_after n (polynomials_of qs) q x h
 
 pub remain_variables : (n : ℕ) (qs : Sets) (sets : List (List Written)) → AreWhatRemain n qs sets → AreAllIn n sets
 remain_variables n [] [] h = tt
 remain_variables n [] (ws ∷ sets) h = absurd h
 remain_variables n (q ∷ qs) [] h = absurd h
-remain_variables n (q ∷ qs) (ws ∷ sets) h = (written_variables n h.0.sums ws (sums_variables n q h.0.sums h.0.exponents) h.0.written, remain_variables n qs sets h.1)
+remain_variables n (q ∷ qs) (ws ∷ sets) h = (
+  written_variables n h.0.sums ws (sums_variables n q h.0.sums h.0.exponents) h.0.written,
+  remain_variables n qs sets h.1,
+)
 
 -- ---- what is read is what the grammar says
 
@@ -141,8 +155,10 @@ module _ (ring : List (List ℕ)) (is_ring : IsRing ring) where
   sets_machine : IsMachineOf (list_step (set_step ring) (at.Brace, empty)) (opening, []) (IsListText (IsSetText ring))
   sets_machine = list_machine (set_machine ring is_ring) (Unexpected, refl)
 
-  pub sets_reads : (source : List ℕ) (from : ℕ) (qs : Sets) (place : ℕ) → sets_at ring source from ≡ Ok (qs, place) → Reads (IsListText (IsSetText ring)) (lexemes (ring_more ring) source from) qs place
-  sets_reads source from qs place e = reads (list_step (set_step ring) (at.Brace, empty)) (IsListText (IsSetText ring)) (opening, []) (length source) (lexemes (ring_more ring) source from) qs place (λ ts. sets_machine.said ts qs) e
+  pub sets_reads : (source : List ℕ) (from : ℕ) (qs : Sets) (place : ℕ) → sets_at ring source from ≡ Ok (qs, place) →
+      Reads (IsListText (IsSetText ring)) (lexemes (ring_more ring) source from) qs place
+  sets_reads source from qs place e = reads (list_step (set_step ring) (at.Brace, empty)) (IsListText (IsSetText ring)) (opening, []) (length source)
+      (lexemes (ring_more ring) source from) qs place (λ ts. sets_machine.said ts qs) e
 
   pub one_list_of_sets : HasOneMeaning (IsListText (IsSetText ring))
   one_list_of_sets = one_meaning (list_step (set_step ring) (at.Brace, empty)) (IsListText (IsSetText ring)) (opening, []) sets_machine.given
@@ -150,10 +166,12 @@ module _ (ring : List (List ℕ)) (is_ring : IsRing ring) where
   no_sets : (source : List ℕ) (from : ℕ) (e : TextError) → IsRefusedAs e (sets_at ring source from) → HasNoSets ring (record { source = source; at = from }) e
   no_sets source from e r =
       no_text sets_machine (IsTokenKind ring (IsListText (IsSetText ring)))
-      (gate_kind sets_machine ring (named_word ring is_ring) (list_gate (set_step ring) (at.Brace, empty) ring (named_word ring is_ring) (set_gate ring is_ring)))
+      (gate_kind sets_machine ring (named_word ring is_ring) (list_gate (set_step ring) (at.Brace, empty) ring (named_word ring is_ring)
+      (set_gate ring is_ring)))
       (length source) (lexemes (ring_more ring) source from) e r
 
-  pub sets_refused : (source : List ℕ) (from : ℕ) (e : TextError) → Fails e (sets_at ring source from) → IsSetsCause ring (record { source = source; at = from }) e
+  pub sets_refused : (source : List ℕ) (from : ℕ) (e : TextError) → Fails e (sets_at ring source from) →
+      IsSetsCause ring (record { source = source; at = from }) e
   sets_refused source from (errors.Overflow o) h = absurd h
   sets_refused source from (errors.Exponent o) h = absurd h
   sets_refused source from (errors.Syntax s) h = no_sets source from (errors.Syntax s) h
@@ -166,7 +184,8 @@ module _ (ring : List (List ℕ)) (is_ring : IsRing ring) where
 -- where none is read the refusal is one
 pub no_sets_same : (ring : List (List ℕ)) (old : Position) (e d : TextError) → HasNoSets ring old e → HasNoSets ring old d → d ≡ e
 no_sets_same ring old e d h k =
-    no_text_once (IsListText (IsSetText ring)) (IsTokenKind ring (IsListText (IsSetText ring))) (token_kind_once (IsListText (IsSetText ring)) ring) (lexemes (ring_more ring) old.source old.at) (length old.source) d e k h
+    no_text_once (IsListText (IsSetText ring)) (IsTokenKind ring (IsListText (IsSetText ring))) (token_kind_once (IsListText (IsSetText ring)) ring)
+    (lexemes (ring_more ring) old.source old.at) (length old.source) d e k h
 
 -- ---- lists of marked sets
 
@@ -174,7 +193,8 @@ pub in_middle : (n : ℕ) (taken : List (List Written)) (ws : List Written) (bac
 in_middle n [] ws back h = h.0
 in_middle n (vs ∷ taken) ws back h = in_middle n taken ws back h.1
 
-pub marked_push : (n : ℕ) (sets : List (List Written)) (ss : List MarkedPolynomials) (ws : List Written) (s : MarkedPolynomials) → AreMarkedSets n sets ss → AreNonzero ws s.items → s.variables ≡ n → AreMarkedSets n (sets ++ ws ∷ []) (ss ++ s ∷ [])
+pub marked_push : (n : ℕ) (sets : List (List Written)) (ss : List MarkedPolynomials) (ws : List Written) (s : MarkedPolynomials) → AreMarkedSets n sets ss →
+    AreNonzero ws s.items → s.variables ≡ n → AreMarkedSets n (sets ++ ws ∷ []) (ss ++ s ∷ [])
 marked_push n [] [] ws s h items variables = (items, variables, tt)
 marked_push n [] (r ∷ ss) ws s h items variables = absurd h
 marked_push n (vs ∷ sets) [] ws s h items variables = absurd h

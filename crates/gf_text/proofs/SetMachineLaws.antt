@@ -10,7 +10,8 @@ use Rattle.gf_text.specs.declared.set_reader.Part.{Part}
 use Rattle.gf_text.specs.Machine.{go, done, after, Reads, HasOneMeaning}
 use Rattle.gf_text.specs.Tokens.{lexemes, ring_more}
 use Rattle.gf_text.specs.RingText.{IsRing}
-use Rattle.gf_text.specs.SetText.{variable, IsSetText, SetState, with_variable, with_factor, with_numer, with_denom, all_of, behind_step, set_step, empty, set_at}
+use Rattle.gf_text.specs.SetText.{variable, IsSetText, SetState, with_variable, with_factor, with_numer, with_denom, all_of, behind_step, set_step, empty}
+use Rattle.gf_text.specs.SetText.{set_at}
 use Rattle.gf_text.specs.Marks.{brace, brace_end}
 use Rattle.gf_text.proofs.MachineLaws.{after-go, after-done, reads, one_meaning, IsMachineOf}
 use Rattle.gf_text.proofs.SetTokensLaws.{no_name}
@@ -55,10 +56,19 @@ module _ (ring : List (List ℕ)) (is_ring : IsRing ring) where
   number_ends p = (brace_end ∷ [], all_of p, after-done (set_step ring) (at.Number, p) (all_of p) brace_end (brace_ends p))
 
   name_ends : (p : Part) → GoesToEnd (at.Name, p)
-  name_ends p = (brace_end ∷ [], all_of (with_factor p 1), after-done (set_step ring) (at.Name, p) (all_of (with_factor p 1)) brace_end (brace_ends (with_factor p 1)))
+  name_ends p = (
+    brace_end ∷ [],
+    all_of (with_factor p 1),
+    after-done (set_step ring) (at.Name, p) (all_of (with_factor p 1)) brace_end
+        (brace_ends (with_factor p 1)),
+  )
 
   set_goes_on : (s : SetState) → GoesToEnd s
-  set_goes_on (at.Brace, p) = by_token (at.Brace, p) (at.First, p) brace refl (brace_end ∷ [], p.polynomials, after-done (set_step ring) (at.First, p) p.polynomials brace_end refl)
+  set_goes_on (at.Brace, p) = by_token (at.Brace, p) (at.First, p) brace refl (
+    brace_end ∷ [],
+    p.polynomials,
+    after-done (set_step ring) (at.First, p) p.polynomials brace_end refl,
+  )
   set_goes_on (at.First, p) = (brace_end ∷ [], p.polynomials, after-done (set_step ring) (at.First, p) p.polynomials brace_end refl)
   set_goes_on (at.Polynomial, p) = by_token (at.Polynomial, p) (at.Number, with_numer p 1) one refl (number_ends (with_numer p 1))
   set_goes_on (at.Term, p) = by_token (at.Term, p) (at.Number, with_numer p 1) one refl (number_ends (with_numer p 1))
@@ -81,8 +91,10 @@ set_machine ring is = record {
   tells = λ s t e. reason ring s.0 s.1 t Ended e;
 }
 
-pub set_reads : (ring : Texts) (source : List ℕ) (from : ℕ) (ps : Sets) (place : ℕ) → set_at ring source from ≡ Ok (ps, place) → Reads (IsSetText ring) (lexemes (ring_more ring) source from) ps place
-set_reads ring source from ps place e = reads (set_step ring) (IsSetText ring) (at.Brace, empty) (length source) (lexemes (ring_more ring) source from) ps place (λ ts. set_said ring ts ps) e
+pub set_reads : (ring : Texts) (source : List ℕ) (from : ℕ) (ps : Sets) (place : ℕ) → set_at ring source from ≡ Ok (ps, place) →
+    Reads (IsSetText ring) (lexemes (ring_more ring) source from) ps place
+set_reads ring source from ps place e = reads (set_step ring) (IsSetText ring) (at.Brace, empty) (length source) (lexemes (ring_more ring) source from) ps place
+    (λ ts. set_said ring ts ps) e
 
 pub one_set : (ring : Texts) → IsRing ring → HasOneMeaning (IsSetText ring)
 one_set ring is = one_meaning (set_step ring) (IsSetText ring) (at.Brace, empty) (set_given ring is)

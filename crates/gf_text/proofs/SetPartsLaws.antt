@@ -6,7 +6,9 @@ use Rattle.gf_text.specs.declared.tree.Factor.{Factor}
 use Rattle.gf_text.specs.declared.tree.WrittenTerm.{WrittenTerm}
 use Rattle.gf_text.specs.declared.set_reader.Part.{Part}
 use Rattle.gf_text.specs.Tokens.{decimal_value}
-use Rattle.gf_text.specs.SetText.{variable, sign, most, most_exponent, IsNumberText, IsFactorText, IsStar, AreMoreFactors, IsRationalText, IsTermText, AreMoreTerms, IsPolynomialText, AreMorePolynomials, with_variable, with_factor, with_sign, with_numer, with_denom, part_terms, next_term, all_of, next_polynomial}
+use Rattle.gf_text.specs.SetText.{variable, sign, most, most_exponent, IsNumberText, IsFactorText, IsStar, AreMoreFactors, IsRationalText, IsTermText}
+use Rattle.gf_text.specs.SetText.{AreMoreTerms, IsPolynomialText, AreMorePolynomials, with_variable, with_factor, with_sign, with_numer, with_denom, part_terms}
+use Rattle.gf_text.specs.SetText.{next_term, all_of, next_polynomial}
 use Rattle.gf_text.specs.Marks.{comma, slash, caret, brace_end}
 
 abbrev Texts : Type 0
@@ -137,12 +139,14 @@ module _ (ring : List (List ℕ)) where
   }
 
   -- a name, and its exponent behind it
-  factor_by : (t : List ℕ) (v k : ℕ) (power : Texts) → variable ring t ≡ Some v → ((power ≡ []) × (k ≡ 1)) ⊎ ((u : List ℕ) × (power ≡ caret ∷ u ∷ []) × IsNumberText u k most_exponent)
+  factor_by : (t : List ℕ) (v k : ℕ) (power : Texts) → variable ring t ≡ Some v →
+      ((power ≡ []) × (k ≡ 1)) ⊎ ((u : List ℕ) × (power ≡ caret ∷ u ∷ []) × IsNumberText u k most_exponent)
       → IsFactorText ring (t ∷ power) (record { variable = v; exponent = k })
   factor_by t v k power named (inl h) = (t, named, inl (ap (λ l. t ∷ l) h.0, h.1))
   factor_by t v k power named (inr (u, is, number)) = (t, named, inr (u, ap (λ l. t ∷ l) is, number))
 
-  pub one_factor : (p : Part) (t : List ℕ) (v : ℕ) (ts : Texts) (ps : Sets) → variable ring t ≡ Some v → Named (with_variable p v) ts ps → Factored p (t ∷ ts) ps
+  pub one_factor : (p : Part) (t : List ℕ) (v : ℕ) (ts : Texts) (ps : Sets) → variable ring t ≡ Some v → Named (with_variable p v) ts ps →
+      Factored p (t ∷ ts) ps
   one_factor p t v ts ps named n = record {
     first = t ∷ n.power;
     f = record { variable = v; exponent = n.k };
@@ -169,14 +173,20 @@ module _ (ring : List (List ℕ)) where
         are_factors = (between, f.first, b.factors, refl, star_or, f.is_factor, b.are_factors);
         are_terms = b.are_terms;
         are_polynomials = b.are_polynomials;
-        all = b.all ∙ ap (λ l. p.polynomials ++ (p.terms ++ record { minus = p.minus; numer = p.numer; denom = p.denom; factors = l } ∷ b.us) ∷ b.qs) (append_assoc p.factors (f.f ∷ []) b.fs);
+        all = b.all ∙ ap (λ l. p.polynomials ++ (p.terms ++ record { minus = p.minus; numer = p.numer; denom = p.denom; factors = l } ∷ b.us) ∷
+            b.qs) (append_assoc p.factors (f.f ∷ []) b.fs);
       }
 
   -- ---- terms
 
   -- the term that was read without more factors
   no_more : (p : Part) (us : List WrittenTerm) (qs : Sets)
-      → p.polynomials ++ (part_terms p ++ us) ∷ qs ≡ p.polynomials ++ (p.terms ++ record { minus = p.minus; numer = p.numer; denom = p.denom; factors = p.factors ++ [] } ∷ us) ∷ qs
+      → p.polynomials ++ (part_terms p ++ us) ∷ qs ≡ p.polynomials ++ (p.terms ++ record {
+        minus = p.minus;
+        numer = p.numer;
+        denom = p.denom;
+        factors = p.factors ++ [];
+      } ∷ us) ∷ qs
   no_more p us qs =
       ap (λ l. p.polynomials ++ l ∷ qs) (append_assoc p.terms (record { minus = p.minus; numer = p.numer; denom = p.denom; factors = p.factors } ∷ []) us)
       ∙ ap (λ l. p.polynomials ++ (p.terms ++ record { minus = p.minus; numer = p.numer; denom = p.denom; factors = l } ∷ us) ∷ qs) (sym (append-nil p.factors))
@@ -210,7 +220,8 @@ module _ (ring : List (List ℕ)) where
     are_factors = refl;
     are_terms = refl;
     are_polynomials = (f.first_texts, f.polynomials, refl, f.is_polynomial, f.are_polynomials);
-    all = f.all ∙ append_assoc p.polynomials (part_terms p ∷ []) (f.first ∷ f.qs) ∙ ap (λ l. p.polynomials ++ l ∷ f.first ∷ f.qs) (sym (append-nil (part_terms p))) ∙ no_more p [] (f.first ∷ f.qs);
+    all = f.all ∙ append_assoc p.polynomials (part_terms p ∷ []) (f.first ∷ f.qs) ∙
+        ap (λ l. p.polynomials ++ l ∷ f.first ∷ f.qs) (sym (append-nil (part_terms p))) ∙ no_more p [] (f.first ∷ f.qs);
   }
 
   pub at_end : (p : Part) (t : List ℕ) (ts : Texts) (ps : Sets) → t ≡ brace_end → ts ≡ [] → ps ≡ all_of p → Behind p (t ∷ ts) ps
@@ -246,19 +257,22 @@ module _ (ring : List (List ℕ)) where
         are_terms = b.are_terms;
         are_polynomials = b.are_polynomials;
         all = b.all
-            ∙ ap (λ l. p.polynomials ++ (p.terms ++ record { minus = p.minus; numer = p.numer; denom = p.denom; factors = (l ++ f.f ∷ []) ++ b.fs } ∷ b.us) ∷ b.qs) fresh.factors
+            ∙ ap (λ l. p.polynomials ++ (p.terms ++ record { minus = p.minus; numer = p.numer; denom = p.denom; factors = (l ++ f.f ∷ []) ++ b.fs } ∷ b.us) ∷
+            b.qs) fresh.factors
             ∙ ap (λ a. p.polynomials ++ (p.terms ++ record { minus = p.minus; numer = a; denom = p.denom; factors = f.f ∷ b.fs } ∷ b.us) ∷ b.qs) fresh.numer
             ∙ ap (λ a. p.polynomials ++ (p.terms ++ record { minus = p.minus; numer = 1; denom = a; factors = f.f ∷ b.fs } ∷ b.us) ∷ b.qs) fresh.denom;
       }
 
   -- a number, and its denominator behind it
-  rational_by : (t : List ℕ) (d e : ℕ) (over : Texts) → IsNumberText t (decimal_value t) most → e ≡ 1 → ((over ≡ []) × (d ≡ e)) ⊎ ((u : List ℕ) × (over ≡ slash ∷ u ∷ []) × IsNumberText u d most × (0 < d))
+  rational_by : (t : List ℕ) (d e : ℕ) (over : Texts) → IsNumberText t (decimal_value t) most → e ≡ 1 →
+      ((over ≡ []) × (d ≡ e)) ⊎ ((u : List ℕ) × (over ≡ slash ∷ u ∷ []) × IsNumberText u d most × (0 < d))
       → IsRationalText (t ∷ over) (decimal_value t) d
   rational_by t d e over number one (inl h) = inl (t, ap (λ l. t ∷ l) h.0, number, h.1 ∙ one)
   rational_by t d e over number one (inr (u, is, denom, nonzero)) = inr (t, u, ap (λ l. t ∷ l) is, number, denom, nonzero)
 
   -- a term that begins with a number
-  pub number_term : (p : Part) (t : List ℕ) (ts : Texts) (ps : Sets) → IsNumberText t (decimal_value t) most → Numbered (with_numer p (decimal_value t)) ts ps → FreshTerm p → Term p (t ∷ ts) ps
+  pub number_term : (p : Part) (t : List ℕ) (ts : Texts) (ps : Sets) → IsNumberText t (decimal_value t) most → Numbered (with_numer p (decimal_value t)) ts ps →
+      FreshTerm p → Term p (t ∷ ts) ps
   number_term p t ts ps number n fresh =
       let b = n.behind in
       let end = b.terms ++ (b.polynomials ++ brace_end ∷ []) in
@@ -274,7 +288,8 @@ module _ (ring : List (List ℕ)) where
         its_sign = refl;
         are_terms = b.are_terms;
         are_polynomials = b.are_polynomials;
-        all = b.all ∙ ap (λ l. p.polynomials ++ (p.terms ++ record { minus = p.minus; numer = decimal_value t; denom = n.d; factors = l ++ b.fs } ∷ b.us) ∷ b.qs) fresh.factors;
+        all = b.all ∙ ap (λ l. p.polynomials ++ (p.terms ++ record { minus = p.minus; numer = decimal_value t; denom = n.d; factors = l ++ b.fs } ∷ b.us) ∷
+            b.qs) fresh.factors;
       }
 
   -- ---- polynomials

@@ -1,6 +1,7 @@
 -- The machine of sets reads no more than the grammar of sets says.
 -- To cite: set_said. The rest are steps: a move and what follows it, what is read at each place, token by token.
-use Rattle.std.proofs.Common.{◌≡◌, ℕ, ◌==◌, nat_le, true, false, ◌&&◌, List, [], ◌∷◌, Option, Some, None, refl, sym, ap, subst, ◌∙◌, ◌⊎◌, inl, inr, bytes_eq, if◌then◌else◌}
+use Rattle.std.proofs.Common.{◌≡◌, ℕ, ◌==◌, nat_le, true, false, ◌&&◌, List, [], ◌∷◌, Option, Some, None, refl, sym, ap, subst, ◌∙◌, ◌⊎◌, inl, inr, bytes_eq}
+use Rattle.std.proofs.Common.{if◌then◌else◌}
 use Rattle.gf_text.specs.declared.error.Cause.TheVariants.{Unexpected, UnknownName, TooWide, ZeroDenominator}
 use Rattle.gf_text.specs.declared.tree.WrittenTerm.{WrittenTerm}
 use Rattle.gf_text.specs.declared.set_reader.SetPlace.{SetPlace}
@@ -8,10 +9,13 @@ use Rattle.gf_text.specs.declared.set_reader.SetPlace.TheVariants as at
 use Rattle.gf_text.specs.declared.set_reader.Part.{Part}
 use Rattle.gf_text.specs.Machine.{go, done, halt, after}
 use Rattle.gf_text.specs.Tokens.{is_number, decimal_value}
-use Rattle.gf_text.specs.SetText.{variable, most, most_exponent, IsNumberText, IsSetText, SetMove, with_variable, with_factor, with_sign, with_numer, with_denom, next_term, all_of, next_polynomial, is_word, name_or_by, number_or, term_or, front_step, end_step, behind_step, token_step, set_step, empty}
+use Rattle.gf_text.specs.SetText.{variable, most, most_exponent, IsNumberText, IsSetText, SetMove, with_variable, with_factor, with_sign, with_numer}
+use Rattle.gf_text.specs.SetText.{with_denom, next_term, all_of, next_polynomial, is_word, name_or_by, number_or, term_or, front_step, end_step, behind_step}
+use Rattle.gf_text.specs.SetText.{token_step, set_step, empty}
 use Rattle.gf_text.specs.Marks.{plus_mark, minus_mark, comma, star, slash, caret, brace, brace_end}
 use Rattle.gf_text.proofs.MachineLaws.{not_yet, Then, From, move, chosen, halted, ended}
-use Rattle.gf_text.proofs.SetPartsLaws.{Behind, Factored, Named, Powered, Numbered, Divided, FreshTerm, Term, Fresh, Polynomial, First, one_factor, more_factors, more_terms, more_polynomials, at_end, factor_term, number_term, signed, bare}
+use Rattle.gf_text.proofs.SetPartsLaws.{Behind, Factored, Named, Powered, Numbered, Divided, FreshTerm, Term, Fresh, Polynomial, First, one_factor}
+use Rattle.gf_text.proofs.SetPartsLaws.{more_factors, more_terms, more_polynomials, at_end, factor_term, number_term, signed, bare}
 use Rattle.gf_text.proofs.SetTokensLaws.{is_mark, le_from, positive}
 
 abbrev Texts : Type 0
@@ -33,13 +37,14 @@ module _ (ring : List (List ℕ)) where
   -- a number, or what another token does
   numbered : (t : List ℕ) (limit : ℕ) (taken other : SetMove) (ts : Texts) (ps : Sets) → Then (set_step ring) (number_or t limit taken other) ts ps
       → (IsNumberText t (decimal_value t) limit × Then (set_step ring) taken ts ps) ⊎ Then (set_step ring) other ts ps
-  numbered t limit taken other ts ps e = elim (chosen (set_step ring) (is_number t) (if nat_le (decimal_value t) limit then taken else halt TooWide) other ts ps e) [
-    | inr h ↦ inr h.1
-    | inl h ↦ elim (chosen (set_step ring) (nat_le (decimal_value t) limit) taken (halt TooWide) ts ps h.1) [
-      | inr k ↦ halted (set_step ring) TooWide ts ps k.1
-      | inl k ↦ inl ((h.0, refl, le_from (decimal_value t) limit k.0), k.1)
-    ]
-  ]
+  numbered t limit taken other ts ps e =
+      elim (chosen (set_step ring) (is_number t) (if nat_le (decimal_value t) limit then taken else halt TooWide) other ts ps e) [
+        | inr h ↦ inr h.1
+        | inl h ↦ elim (chosen (set_step ring) (nat_le (decimal_value t) limit) taken (halt TooWide) ts ps h.1) [
+          | inr k ↦ halted (set_step ring) TooWide ts ps k.1
+          | inl k ↦ inl ((h.0, refl, le_from (decimal_value t) limit k.0), k.1)
+        ]
+      ]
 
   -- ---- what is read from each place on
 
@@ -70,11 +75,15 @@ module _ (ring : List (List ℕ)) where
     end_on : (p : Part) (ps : Sets) → Then (set_step ring) (end_step p t) ts ps → Behind ring p (t ∷ ts) ps
     unfolding Said Later
     end_on p ps e = elim (chosen (set_step ring) (bytes_eq t plus_mark) (go (at.Term, next_term p false)) _ ts ps e) [
-      | inl h ↦ more_terms ring p false t ts ps (is_mark t plus_mark h.0) (later at.Term (next_term p false) ps h.1 (record { numer = refl; denom = refl; factors = refl }))
+      | inl h ↦ more_terms ring p false t ts ps (is_mark t plus_mark h.0)
+          (later at.Term (next_term p false) ps h.1 (record { numer = refl; denom = refl; factors = refl }))
       | inr h ↦ elim (chosen (set_step ring) (bytes_eq t minus_mark) (go (at.Term, next_term p true)) _ ts ps h.1) [
-        | inl k ↦ more_terms ring p true t ts ps (is_mark t minus_mark k.0) (later at.Term (next_term p true) ps k.1 (record { numer = refl; denom = refl; factors = refl }))
+        | inl k ↦ more_terms ring p true t ts ps (is_mark t minus_mark k.0)
+            (later at.Term (next_term p true) ps k.1 (record { numer = refl; denom = refl; factors = refl }))
         | inr k ↦ elim (chosen (set_step ring) (bytes_eq t comma) (go (at.Polynomial, next_polynomial p)) _ ts ps k.1) [
-          | inl l ↦ more_polynomials ring p t ts ps (is_mark t comma l.0) (later at.Polynomial (next_polynomial p) ps l.1 (record { terms = refl; plus_sign = refl; term = record { numer = refl; denom = refl; factors = refl } }))
+          | inl l ↦ more_polynomials ring p t ts ps (is_mark t comma l.0)
+              (later at.Polynomial (next_polynomial p) ps l.1
+              (record { terms = refl; plus_sign = refl; term = record { numer = refl; denom = refl; factors = refl } }))
           | inr l ↦ elim (chosen (set_step ring) (bytes_eq t brace_end) (done (all_of p)) (halt Unexpected) ts ps l.1) [
             | inl d ↦ let end = ended (set_step ring) (all_of p) ts ps d.1 in at_end ring p t ts ps (is_mark t brace_end d.0) end.0 end.1
             | inr d ↦ halted (set_step ring) Unexpected ts ps d.1
@@ -109,9 +118,11 @@ module _ (ring : List (List ℕ)) where
     front_on : (p : Part) (ps : Sets) → Then (set_step ring) (front_step ring p t) ts ps → Fresh p → Polynomial ring p (t ∷ ts) ps
     unfolding Said Later
     front_on p ps e fresh = elim (chosen (set_step ring) (bytes_eq t plus_mark) (go (at.Term, with_sign p false)) _ ts ps e) [
-      | inl h ↦ signed ring p false t ts ps (is_mark t plus_mark h.0) (later at.Term (with_sign p false) ps h.1 (record { numer = fresh.term.numer; denom = fresh.term.denom; factors = fresh.term.factors })) fresh
+      | inl h ↦ signed ring p false t ts ps (is_mark t plus_mark h.0)
+          (later at.Term (with_sign p false) ps h.1 (record { numer = fresh.term.numer; denom = fresh.term.denom; factors = fresh.term.factors })) fresh
       | inr h ↦ elim (chosen (set_step ring) (bytes_eq t minus_mark) (go (at.Term, with_sign p true)) _ ts ps h.1) [
-        | inl k ↦ signed ring p true t ts ps (is_mark t minus_mark k.0) (later at.Term (with_sign p true) ps k.1 (record { numer = fresh.term.numer; denom = fresh.term.denom; factors = fresh.term.factors })) fresh
+        | inl k ↦ signed ring p true t ts ps (is_mark t minus_mark k.0)
+            (later at.Term (with_sign p true) ps k.1 (record { numer = fresh.term.numer; denom = fresh.term.denom; factors = fresh.term.factors })) fresh
         | inr k ↦ bare ring p (t ∷ ts) ps (term_on p ps k.1 fresh.term) fresh
       ]
     ]
@@ -123,7 +134,10 @@ module _ (ring : List (List ℕ)) where
       | inr h ↦ halted (set_step ring) Unexpected ts ps h.1
     ]
     on_token at.First p ps e = elim (chosen (set_step ring) (bytes_eq t brace_end) (done p.polynomials) (front_step ring p t) ts ps e) [
-      | inl h ↦ let end = ended (set_step ring) p.polynomials ts ps h.1 in inl (ap (λ x. x ∷ ts) (is_mark t brace_end h.0) ∙ ap (λ l. brace_end ∷ l) end.0, end.1)
+      | inl h ↦ let end = ended (set_step ring) p.polynomials ts ps h.1 in inl (
+        ap (λ x. x ∷ ts) (is_mark t brace_end h.0) ∙ ap (λ l. brace_end ∷ l) end.0,
+        end.1,
+      )
       | inr h ↦ inr (front_on p ps h.1)
     ]
     on_token at.Polynomial p ps e = front_on p ps e
@@ -142,7 +156,14 @@ module _ (ring : List (List ℕ)) where
     on_token at.Denominator p ps e = elim (chosen (set_step ring) (is_number t && decimal_value t == 0) (halt ZeroDenominator) _ ts ps e) [
       | inl h ↦ halted (set_step ring) ZeroDenominator ts ps h.1
       | inr h ↦ elim (numbered t most (go (at.Behind, with_denom p (decimal_value t))) (halt Unexpected) ts ps h.1) [
-        | inl k ↦ record { t = t; rest = ts; tokens = refl; number = k.0; nonzero = positive t (k.0.0) h.0; behind = later at.Behind (with_denom p (decimal_value t)) ps k.1 }
+        | inl k ↦ record {
+          t = t;
+          rest = ts;
+          tokens = refl;
+          number = k.0;
+          nonzero = positive t (k.0.0) h.0;
+          behind = later at.Behind (with_denom p (decimal_value t)) ps k.1;
+        }
         | inr k ↦ halted (set_step ring) Unexpected ts ps k
       ]
     ]

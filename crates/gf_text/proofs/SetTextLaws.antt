@@ -7,10 +7,13 @@ use Rattle.gf_text.specs.declared.set_reader.Part.{Part}
 use Rattle.gf_text.specs.Machine.{done, after}
 use Rattle.gf_text.specs.Tokens.{decimal_value}
 use Rattle.gf_text.specs.RingText.{IsRing}
-use Rattle.gf_text.specs.SetText.{sign, most, IsNumberText, IsRationalText, IsTermText, AreMoreTerms, IsFrontSign, IsPolynomialText, AreMorePolynomials, IsSetText, SetState, with_variable, with_sign, with_numer, with_denom, part_terms, next_term, all_of, next_polynomial, set_step, empty}
+use Rattle.gf_text.specs.SetText.{sign, most, IsNumberText, IsRationalText, IsTermText, AreMoreTerms, IsFrontSign, IsPolynomialText, AreMorePolynomials}
+use Rattle.gf_text.specs.SetText.{IsSetText, SetState, with_variable, with_sign, with_numer, with_denom, part_terms, next_term, all_of, next_polynomial}
+use Rattle.gf_text.specs.SetText.{set_step, empty}
 use Rattle.gf_text.specs.Marks.{plus_mark, minus_mark, slash, brace, brace_end}
 use Rattle.gf_text.proofs.MachineLaws.{after-go, after-done}
-use Rattle.gf_text.proofs.SetFactorsLaws.{Leads, Like, Takes, behind_like, number_like, like_sign, like_comma, like_end, Behind, then_factors, behind_at, factors_read, monomial_read}
+use Rattle.gf_text.proofs.SetFactorsLaws.{Leads, Like, Takes, behind_like, number_like, like_sign, like_comma, like_end, Behind, then_factors, behind_at}
+use Rattle.gf_text.proofs.SetFactorsLaws.{factors_read, monomial_read}
 use Rattle.gf_text.proofs.SetTokensLaws.{named_word, word_no_number, word_no_mark, number_no_mark, number_within, not_zero}
 
 abbrev Texts : Type 0
@@ -33,7 +36,8 @@ module _ (ring : List (List ℕ)) (is_ring : IsRing ring) where
     denom : p.denom ≡ 1
     factors : p.factors ≡ []
 
-  rational_read : (a b : ℕ) (ts : Texts) → IsRationalText ts a b → (rest : Texts) (s : SetState) (p : Part) → Begins s p → p.denom ≡ 1 → Behind ring s ts rest (record p { numer = a; denom = b })
+  rational_read : (a b : ℕ) (ts : Texts) → IsRationalText ts a b → (rest : Texts) (s : SetState) (p : Part) → Begins s p → p.denom ≡ 1 →
+      Behind ring s ts rest (record p { numer = a; denom = b })
   rational_read a b ts (inl (t, is, number, one)) rest s p begins fresh = record {
     state = (at.Number, with_numer p (decimal_value t));
     part = with_numer p (decimal_value t);
@@ -57,15 +61,18 @@ module _ (ring : List (List ℕ)) (is_ring : IsRing ring) where
             ∙ after-go (set_step ring) (at.Denominator, q) (at.Behind, with_denom q (decimal_value u)) u rest (rw (digits, zero, within) refl);
       }
 
-  term_read : (u : WrittenTerm) (ts : Texts) → IsTermText ring ts u → (rest : Texts) (s : SetState) (p : Part) → Begins s p → Fresh p → Behind ring s ts rest (record p { numer = u.numer; denom = u.denom; factors = u.factors })
+  term_read : (u : WrittenTerm) (ts : Texts) → IsTermText ring ts u → (rest : Texts) (s : SetState) (p : Part) → Begins s p → Fresh p →
+      Behind ring s ts rest (record p { numer = u.numer; denom = u.denom; factors = u.factors })
   term_read u ts (inl (rational, others, is, number, later)) rest s p begins fresh =
       let b = rational_read u.numer u.denom rational number (others ++ rest) s p begins fresh.denom in
       let r = factors_read ring is_ring u.factors others later rest b.state b.part b.like in
-      behind_at ring is_ring s ts (rational ++ others) rest (record p { numer = u.numer; denom = u.denom; factors = p.factors ++ u.factors }) (record p { numer = u.numer; denom = u.denom; factors = u.factors }) is
+      behind_at ring is_ring s ts (rational ++ others) rest (record p { numer = u.numer; denom = u.denom; factors = p.factors ++ u.factors })
+      (record p { numer = u.numer; denom = u.denom; factors = u.factors }) is
       (ap (λ l. record p { numer = u.numer; denom = u.denom; factors = l ++ u.factors }) fresh.factors)
       (then_factors ring is_ring s rational others rest (record p { numer = u.numer; denom = u.denom }) u.factors b r)
   term_read u ts (inr (one, whole, monomial)) rest s p begins fresh =
-      behind_at ring is_ring s ts ts rest (record p { factors = p.factors ++ u.factors }) (record p { numer = u.numer; denom = u.denom; factors = u.factors }) refl
+      behind_at ring is_ring s ts ts rest (record p { factors = p.factors ++ u.factors }) (record p { numer = u.numer; denom = u.denom; factors = u.factors })
+      refl
       (ap (λ l. record p { factors = l ++ u.factors }) fresh.factors
       ∙ ap (λ n. record p { numer = n; factors = u.factors }) (fresh.numer ∙ sym one)
       ∙ ap (λ n. record p { numer = u.numer; denom = n; factors = u.factors }) (fresh.denom ∙ sym whole))
@@ -95,7 +102,8 @@ module _ (ring : List (List ℕ)) (is_ring : IsRing ring) where
     same : part.polynomials ≡ polynomials
     on : Leads ring s (ts ++ rest) state rest
 
-  terms_read : (us : List WrittenTerm) (ts : Texts) → AreMoreTerms ring ts us → (rest : Texts) (s : SetState) (p : Part) → Like ring s p → Through s ts rest p.polynomials (part_terms p ++ us)
+  terms_read : (us : List WrittenTerm) (ts : Texts) → AreMoreTerms ring ts us → (rest : Texts) (s : SetState) (p : Part) → Like ring s p →
+      Through s ts rest p.polynomials (part_terms p ++ us)
   terms_read [] ts h rest s p like = record {
     state = s;
     part = p;
@@ -139,12 +147,18 @@ module _ (ring : List (List ℕ)) (is_ring : IsRing ring) where
       number t n ts h =
           let digits = h.0 in
           let within = number_within t n most h in
-          after-go (set_step ring) (at.Polynomial, p) (at.Number, with_numer p (decimal_value t)) t ts (rw (number_no_mark t 43 digits refl, number_no_mark t 45 digits refl, digits, within) refl)
+          after-go (set_step ring) (at.Polynomial, p) (at.Number, with_numer p (decimal_value t)) t ts
+          (rw (number_no_mark t 43 digits refl, number_no_mark t 45 digits refl, digits, within) refl)
 
       named : Takes ring (at.Polynomial, p) p
       named t v ts h =
           let word = named_word ring is_ring t v h in
-          after-go (set_step ring) (at.Polynomial, p) (at.Name, with_variable p v) t ts (rw (word_no_mark t 43 word refl, word_no_mark t 45 word refl, word_no_number t word, h) refl)
+          after-go (set_step ring) (at.Polynomial, p) (at.Name, with_variable p v) t ts (rw (
+            word_no_mark t 43 word refl,
+            word_no_mark t 45 word refl,
+            word_no_number t word,
+            h,
+          ) refl)
 
   first_opens : (p : Part) → Opens (at.First, p) p
   first_opens p = record { sign_on = signed; begins = record { number_on = number; name_on = named } }
@@ -167,10 +181,12 @@ module _ (ring : List (List ℕ)) (is_ring : IsRing ring) where
           (rw (word_no_mark t 125 word refl, word_no_mark t 43 word refl, word_no_mark t 45 word refl, word_no_number t word, h) refl)
 
   -- the sign at the front, or none, and the term behind it
-  front_read : (u : WrittenTerm) (front term : Texts) → IsFrontSign front u.minus → IsTermText ring term u → (rest : Texts) (s : SetState) (p : Part) → Opens s p → Fresh p → p.minus ≡ false
+  front_read : (u : WrittenTerm) (front term : Texts) → IsFrontSign front u.minus → IsTermText ring term u → (rest : Texts) (s : SetState) (p : Part) →
+      Opens s p → Fresh p → p.minus ≡ false
       → Behind ring s (front ++ term) rest (record p { minus = u.minus; numer = u.numer; denom = u.denom; factors = u.factors })
   front_read u front term (inl h) said rest s p opens fresh plus_sign =
-      let b = term_read u term said rest (at.Term, with_sign p u.minus) (with_sign p u.minus) (term_begins (with_sign p u.minus)) (record { numer = fresh.numer; denom = fresh.denom; factors = fresh.factors }) in
+      let b = term_read u term said rest (at.Term, with_sign p u.minus) (with_sign p u.minus) (term_begins (with_sign p u.minus))
+      (record { numer = fresh.numer; denom = fresh.denom; factors = fresh.factors }) in
       record {
         state = b.state;
         part = b.part;
@@ -184,11 +200,13 @@ module _ (ring : List (List ℕ)) (is_ring : IsRing ring) where
         state = b.state;
         part = b.part;
         like = b.like;
-        same = b.same ∙ ap (λ m. record p { minus = m; numer = u.numer; denom = u.denom; factors = u.factors; variable = b.part.variable }) (plus_sign ∙ sym h.1);
+        same = b.same ∙ ap (λ m. record p { minus = m; numer = u.numer; denom = u.denom; factors = u.factors; variable = b.part.variable })
+            (plus_sign ∙ sym h.1);
         on = ap (λ l. after (set_step ring) s ((l ++ term) ++ rest)) h.0 ∙ b.on;
       }
 
-  polynomial_read : (us : List WrittenTerm) (ts : Texts) → IsPolynomialText ring ts us → (rest : Texts) (s : SetState) (p : Part) → Opens s p → Fresh p → p.minus ≡ false → p.terms ≡ [] → Through s ts rest p.polynomials us
+  polynomial_read : (us : List WrittenTerm) (ts : Texts) → IsPolynomialText ring ts us → (rest : Texts) (s : SetState) (p : Part) → Opens s p → Fresh p →
+      p.minus ≡ false → p.terms ≡ [] → Through s ts rest p.polynomials us
   polynomial_read [] ts h rest s p opens fresh plus_sign none = absurd h
   polynomial_read (u ∷ us) ts (front, term, more, is, signed, said, later) rest s p opens fresh plus_sign none =
       let b = front_read u front term signed said (more ++ rest) s p opens fresh plus_sign in
@@ -203,11 +221,14 @@ module _ (ring : List (List ℕ)) (is_ring : IsRing ring) where
         on = ap (λ l. after (set_step ring) s (l ++ rest)) is ∙ ap (after (set_step ring) s) regrouped ∙ b.on ∙ r.on;
       }
 
-  polynomials_read : (qs : Sets) (ts : Texts) → AreMorePolynomials ring ts qs → (s : SetState) (p : Part) → Like ring s p → after (set_step ring) s (ts ++ brace_end ∷ []) ≡ done (all_of p ++ qs)
-  polynomials_read [] ts h s p like = ap (λ l. after (set_step ring) s (l ++ brace_end ∷ [])) h ∙ like_end ring is_ring s p like ∙ ap (λ l. done l) (sym (append-nil (all_of p)))
+  polynomials_read : (qs : Sets) (ts : Texts) → AreMorePolynomials ring ts qs → (s : SetState) (p : Part) → Like ring s p →
+      after (set_step ring) s (ts ++ brace_end ∷ []) ≡ done (all_of p ++ qs)
+  polynomials_read [] ts h s p like = ap (λ l. after (set_step ring) s (l ++ brace_end ∷ [])) h ∙ like_end ring is_ring s p like ∙ ap (λ l. done l)
+      (sym (append-nil (all_of p)))
   polynomials_read (q ∷ qs) ts (first, more, is, polynomial, later) s p like =
       let n = next_polynomial p in
-      let r = polynomial_read q first polynomial (more ++ brace_end ∷ []) (at.Polynomial, n) n (polynomial_opens n) (record { numer = refl; denom = refl; factors = refl }) refl refl in
+      let r = polynomial_read q first polynomial (more ++ brace_end ∷ []) (at.Polynomial, n) n (polynomial_opens n)
+      (record { numer = refl; denom = refl; factors = refl }) refl refl in
       ap (λ l. after (set_step ring) s (l ++ brace_end ∷ [])) is
       ∙ like_comma ring is_ring s p like ((first ++ more) ++ brace_end ∷ [])
       ∙ ap (after (set_step ring) (at.Polynomial, n)) (append_assoc first more (brace_end ∷ []))
@@ -223,7 +244,8 @@ module _ (ring : List (List ℕ)) (is_ring : IsRing ring) where
       ∙ after-go (set_step ring) (at.Brace, empty) (at.First, empty) brace (brace_end ∷ []) refl
       ∙ after-done (set_step ring) (at.First, empty) [] brace_end refl
   set_given ts (q ∷ qs) (first, more, is, polynomial, later) =
-      let r = polynomial_read q first polynomial (more ++ brace_end ∷ []) (at.First, empty) empty (first_opens empty) (record { numer = refl; denom = refl; factors = refl }) refl refl in
+      let r = polynomial_read q first polynomial (more ++ brace_end ∷ []) (at.First, empty) empty (first_opens empty)
+      (record { numer = refl; denom = refl; factors = refl }) refl refl in
       ap (after (set_step ring) (at.Brace, empty)) is
       ∙ after-go (set_step ring) (at.Brace, empty) (at.First, empty) brace (first ++ (more ++ brace_end ∷ [])) refl
       ∙ r.on

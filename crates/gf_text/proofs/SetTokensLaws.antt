@@ -1,6 +1,8 @@
 -- The tokens of a set: no token is two of a name of the ring, a number, a mark; and what the tests of the machine say.
--- To cite: named_word, no_name, word_no_number, word_no_mark, number_no_word, number_no_mark, is_mark, number_within, le_test, le_from, not_le, le_false, not_zero, zero_number, positive. The rest are steps.
-use Rattle.std.proofs.Common.{◌≡◌, ◌<◌, ◌≤◌, ℕ, ◌+◌, Bool, true, false, cond, ◌&&◌, ◌==◌, nat_le, List, [], ◌∷◌, ◌++◌, Option, Some, None, refl, sym, ap, ◌∙◌, inl, inr, bytes_eq, arith}
+-- To cite: named_word, no_name, word_no_number, word_no_mark, number_no_word, number_no_mark, is_mark, number_within, le_test, le_from, not_le, le_false,
+-- not_zero, zero_number, positive. The rest are steps.
+use Rattle.std.proofs.Common.{◌≡◌, ◌<◌, ◌≤◌, ℕ, ◌+◌, Bool, true, false, cond, ◌&&◌, ◌==◌, nat_le, List, [], ◌∷◌, ◌++◌, Option, Some, None, refl, sym, ap, ◌∙◌}
+use Rattle.std.proofs.Common.{inl, inr, bytes_eq, arith}
 use Rattle.std.proofs.lemmas.Bool.Decides.{leb_tells, eqb_tells}
 use Rattle.std.proofs.lemmas.Slice.Eq.{bytes_eq-Decides}
 use Rattle.std.specs.List.{position_from, list_all}
@@ -43,7 +45,8 @@ number_no_word t h = not_true (is_word t) (λ w. let no = word_no_number t w in 
 
 -- and no mark
 pub number_no_mark : (t : List ℕ) (b : ℕ) → is_number t ≡ true → is_digit b ≡ false → bytes_eq t (b ∷ []) ≡ false
-number_no_mark t b h mark = not_true (bytes_eq t (b ∷ [])) (λ same. let all : (is_digit b && true) ≡ true = ap is_number (sym (is_mark t (b ∷ []) same)) ∙ h in let digit = and_left (is_digit b) true all in cc)
+number_no_mark t b h mark = not_true (bytes_eq t (b ∷ [])) (λ same. let all : (is_digit b && true) ≡ true = ap is_number (sym (is_mark t (b ∷ []) same)) ∙ h in
+    let digit = and_left (is_digit b) true all in cc)
 
 -- ---- names
 
@@ -55,7 +58,8 @@ word_from : (before ns : List (List ℕ)) (t : List ℕ) (i v : ℕ) → AreNew 
 word_from before [] t i v new h = cc
 word_from before (n ∷ ns) t i v new h = by (word_from (before ++ n ∷ []) ns t (i + 1) v new.2) (bytes_eq n t) refl h
   where
-    by : (position_from (λ m. bytes_eq m t) (i + 1) ns ≡ Some v → is_word t ≡ true) → (b : Bool) → bytes_eq n t ≡ b → cond b (Some i) (position_from (λ m. bytes_eq m t) (i + 1) ns) ≡ Some v → is_word t ≡ true
+    by : (position_from (λ m. bytes_eq m t) (i + 1) ns ≡ Some v → is_word t ≡ true) → (b : Bool) → bytes_eq n t ≡ b →
+        cond b (Some i) (position_from (λ m. bytes_eq m t) (i + 1) ns) ≡ Some v → is_word t ≡ true
     by others true is e = ap is_word (sym (is_mark n t is)) ∙ name_word n new.0
     by others false is e = others e
 

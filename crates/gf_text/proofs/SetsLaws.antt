@@ -1,6 +1,8 @@
 -- Sums of terms, one after another.
--- To cite: summing_cause, one_sum, adds_fit, adds_overflow, adds_exponent, keeps_overflow, overflow_exponent, keeps_exponent; marked_sum, written_variables, in_at; none_zero, nonzero_variables. The rest are steps.
-use Rattle.std.proofs.Common.{◌≡◌, ◌<◌, ℕ, zero, suc, List, [], ◌∷◌, ◌++◌, length, map, get_or, Ok, Err, Some, slice_get, subst, sym, refl, ap, ◌∙◌, append-nil, append_assoc, arith}
+-- To cite: summing_cause, one_sum, adds_fit, adds_overflow, adds_exponent, keeps_overflow, overflow_exponent, keeps_exponent; marked_sum, written_variables,
+-- in_at; none_zero, nonzero_variables. The rest are steps.
+use Rattle.std.proofs.Common.{◌≡◌, ◌<◌, ℕ, zero, suc, List, [], ◌∷◌, ◌++◌, length, map, get_or, Ok, Err, Some, slice_get, subst, sym, refl, ap, ◌∙◌, append-nil}
+use Rattle.std.proofs.Common.{append_assoc, arith}
 use Rattle.gf_frac.specs.declared.refusal.Overflow.{Overflow}
 use Rattle.gf_poly.specs.declared.monomial.ExponentOverflow.{ExponentOverflow}
 use Rattle.gf_poly.specs.declared.Term.{Term}
@@ -15,7 +17,8 @@ use Rattle.gf_text.specs.declared.written.Written.{Written}
 use Rattle.gf_text.specs.declared.written.Written.TheVariants as written
 use Rattle.gf_text.specs.declared.tree.WrittenTerm.{WrittenTerm}
 use Rattle.gf_text.specs.Combining.{SumsHaveVariables, IsFirstRemaining, IsFirstRemainingAt, IsSumMarked, terms_written, WrittenExponentsFit}
-use Rattle.gf_text.specs.Sets.{IsWritten, AreWritten, IsIn, AreIn, AllSumsFit, IsSummed, IsSummingCause, IsWhatRemains, IsCombiningCause, Adds, AreNonzero, from_poly}
+use Rattle.gf_text.specs.Sets.{IsWritten, AreWritten, IsIn, AreIn, AllSumsFit, IsSummed, IsSummingCause, IsWhatRemains, IsCombiningCause, Adds, AreNonzero}
+use Rattle.gf_text.specs.Sets.{from_poly}
 use Rattle.gf_text.proofs.CombiningLaws.{sums_push_ok, sums_push_refused, sums_push_after}
 
 written_push : (fs : List Terms) (ws : List Written) (f : Terms) (w : Written) → AreWritten fs ws → IsWritten f w → AreWritten (fs ++ f ∷ []) (ws ++ w ∷ [])
@@ -25,7 +28,8 @@ written_push (g ∷ fs) [] f w h k = absurd h
 written_push (g ∷ fs) (v ∷ ws) f w h k = (h.0, written_push fs ws f w h.1 k)
 
 -- a refusal of the sum of terms
-pub summing_cause : (n : ℕ) (us : List WrittenTerm) (f : Terms) (e : PolyError) → terms_written n us ≡ Ok f → IsLikeSumCause f e → IsSummingCause n us (from_poly e)
+pub summing_cause : (n : ℕ) (us : List WrittenTerm) (f : Terms) (e : PolyError) → terms_written n us ≡ Ok f → IsLikeSumCause f e →
+    IsSummingCause n us (from_poly e)
 summing_cause n us f (polys.Overflow o) exponents w = (f, exponents, w)
 summing_cause n us f (polys.Exponent o) exponents w = absurd w
 summing_cause n us f polys.Memory exponents w = tt
@@ -44,7 +48,8 @@ abbrev Sets : Type 0
 Sets = List (List WrittenTerm)
 
 -- the polynomial that is added fits
-pub adds_fit : (n : ℕ) (us : List WrittenTerm) (old new : List Written) (w : Written) → IsSummed n us w → new ≡ old ++ w ∷ [] → (qs : Sets) → IsWhatRemains n qs old → IsWhatRemains n (qs ++ us ∷ []) new
+pub adds_fit : (n : ℕ) (us : List WrittenTerm) (old new : List Written) (w : Written) → IsSummed n us w → new ≡ old ++ w ∷ [] → (qs : Sets) →
+    IsWhatRemains n qs old → IsWhatRemains n (qs ++ us ∷ []) new
 adds_fit n us old new w one is qs h = record {
   sums = h.sums ++ one.terms ∷ [];
   exponents = sums_push_ok n qs us h.sums one.terms h.exponents one.exponents;
@@ -53,7 +58,8 @@ adds_fit n us old new w one is qs h = record {
 }
 
 -- a sum of it leaves its range
-pub adds_overflow : (n : ℕ) (us : List WrittenTerm) (old : List Written) (o : Overflow) → IsSummingCause n us (errors.Overflow o) → (qs : Sets) → IsWhatRemains n qs old → IsCombiningCause n (qs ++ us ∷ []) (errors.Overflow o)
+pub adds_overflow : (n : ℕ) (us : List WrittenTerm) (old : List Written) (o : Overflow) → IsSummingCause n us (errors.Overflow o) → (qs : Sets) →
+    IsWhatRemains n qs old → IsCombiningCause n (qs ++ us ∷ []) (errors.Overflow o)
 adds_overflow n us old o cause qs h = (
   h.sums ++ cause.0 ∷ [],
   sums_push_ok n qs us h.sums cause.0 h.exponents cause.1,
@@ -61,7 +67,8 @@ adds_overflow n us old o cause qs h = (
 )
 
 -- an exponent of it passes its limit
-pub adds_exponent : (n : ℕ) (us : List WrittenTerm) (old : List Written) (o : ExponentOverflow) → terms_written n us ≡ Err o → (qs : Sets) → IsWhatRemains n qs old → IsCombiningCause n (qs ++ us ∷ []) (errors.Exponent o)
+pub adds_exponent : (n : ℕ) (us : List WrittenTerm) (old : List Written) (o : ExponentOverflow) → terms_written n us ≡ Err o → (qs : Sets) →
+    IsWhatRemains n qs old → IsCombiningCause n (qs ++ us ∷ []) (errors.Exponent o)
 adds_exponent n us old o cause qs h = sums_push_refused n qs us h.sums o h.exponents cause
 
 -- a sum before it leaves its range, and its exponents fit
@@ -81,7 +88,8 @@ keeps_overflow n us o fit qs h =
     )
 
 -- an exponent of it passes its limit
-pub overflow_exponent : (n : ℕ) (us : List WrittenTerm) (o : Overflow) (x : ExponentOverflow) → terms_written n us ≡ Err x → Adds n (us ∷ []) (came.Overflow o) (came.Exponent x)
+pub overflow_exponent : (n : ℕ) (us : List WrittenTerm) (o : Overflow) (x : ExponentOverflow) → terms_written n us ≡ Err x →
+    Adds n (us ∷ []) (came.Overflow o) (came.Exponent x)
 overflow_exponent n us o x cause qs h = sums_push_refused n qs us h.0 x h.1 cause
 
 -- an exponent before it passes its limit
@@ -95,7 +103,8 @@ head_of-place (s ∷ f) zero t e = let same : s ≡ t = cc in ap (λ (x : Term).
 head_of-place (s ∷ f) (suc i) t e = head_of-place f i t e
 
 -- a sum, marked at the first term that remains
-pub marked_sum : (f g : Terms) (place : ℕ) → SamePolynomial g f → IsDescending g → KeepsVariables f g → IsFirstRemainingAt f g place → IsSumMarked f (record { poly = g; head = head_of g place })
+pub marked_sum : (f g : Terms) (place : ℕ) → SamePolynomial g f → IsDescending g → KeepsVariables f g → IsFirstRemainingAt f g place →
+    IsSumMarked f (record { poly = g; head = head_of g place })
 marked_sum f g place sum descending variables first = record {
   sum = sum;
   descending = descending;

@@ -1,6 +1,7 @@
 -- Items of a single token: each is read as its grammar says.
 -- To cite: dimension_read, dimension_fault, dimension_once, no_dimension_same; name_read, name_fault, new_name_once, no_name_same. The rest are steps.
-use Rattle.std.proofs.Common.{◌≡◌, ◌≤◌, ◌<◌, ℕ, nat_le, Bool, true, false, Err, List, [], ◌∷◌, length, refl, sym, ap, subst, ◌∙◌, ◌⊎◌, inl, inr, arith, if◌then◌else◌}
+use Rattle.std.proofs.Common.{◌≡◌, ◌≤◌, ◌<◌, ℕ, nat_le, Bool, true, false, Err, List, [], ◌∷◌, length, refl, sym, ap, subst, ◌∙◌, ◌⊎◌, inl, inr, arith}
+use Rattle.std.proofs.Common.{if◌then◌else◌}
 use Rattle.gf_text.specs.declared.error.Cause.{Cause}
 use Rattle.gf_text.specs.declared.error.Cause.TheVariants.{Ended, Unexpected, RepeatedName, ZeroDenominator, TooWide, UnknownName}
 use Rattle.gf_text.specs.declared.error.TextError.{TextError}
@@ -57,7 +58,8 @@ module _ {A : Type 0} (takes : List ℕ → Move Nothing A) where
 
     -- a token that is an item is read
     single_read : (end : ℕ) (xs ys : List Lexeme) (x : Lexeme) (a : A) → xs ≡ x ∷ ys → takes x.text ≡ done a → Reads grammar xs a (behind x)
-    single_read end xs ys x a tokens e = reads single_step grammar tt end xs a (behind x) (λ ts. single_said ts a) (run_done single_step tt a end xs x ys tokens e)
+    single_read end xs ys x a tokens e = reads single_step grammar tt end xs a (behind x) (λ ts. single_said ts a)
+        (run_done single_step tt a end xs x ys tokens e)
 
 -- ---- dimensions
 
@@ -87,10 +89,12 @@ abbrev ends : ℕ → Move Nothing ℕ
 ends n = done n
 
 -- what a cause says of the token
-dimension_cause : (t : List ℕ) (cause : Cause) → takes_dimension t ≡ halt cause → (cause ≡ Unexpected) ⊎ ((cause ≡ TooWide) × (is_number t ≡ true) × (most_entry < decimal_value t))
+dimension_cause : (t : List ℕ) (cause : Cause) → takes_dimension t ≡ halt cause →
+    (cause ≡ Unexpected) ⊎ ((cause ≡ TooWide) × (is_number t ≡ true) × (most_entry < decimal_value t))
 dimension_cause t cause e = by (is_number t) (nat_le (decimal_value t) most_entry) refl refl e
   where
-    by : (b c : Bool) → is_number t ≡ b → nat_le (decimal_value t) most_entry ≡ c → (if b then (if c then done (decimal_value t) else stops TooWide) else stops Unexpected) ≡ stops cause
+    by : (b c : Bool) → is_number t ≡ b → nat_le (decimal_value t) most_entry ≡ c →
+        (if b then (if c then done (decimal_value t) else stops TooWide) else stops Unexpected) ≡ stops cause
         → (cause ≡ Unexpected) ⊎ ((cause ≡ TooWide) × (is_number t ≡ true) × (most_entry < decimal_value t))
     by true true digits small f = cc
     by true false digits small f = inr (cc, digits, not_le (decimal_value t) most_entry small)
@@ -163,20 +167,24 @@ dimension_causes s t cause e = elim (dimension_cause t cause e) [ inl h ↦ subs
 pub dimension_once : HasOneMeaning IsDimensionText
 dimension_once = one_meaning (single_step takes_dimension) IsDimensionText tt dimension_machine.given
 
-pub dimension_read : (end : ℕ) (xs ys : List Lexeme) (x : Lexeme) (n : ℕ) → xs ≡ x ∷ ys → is_number x.text ≡ true → decimal_value x.text ≡ n → n ≤ most_entry → Reads IsDimensionText xs n (behind x)
+pub dimension_read : (end : ℕ) (xs ys : List Lexeme) (x : Lexeme) (n : ℕ) → xs ≡ x ∷ ys → is_number x.text ≡ true → decimal_value x.text ≡ n → n ≤ most_entry →
+    Reads IsDimensionText xs n (behind x)
 dimension_read end xs ys x n tokens digits is small =
     let number : IsNumberText x.text n most_entry = (digits, is, small) in
     let within = number_within x.text n most_entry number in
     let here : takes_dimension x.text ≡ done (decimal_value x.text) = rw (digits, within) refl in
     single_read takes_dimension IsDimensionText dimension_single end xs ys x n tokens (here ∙ ap (λ k. done k) is)
 
-pub dimension_fault : (old : Position) (f : Fault) → run (single_step takes_dimension) tt (length old.source) (lexemes word_more old.source old.at) ≡ Err f → HasNoDimension old (refusal f)
+pub dimension_fault : (old : Position) (f : Fault) → run (single_step takes_dimension) tt (length old.source) (lexemes word_more old.source old.at) ≡ Err f →
+    HasNoDimension old (refusal f)
 dimension_fault old f e =
-    no_text dimension_machine (IsNumberKind IsDimensionText) (gate_number_kind dimension_machine dimension_gate dimension_causes) (length old.source) (lexemes word_more old.source old.at) (refusal f) (f, e, refl)
+    no_text dimension_machine (IsNumberKind IsDimensionText) (gate_number_kind dimension_machine dimension_gate dimension_causes) (length old.source)
+    (lexemes word_more old.source old.at) (refusal f) (f, e, refl)
 
 -- where none is read the refusal is one
 pub no_dimension_same : (old : Position) (e d : TextError) → HasNoDimension old e → HasNoDimension old d → d ≡ e
-no_dimension_same old e d h k = no_text_once IsDimensionText (IsNumberKind IsDimensionText) (number_kind_once IsDimensionText) (lexemes word_more old.source old.at) (length old.source) d e k h
+no_dimension_same old e d h k = no_text_once IsDimensionText (IsNumberKind IsDimensionText) (number_kind_once IsDimensionText)
+    (lexemes word_more old.source old.at) (length old.source) d e k h
 
 -- ---- names of new variables
 
@@ -193,9 +201,14 @@ module _ (names : List (List ℕ)) where
   name_said : (t n : List ℕ) → takes_name t ≡ done n → IsNewNameText names (t ∷ []) n
   name_said t n e = by (is_name t) (has names t) refl refl e
     where
-      by : (b c : Bool) → is_name t ≡ b → has names t ≡ c → (if b then (if c then name_stops RepeatedName else name_done t) else name_stops Unexpected) ≡ name_done n → IsNewNameText names (t ∷ []) n
+      by : (b c : Bool) → is_name t ≡ b → has names t ≡ c → (if b then (if c then name_stops RepeatedName else name_done t) else name_stops Unexpected) ≡
+          name_done n → IsNewNameText names (t ∷ []) n
       by true true named there f = cc
-      by true false named new f = let same : t ≡ n = cc in (ap (λ x. x ∷ []) same, subst (λ x. is_name x ≡ true) same named, subst (λ x. has names x ≡ false) same new)
+      by true false named new f = let same : t ≡ n = cc in (
+        ap (λ x. x ∷ []) same,
+        subst (λ x. is_name x ≡ true) same named,
+        subst (λ x. has names x ≡ false) same new,
+      )
       by false c named there f = cc
 
   name_given : (ts : List (List ℕ)) (n : List ℕ) → IsNewNameText names ts n → (t : List ℕ) × (ts ≡ t ∷ []) × (takes_name t ≡ done n)
@@ -204,7 +217,8 @@ module _ (names : List (List ℕ)) where
   name_kind : (ts : List (List ℕ)) (t : List ℕ) (cause : Cause) → takes_name t ≡ halt cause → IsNewNameKind names ts t cause
   name_kind ts t cause e = by (is_name t) (has names t) refl refl e
     where
-      by : (b c : Bool) → is_name t ≡ b → has names t ≡ c → (if b then (if c then name_stops RepeatedName else name_done t) else name_stops Unexpected) ≡ name_stops cause → IsNewNameKind names ts t cause
+      by : (b c : Bool) → is_name t ≡ b → has names t ≡ c → (if b then (if c then name_stops RepeatedName else name_done t) else name_stops Unexpected) ≡
+          name_stops cause → IsNewNameKind names ts t cause
       by true true named there f = let same : RepeatedName ≡ cause = cc in subst (IsNewNameKind names ts t) same (named, there)
       by true false named new f = cc
       by false c named there f = let same : Unexpected ≡ cause = cc in subst (IsNewNameKind names ts t) same named
@@ -232,11 +246,14 @@ module _ (names : List (List ℕ)) where
   pub new_name_once : HasOneMeaning (IsNewNameText names)
   new_name_once = one_meaning (single_step takes_name) (IsNewNameText names) tt name_machine.given
 
-  pub name_read : (end : ℕ) (xs ys : List Lexeme) (x : Lexeme) → xs ≡ x ∷ ys → is_name x.text ≡ true → has names x.text ≡ false → Reads (IsNewNameText names) xs x.text (behind x)
+  pub name_read : (end : ℕ) (xs ys : List Lexeme) (x : Lexeme) → xs ≡ x ∷ ys → is_name x.text ≡ true → has names x.text ≡ false →
+      Reads (IsNewNameText names) xs x.text (behind x)
   name_read end xs ys x tokens named new = single_read takes_name (IsNewNameText names) name_single end xs ys x x.text tokens (rw (named, new) refl)
 
-  pub name_fault : (old : Position) (f : Fault) → run (single_step takes_name) tt (length old.source) (lexemes word_more old.source old.at) ≡ Err f → HasNoName names old (refusal f)
-  name_fault old f e = no_text name_machine (IsNewNameKind names) (λ ts s t cause reached h. name_kind ts t cause h) (length old.source) (lexemes word_more old.source old.at) (refusal f) (f, e, refl)
+  pub name_fault : (old : Position) (f : Fault) → run (single_step takes_name) tt (length old.source) (lexemes word_more old.source old.at) ≡ Err f →
+      HasNoName names old (refusal f)
+  name_fault old f e = no_text name_machine (IsNewNameKind names) (λ ts s t cause reached h. name_kind ts t cause h) (length old.source)
+      (lexemes word_more old.source old.at) (refusal f) (f, e, refl)
 
   new_name_kind_once : IsOneKind (IsNewNameKind names)
   new_name_kind_once ts t Unexpected Unexpected h k = refl
@@ -254,4 +271,5 @@ module _ (names : List (List ℕ)) where
 
   -- where none is read the refusal is one
   pub no_name_same : (old : Position) (e d : TextError) → HasNoName names old e → HasNoName names old d → d ≡ e
-  no_name_same old e d h k = no_text_once (IsNewNameText names) (IsNewNameKind names) new_name_kind_once (lexemes word_more old.source old.at) (length old.source) d e k h
+  no_name_same old e d h k = no_text_once (IsNewNameText names) (IsNewNameKind names) new_name_kind_once (lexemes word_more old.source old.at)
+      (length old.source) d e k h

@@ -1,6 +1,7 @@
 -- Bytes that spell tokens: what the tokens of a text are where pieces of it stand one after another.
 -- To cite: IsToken, IsSpelled, spelled-none, spelled-token, spelled-space, spelled-++, spelled-read; mark_token, word_token. The rest are steps.
-use Rattle.std.proofs.Common.{◌≡◌, ◌≤◌, ℕ, ◌+◌, Bool, true, false, List, [], ◌∷◌, ◌++◌, length, take, refl, sym, ap, ◌∙◌, subst, arith, append_assoc, length-append}
+use Rattle.std.proofs.Common.{◌≡◌, ◌≤◌, ℕ, ◌+◌, Bool, true, false, List, [], ◌∷◌, ◌++◌, length, take, refl, sym, ap, ◌∙◌, subst, arith, append_assoc}
+use Rattle.std.proofs.Common.{length-append}
 use Rattle.std.proofs.lemmas.Bool.Decides.{nat_tests}
 use Rattle.std.proofs.lemmas.List.Folds.{length-prefix_len}
 use Rattle.std.proofs.Math.Seq.{drop-append_seam, take-append_seam}
@@ -35,9 +36,17 @@ behind_last d (x ∷ xs) y = behind_last (behind x) xs y
 
 module _ (more : List ℕ → ℕ) where
   pub spelled-none : (rest : List ℕ) → IsSpelled more [] rest []
-  spelled-none rest = record { tokens = λ at. []; lexed = λ at. (let here : at ≡ at + 0 = omega arith in ap (λ n. lex_tokens more 0 n rest) here); said = λ at. refl }
+  spelled-none rest = record {
+    tokens = λ at. [];
+    lexed = λ at. (let here : at ≡ at + 0 = omega arith in ap (λ n. lex_tokens more 0 n rest) here);
+    said = λ at. refl;
+  }
 
-  lex-first : (b at : ℕ) (bs : List ℕ) → is_space b ≡ false → lex_tokens more 0 at (b ∷ bs) ≡ record { text = b ∷ take (more (b ∷ bs)) bs; at = at } ∷ lex_tokens more (more (b ∷ bs)) (at + 1) bs
+  lex-first : (b at : ℕ) (bs : List ℕ) → is_space b ≡ false → lex_tokens more 0 at (b ∷ bs) ≡ record {
+    text = b ∷ take (more (b ∷ bs)) bs;
+    at =
+        at;
+  } ∷ lex_tokens more (more (b ∷ bs)) (at + 1) bs
   unfolding lex_tokens
   lex-first b at bs visible = rw visible refl
 
@@ -45,7 +54,11 @@ module _ (more : List ℕ → ℕ) where
   unfolding lex_tokens
   lex-space b at bs space = rw space refl
 
-  pub lex-token : (at : ℕ) (t rest : List ℕ) → IsToken more t rest → lex_tokens more 0 at (t ++ rest) ≡ record { text = t; at = at } ∷ lex_tokens more 0 (at + length t) rest
+  pub lex-token : (at : ℕ) (t rest : List ℕ) → IsToken more t rest → lex_tokens more 0 at (t ++ rest) ≡ record {
+    text = t;
+    at =
+        at;
+  } ∷ lex_tokens more 0 (at + length t) rest
   lex-token at t rest h =
       let b = h.first in
       let bs = h.others in
@@ -67,7 +80,8 @@ module _ (more : List ℕ → ℕ) where
   pub spelled-space : (b : ℕ) (rest : List ℕ) → is_space b ≡ true → IsSpelled more (b ∷ []) rest []
   spelled-space b rest space = record { tokens = λ at. []; lexed = λ at. lex-space b at rest space; said = λ at. refl }
 
-  pub spelled-++ : (bs cs rest : List ℕ) (ts us : List (List ℕ)) → IsSpelled more bs (cs ++ rest) ts → IsSpelled more cs rest us → IsSpelled more (bs ++ cs) rest (ts ++ us)
+  pub spelled-++ : (bs cs rest : List ℕ) (ts us : List (List ℕ)) → IsSpelled more bs (cs ++ rest) ts → IsSpelled more cs rest us →
+      IsSpelled more (bs ++ cs) rest (ts ++ us)
   spelled-++ bs cs rest ts us h k = record {
     tokens = λ at. h.tokens at ++ k.tokens (at + length bs);
     lexed = λ at. (
@@ -76,11 +90,13 @@ module _ (more : List ℕ → ℕ) where
         ∙ sym (append_assoc (h.tokens at) (k.tokens (at + length bs)) (lex_tokens more 0 ((at + length bs) + length cs) rest))
         ∙ ap (λ n. (h.tokens at ++ k.tokens (at + length bs)) ++ lex_tokens more 0 n rest) place
         );
-    said = λ at. texts-++ (h.tokens at) (k.tokens (at + length bs)) ∙ ap (λ l. l ++ texts (k.tokens (at + length bs))) (h.said at) ∙ ap (λ l. ts ++ l) (k.said (at + length bs));
+    said = λ at. texts-++ (h.tokens at) (k.tokens (at + length bs)) ∙ ap (λ l. l ++ texts (k.tokens (at + length bs))) (h.said at) ∙
+        ap (λ l. ts ++ l) (k.said (at + length bs));
   }
 
   -- what a text says whose last token is t, wherever it stands
-  pub spelled-read : {A : Type 0} (grammar : List (List ℕ) → A → Type 0) (a : A) (before bs t rest : List ℕ) (ts : List (List ℕ)) → IsSpelled more bs (t ++ rest) ts → IsToken more t rest → grammar (ts ++ t ∷ []) a
+  pub spelled-read : {A : Type 0} (grammar : List (List ℕ) → A → Type 0) (a : A) (before bs t rest : List ℕ) (ts : List (List ℕ)) →
+      IsSpelled more bs (t ++ rest) ts → IsToken more t rest → grammar (ts ++ t ∷ []) a
       → Reads grammar (lexemes more (before ++ ((bs ++ t) ++ rest)) (length before)) a (length before + length (bs ++ t))
   spelled-read grammar a before bs t rest ts h is g =
       let at = length before in

@@ -1,6 +1,7 @@
 -- The tokens of a text, one after another.
 -- To cite: lex-skip, token_at, no_token, token-fits, behind-lexeme; lexemes-behind; word_more-fits, ring_more-fits; value-passes. The rest are steps.
-use Rattle.std.proofs.Common.{◌≡◌, ◌≢◌, ◌<◌, ◌≤◌, ℕ, zero, suc, ◌+◌, ◌-◌, ◌*◌, Bool, true, false, cond, List, [], ◌∷◌, ◌++◌, length, drop, take, take_while, nat_eq, get_or, add-one, refl, sym, ap, ◌∙◌, inl, inr, arith, if◌then◌else◌}
+use Rattle.std.proofs.Common.{◌≡◌, ◌≢◌, ◌<◌, ◌≤◌, ℕ, zero, suc, ◌+◌, ◌-◌, ◌*◌, Bool, true, false, cond, List, [], ◌∷◌, ◌++◌, length, drop, take, take_while}
+use Rattle.std.proofs.Common.{nat_eq, get_or, add-one, refl, sym, ap, ◌∙◌, inl, inr, arith, if◌then◌else◌}
 use Rattle.std.proofs.Math.Seq.{drop-cons}
 use Rattle.std.proofs.lemmas.List.{drop-drop, length-take, length-drop}
 use Rattle.std.proofs.lemmas.List.Sums.{prefix_len-le-length}
@@ -17,16 +18,21 @@ module _ (more : List ℕ → ℕ) where
   unfolding lex_tokens
   lex-skip zero at bytes = ap (λ n. lex_tokens more 0 n bytes) (omega arith)
   lex-skip (suc k) at [] = refl
-  lex-skip (suc k) at (b ∷ bs) = let places : (at + 1) + k ≡ at + suc k = omega arith in lex-skip k (at + 1) bs ∙ ap (λ n. lex_tokens more 0 n (drop k bs)) places
+  lex-skip (suc k) at (b ∷ bs) = let places : (at + 1) + k ≡ at + suc k =
+      omega arith in lex-skip k (at + 1) bs ∙ ap (λ n. lex_tokens more 0 n (drop k bs)) places
 
   -- the token behind k bytes, and the tokens behind it
   from_token : ℕ → List ℕ → ℕ → List Lexeme
-  from_token at bytes k = record { text = get_or bytes k 0 ∷ take (more (drop k bytes)) (drop (suc k) bytes); at = at + k } ∷ lex_tokens more (more (drop k bytes)) ((at + k) + 1) (drop (suc k) bytes)
+  from_token at bytes k = record {
+    text = get_or bytes k 0 ∷ take (more (drop k bytes)) (drop (suc k) bytes);
+    at = at + k;
+  } ∷ lex_tokens more (more (drop k bytes)) ((at + k) + 1) (drop (suc k) bytes)
 
   first_by : (b : ℕ) (bs : List ℕ) (at : ℕ) (v : Bool)
       → (prefix_len is_space bs < length bs → lex_tokens more 0 (at + 1) bs ≡ from_token (at + 1) bs (prefix_len is_space bs))
       → cond v (1 + prefix_len is_space bs) 0 < suc (length bs)
-      → (if v then lex_tokens more 0 (at + 1) bs else record { text = b ∷ take (more (b ∷ bs)) bs; at = at } ∷ lex_tokens more (more (b ∷ bs)) (at + 1) bs) ≡ from_token at (b ∷ bs) (cond v (1 + prefix_len is_space bs) 0)
+      → (if v then lex_tokens more 0 (at + 1) bs else record { text = b ∷ take (more (b ∷ bs)) bs; at = at } ∷ lex_tokens more (more (b ∷ bs)) (at + 1) bs) ≡
+      from_token at (b ∷ bs) (cond v (1 + prefix_len is_space bs) 0)
   unfolding from_token
   first_by b bs at true later h =
       let k = prefix_len is_space bs in
@@ -35,12 +41,14 @@ module _ (more : List ℕ → ℕ) where
       later (omega arith) ∙ rw (next, place) refl
   first_by b bs at false later h = let place : at + 0 ≡ at = omega arith in rw place refl
 
-  first_token : (at : ℕ) (bytes : List ℕ) → prefix_len is_space bytes < length bytes → lex_tokens more 0 at bytes ≡ from_token at bytes (prefix_len is_space bytes)
+  first_token : (at : ℕ) (bytes : List ℕ) → prefix_len is_space bytes < length bytes →
+      lex_tokens more 0 at bytes ≡ from_token at bytes (prefix_len is_space bytes)
   unfolding lex_tokens
   first_token at [] h = absurd (omega arith)
   first_token at (b ∷ bs) h = first_by b bs at (is_space b) (first_token (at + 1) bs) h
 
-  none_by : (b : ℕ) (bs : List ℕ) (at : ℕ) (v : Bool) → (length bs ≤ prefix_len is_space bs → lex_tokens more 0 (at + 1) bs ≡ []) → suc (length bs) ≤ cond v (1 + prefix_len is_space bs) 0
+  none_by : (b : ℕ) (bs : List ℕ) (at : ℕ) (v : Bool) → (length bs ≤ prefix_len is_space bs → lex_tokens more 0 (at + 1) bs ≡ []) →
+      suc (length bs) ≤ cond v (1 + prefix_len is_space bs) 0
       → (if v then lex_tokens more 0 (at + 1) bs else record { text = b ∷ take (more (b ∷ bs)) bs; at = at } ∷ lex_tokens more (more (b ∷ bs)) (at + 1) bs) ≡ []
   none_by b bs at true later h = later (omega arith)
   none_by b bs at false later h = absurd (omega arith)
@@ -79,7 +87,8 @@ module _ (more : List ℕ → ℕ) where
       let end_place : suc start + n ≡ end = omega arith in
       let end_place_again : (start + 1) + n ≡ end = omega arith in
       let tail : lex_tokens more n (start + 1) later ≡ lexemes more source end =
-      lex-skip n (start + 1) later ∙ ap (λ l. lex_tokens more 0 ((start + 1) + n) l) (drop-drop n (suc start) source ∙ ap (λ i. drop i source) end_place) ∙ ap (λ p. lex_tokens more 0 p (drop end source)) end_place_again in
+      lex-skip n (start + 1) later ∙ ap (λ l. lex_tokens more 0 ((start + 1) + n) l) (drop-drop n (suc start) source ∙ ap (λ i. drop i source) end_place) ∙
+      ap (λ p. lex_tokens more 0 p (drop end source)) end_place_again in
       first_token at bytes h
       ∙ ap (λ r. shape r (drop (suc k) bytes) (at + k)) here
       ∙ ap (λ l. shape rest l (at + k)) there
@@ -89,7 +98,8 @@ module _ (more : List ℕ → ℕ) where
 
   -- the first token at a place or behind it: it begins behind k bytes of white space
   pub token_at : (source : List ℕ) (at k : ℕ) → at ≤ length source → k ≡ length (spaces (drop at source)) → at + k ≢ length source
-      → lexemes more source at ≡ lexeme source (at + k) (at + k + 1 + more (drop (at + k) source)) ∷ lexemes more source (at + k + 1 + more (drop (at + k) source))
+      → lexemes more source at ≡ lexeme source (at + k) (at + k + 1 + more (drop (at + k) source)) ∷ lexemes more source
+      (at + k + 1 + more (drop (at + k) source))
   token_at source at k within h some =
       let rest = drop at source in
       let spaces_len = length-prefix_len is_space rest in
@@ -97,7 +107,8 @@ module _ (more : List ℕ → ℕ) where
       next_token source at (at + k) (at + k + 1 + more (drop (at + k) source)) (omega (arith, length-drop at source)) (omega arith) refl
 
   -- a token is within the source
-  pub token-fits : ((text : List ℕ) → 0 < length text → more text < length text) → (source : List ℕ) (at k : ℕ) → at ≤ length source → k ≡ length (spaces (drop at source)) → at + k ≢ length source
+  pub token-fits : ((text : List ℕ) → 0 < length text → more text < length text) → (source : List ℕ) (at k : ℕ) → at ≤ length source →
+      k ≡ length (spaces (drop at source)) → at + k ≢ length source
       → at + k + 1 + more (drop (at + k) source) ≤ length source
   token-fits fits source at k within h some =
       let rest = drop at source in
@@ -117,7 +128,8 @@ module _ (more : List ℕ → ℕ) where
   tail_of x y xs ys e = (cc, cc)
 
   module _ (fits : (text : List ℕ) → 0 < length text → more text < length text) where
-    lexemes-next : (source : List ℕ) (at : ℕ) (x : Lexeme) (xs : List Lexeme) → at ≤ length source → lexemes more source at ≡ x ∷ xs → (xs ≡ lexemes more source (behind x)) × (behind x ≤ length source)
+    lexemes-next : (source : List ℕ) (at : ℕ) (x : Lexeme) (xs : List Lexeme) → at ≤ length source → lexemes more source at ≡ x ∷ xs →
+        (xs ≡ lexemes more source (behind x)) × (behind x ≤ length source)
     lexemes-next source at x xs within tokens = elim (eqb_tells (at + k) (length source)) [
       | inl h ↦ (let none = no_token more source at k within refl h.1 in absurd (let no : ⊥ = cc in no))
       | inr h ↦ some h.1
@@ -135,7 +147,8 @@ module _ (more : List ℕ → ℕ) where
             (sym both.1 ∙ ap (lexemes more source) (sym place), omega arith)
 
     -- behind tokens the source is cut into tokens as it is from the place behind them on
-    pub lexemes-behind : (source : List ℕ) (at : ℕ) (front back : List Lexeme) → at ≤ length source → lexemes more source at ≡ front ++ back → back ≡ lexemes more source (behind_all at front)
+    pub lexemes-behind : (source : List ℕ) (at : ℕ) (front back : List Lexeme) → at ≤ length source → lexemes more source at ≡ front ++ back →
+        back ≡ lexemes more source (behind_all at front)
     lexemes-behind source at [] back within tokens = sym tokens
     lexemes-behind source at (x ∷ front) back within tokens =
         let next = lexemes-next source at x (front ++ back) within tokens in

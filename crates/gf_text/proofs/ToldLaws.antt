@@ -1,6 +1,7 @@
 -- What a sink gained of texts, one after another.
 -- To cite: told_then, told_failed, told_as, told_part, told_whole, told_front. The rest are steps.
-use Rattle.std.proofs.Common.{◌≡◌, ℕ, ◌+◌, ◌≤◌, List, [], ◌++◌, length, take, take_all, arith, refl, sym, ◌∙◌, subst, ap, true, length-append, Result, Ok, Err, is_ok}
+use Rattle.std.proofs.Common.{◌≡◌, ℕ, ◌+◌, ◌≤◌, List, [], ◌++◌, length, take, take_all, arith, refl, sym, ◌∙◌, subst, ap, true, length-append, Result, Ok, Err}
+use Rattle.std.proofs.Common.{is_ok}
 use Rattle.std.proofs.lemmas.List.{take-append-le, take_at}
 use Rattle.std.proofs.Math.Seq.{take-append-add}
 use Rattle.std.specs.declared.option.Option.{Option}
@@ -54,12 +55,14 @@ part_more a b m n xs ys p = record {
 }
 
 -- a text, and then another one by a call
-pub told_then : {T E : Type 0} (r : Result T E) (a b c : Option (List ℕ)) (m n o : ℕ) (xs ys text : List ℕ) → xs ++ ys ≡ text → Wrote a b m n xs → Told b c n o ys r → Told a c m o text r
+pub told_then : {T E : Type 0} (r : Result T E) (a b c : Option (List ℕ)) (m n o : ℕ) (xs ys text : List ℕ) → xs ++ ys ≡ text → Wrote a b m n xs →
+    Told b c n o ys r → Told a c m o text r
 told_then {T} {E} (Ok x) a b c m n o xs ys text is p q = subst (Wrote a c m o) is (wrote_both a b c m n o xs ys p q)
 told_then {T} {E} (Err e) a b c m n o xs ys text is p q = subst (WroteInPart a c m o) is (wrote_then_part a b c m n o xs ys p q)
 
 -- a call that fails in the first of two texts
-pub told_failed : {T E : Type 0} (r : Result T E) (e : E) (a b : Option (List ℕ)) (m n : ℕ) (xs ys text : List ℕ) → r ≡ Err e → xs ++ ys ≡ text → WroteInPart a b m n xs → Told a b m n text r
+pub told_failed : {T E : Type 0} (r : Result T E) (e : E) (a b : Option (List ℕ)) (m n : ℕ) (xs ys text : List ℕ) → r ≡ Err e → xs ++ ys ≡ text →
+    WroteInPart a b m n xs → Told a b m n text r
 told_failed r e a b m n xs ys text failed is p = subst (Told a b m n text) (sym failed) (subst (WroteInPart a b m n) is (part_more a b m n xs ys p))
 
 -- a text by another name
@@ -74,7 +77,8 @@ told_part {T} {E} (Err e) a b m n xs p = p.gained
 -- ---- lists of bytes
 
 -- a list of bytes holds the whole text behind what it held, where the call succeeds
-pub told_whole : {T E : Type 0} (r : Result T E) (xs ys : List ℕ) (m n : ℕ) (text : List ℕ) → is_ok r ≡ true → Told (Some xs) (Some ys) m n text r → ys ≡ xs ++ text
+pub told_whole : {T E : Type 0} (r : Result T E) (xs ys : List ℕ) (m n : ℕ) (text : List ℕ) → is_ok r ≡ true → Told (Some xs) (Some ys) m n text r →
+    ys ≡ xs ++ text
 told_whole {T} {E} (Ok x) xs ys m n text ok p = p.gained
 told_whole {T} {E} (Err e) xs ys m n text ok p = cc
 

@@ -68,7 +68,8 @@ vector_causes s t cause e = number_cause s.0 t cause (reason s.0 s.1 t cause e)
 
 -- where none is read the refusal is one
 pub no_vector_same : (old : Position) (e d : TextError) → HasNoVector old e → HasNoVector old d → d ≡ e
-no_vector_same old e d h k = no_text_once IsVectorText (IsNumberKind IsVectorText) (number_kind_once IsVectorText) (lexemes word_more old.source old.at) (length old.source) d e k h
+no_vector_same old e d h k = no_text_once IsVectorText (IsNumberKind IsVectorText) (number_kind_once IsVectorText) (lexemes word_more old.source old.at)
+    (length old.source) d e k h
 
 -- a fault of a vector's text isn't that a name is unknown
 not_unknown : (source : List ℕ) (from : ℕ) (f : Fault) → vector_at source from ≡ Err f → f.cause ≡ UnknownName → ⊥
@@ -78,10 +79,13 @@ not_unknown source from f e =
     (at.Parenthesis, []) (length source) (lexemes word_more source from) f e
 
 -- no vector's text stands there, and its fault is of this kind
-no_vector : (source : List ℕ) (from : ℕ) (error : TextError) → IsRefusedAs error (vector_at source from) → HasNoVector (record { source = source; at = from }) error
-no_vector source from error r = no_text vector_machine (IsNumberKind IsVectorText) (gate_number_kind vector_machine vector_gate vector_causes) (length source) (lexemes word_more source from) error r
+no_vector : (source : List ℕ) (from : ℕ) (error : TextError) → IsRefusedAs error (vector_at source from) →
+    HasNoVector (record { source = source; at = from }) error
+no_vector source from error r = no_text vector_machine (IsNumberKind IsVectorText) (gate_number_kind vector_machine vector_gate vector_causes) (length source)
+    (lexemes word_more source from) error r
 
-pub vector_refused : (source : List ℕ) (from : ℕ) (error : TextError) → Fails error (vector_at source from) → IsVectorCause (record { source = source; at = from }) error
+pub vector_refused : (source : List ℕ) (from : ℕ) (error : TextError) → Fails error (vector_at source from) →
+    IsVectorCause (record { source = source; at = from }) error
 vector_refused source from (errors.Overflow o) h = absurd h
 vector_refused source from (errors.Exponent o) h = absurd h
 vector_refused source from (errors.Syntax s) h = no_vector source from (errors.Syntax s) h

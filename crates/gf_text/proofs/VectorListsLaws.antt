@@ -27,8 +27,10 @@ use Rattle.gf_text.proofs.VectorKindsLaws.{vector_gate, vector_causes}
 vectors_machine : IsMachineOf (list_step vector_step (at.Parenthesis, [])) (opening, []) (IsListText IsVectorText)
 vectors_machine = list_machine vector_machine (Unexpected, refl)
 
-pub vectors_read : (source : List ℕ) (from : ℕ) (vs : List (List ℤ)) (place : ℕ) → vectors_at source from ≡ Ok (vs, place) → AreVectorsRead (record { source = source; at = from }) place vs
-vectors_read source from vs place e = reads (list_step vector_step (at.Parenthesis, [])) (IsListText IsVectorText) (opening, []) (length source) (lexemes word_more source from) vs place (λ ts. vectors_machine.said ts vs) e
+pub vectors_read : (source : List ℕ) (from : ℕ) (vs : List (List ℤ)) (place : ℕ) → vectors_at source from ≡ Ok (vs, place) →
+    AreVectorsRead (record { source = source; at = from }) place vs
+vectors_read source from vs place e = reads (list_step vector_step (at.Parenthesis, [])) (IsListText IsVectorText) (opening, []) (length source)
+    (lexemes word_more source from) vs place (λ ts. vectors_machine.said ts vs) e
 
 pub one_list_of_vectors : HasOneMeaning (IsListText IsVectorText)
 one_list_of_vectors = one_meaning (list_step vector_step (at.Parenthesis, [])) (IsListText IsVectorText) (opening, []) vectors_machine.given
@@ -48,19 +50,23 @@ vectors_within ts vs h = All-from_recursion AreEntriesWithin vs (all_within ts v
 
 -- ---- why no list is read
 
-no_vectors : (source : List ℕ) (from : ℕ) (error : TextError) → IsRefusedAs error (vectors_at source from) → HasNoVectors (record { source = source; at = from }) error
+no_vectors : (source : List ℕ) (from : ℕ) (error : TextError) → IsRefusedAs error (vectors_at source from) →
+    HasNoVectors (record { source = source; at = from }) error
 no_vectors source from error r =
     no_text vectors_machine (IsNumberKind (IsListText IsVectorText))
-    (gate_number_kind vectors_machine (list_gate vector_step (at.Parenthesis, []) [] (λ u v none. cc) vector_gate) (list_causes vector_machine (Unexpected, refl) vector_causes))
+    (gate_number_kind vectors_machine (list_gate vector_step (at.Parenthesis, []) [] (λ u v none. cc) vector_gate)
+    (list_causes vector_machine (Unexpected, refl) vector_causes))
     (length source) (lexemes word_more source from) error r
 
 not_unknown : (source : List ℕ) (from : ℕ) (f : Fault) → vectors_at source from ≡ Err f → f.cause ≡ UnknownName → ⊥
 not_unknown source from f e =
     let P : Cause → Type 0 = λ c. c ≡ UnknownName → ⊥ in
-    caused (list_step vector_step (at.Parenthesis, [])) P (λ h. cc) (λ s t cause h is. subst IsNumberCause is (list_causes vector_machine (Unexpected, refl) vector_causes s t cause h))
+    caused (list_step vector_step (at.Parenthesis, [])) P (λ h. cc)
+    (λ s t cause h is. subst IsNumberCause is (list_causes vector_machine (Unexpected, refl) vector_causes s t cause h))
     (opening, []) (length source) (lexemes word_more source from) f e
 
-pub vectors_refused : (source : List ℕ) (from : ℕ) (error : TextError) → Fails error (vectors_at source from) → IsVectorsCause (record { source = source; at = from }) error
+pub vectors_refused : (source : List ℕ) (from : ℕ) (error : TextError) → Fails error (vectors_at source from) →
+    IsVectorsCause (record { source = source; at = from }) error
 vectors_refused source from (errors.Overflow o) h = absurd h
 vectors_refused source from (errors.Exponent o) h = absurd h
 vectors_refused source from (errors.Syntax s) h = no_vectors source from (errors.Syntax s) h
@@ -72,4 +78,5 @@ vectors_refused source from errors.Memory h = tt
 
 -- where none is read the refusal is one
 pub no_vectors_same : (old : Position) (e d : TextError) → HasNoVectors old e → HasNoVectors old d → d ≡ e
-no_vectors_same old e d h k = no_text_once (IsListText IsVectorText) (IsNumberKind (IsListText IsVectorText)) (number_kind_once (IsListText IsVectorText)) (lexemes word_more old.source old.at) (length old.source) d e k h
+no_vectors_same old e d h k = no_text_once (IsListText IsVectorText) (IsNumberKind (IsListText IsVectorText)) (number_kind_once (IsListText IsVectorText))
+    (lexemes word_more old.source old.at) (length old.source) d e k h

@@ -1,6 +1,8 @@
 -- The machine of vectors reads exactly what the grammar of vectors says.
--- To cite: vector_machine, vector_read, vector_within, within_in_range, one_vector; takes_number, Reason, reason, one_goes, number_stops, word_stops, number_wide, number_taken. The rest are steps.
-use Rattle.std.proofs.Common.{◌≡◌, ◌<◌, ℕ, zero, suc, Bool, true, false, nat_le, List, [], ◌∷◌, ◌++◌, length, Ok, refl, sym, ap, subst, ◌∙◌, ◌⊎◌, inl, inr, append_assoc, append-nil, bytes_eq, arith, if◌then◌else◌, ℤ, unsigned_abs, All}
+-- To cite: vector_machine, vector_read, vector_within, within_in_range, one_vector; takes_number, Reason, reason, one_goes, number_stops, word_stops,
+-- number_wide, number_taken. The rest are steps.
+use Rattle.std.proofs.Common.{◌≡◌, ◌<◌, ℕ, zero, suc, Bool, true, false, nat_le, List, [], ◌∷◌, ◌++◌, length, Ok, refl, sym, ap, subst, ◌∙◌, ◌⊎◌, inl, inr}
+use Rattle.std.proofs.Common.{append_assoc, append-nil, bytes_eq, arith, if◌then◌else◌, ℤ, unsigned_abs, All}
 use Rattle.std.proofs.lemmas.List.Elements.{All-from_recursion}
 use Rattle.std.specs.List.{AllByRecursion}
 use Rattle.gf_int_theory.specs.Range.{InRange}
@@ -11,7 +13,8 @@ use Rattle.gf_text.specs.declared.vector_reader.VectorPlace.TheVariants as at
 use Rattle.gf_text.specs.Machine.{go, done, halt, after, HasOneMeaning}
 use Rattle.gf_text.specs.Tokens.{is_number, decimal_value, lexemes, word_more}
 use Rattle.gf_text.specs.SetText.{is_word}
-use Rattle.gf_text.specs.VectorText.{most_entry, signed_entry, IsSizeText, IsEntryText, AreMoreEntries, IsVectorText, IsEntryWithin, VectorState, VectorMove, size_step, entry_step, vector_step, vector_at}
+use Rattle.gf_text.specs.VectorText.{most_entry, signed_entry, IsSizeText, IsEntryText, AreMoreEntries, IsVectorText, IsEntryWithin, VectorState, VectorMove}
+use Rattle.gf_text.specs.VectorText.{size_step, entry_step, vector_step, vector_at}
 use Rattle.gf_text.specs.Marks.{parenthesis, parenthesis_end, comma, minus_mark}
 use Rattle.gf_text.specs.Vectors.{IsVectorRead, AreEntriesWithin}
 use Rattle.gf_text.proofs.MachineLaws.{after-go, after-done, not_yet, reads, one_meaning, IsMachineOf, Then, From, move, chosen, halted, ended}
@@ -89,7 +92,8 @@ one_more : (before : Entries) (t : List ℕ) (ts : Texts) (all : Entries) → t 
 one_more before t ts all is n = record {
   entries = comma ∷ (n.first ++ n.more.entries);
   later = n.z ∷ n.more.later;
-  tokens = ap (λ x. x ∷ ts) is ∙ ap (λ l. comma ∷ l) (n.tokens ∙ ap (λ l. n.first ++ l) n.more.tokens ∙ sym (append_assoc n.first n.more.entries (parenthesis_end ∷ [])));
+  tokens = ap (λ x. x ∷ ts) is ∙ ap (λ l. comma ∷ l) (n.tokens ∙ ap (λ l. n.first ++ l) n.more.tokens ∙
+      sym (append_assoc n.first n.more.entries (parenthesis_end ∷ [])));
   are_entries = (n.first, n.more.entries, refl, n.is_entry, n.more.are_entries);
   whole = n.more.whole ∙ append_assoc before (n.z ∷ []) n.more.later;
 }
@@ -119,18 +123,22 @@ Later ts = (place : VectorPlace) (before all : Entries) → From vector_step (pl
 module _ (t : List ℕ) (ts : Texts) (later : Later ts) where
   size_on : (m : Bool) (before all : Entries) → Then vector_step (size_step m before t) ts all → Sized m before (t ∷ ts) all
   unfolding Said Later
-  size_on m before all e = elim (chosen vector_step (is_number t) (if nat_le (decimal_value t) most_entry then goes (at.Behind, before ++ signed_entry m (decimal_value t) ∷ []) else stops TooWide) (stops Unexpected) ts all e) [
+  size_on m before all e = elim (chosen vector_step (is_number t) (if nat_le (decimal_value t) most_entry then goes (
+    at.Behind,
+    before ++ signed_entry m (decimal_value t) ∷ [],
+  ) else stops TooWide) (stops Unexpected) ts all e) [
     | inr h ↦ halted vector_step Unexpected ts all h.1
-    | inl h ↦ elim (chosen vector_step (nat_le (decimal_value t) most_entry) (goes (at.Behind, before ++ signed_entry m (decimal_value t) ∷ [])) (stops TooWide) ts all h.1) [
-      | inr k ↦ halted vector_step TooWide ts all k.1
-      | inl k ↦ record {
-        t = t;
-        rest = ts;
-        tokens = refl;
-        size = (h.0, refl, le_from (decimal_value t) most_entry k.0);
-        more = later at.Behind (before ++ signed_entry m (decimal_value t) ∷ []) all k.1;
-      }
-    ]
+    | inl h ↦ elim (chosen vector_step (nat_le (decimal_value t) most_entry) (goes (at.Behind, before ++ signed_entry m (decimal_value t) ∷ [])) (stops TooWide)
+        ts all h.1) [
+          | inr k ↦ halted vector_step TooWide ts all k.1
+          | inl k ↦ record {
+            t = t;
+            rest = ts;
+            tokens = refl;
+            size = (h.0, refl, le_from (decimal_value t) most_entry k.0);
+            more = later at.Behind (before ++ signed_entry m (decimal_value t) ∷ []) all k.1;
+          }
+        ]
   ]
 
   entry_on : (before all : Entries) → Then vector_step (entry_step before t) ts all → Entered before (t ∷ ts) all
@@ -147,18 +155,22 @@ module _ (t : List ℕ) (ts : Texts) (later : Later ts) where
     | inr h ↦ halted vector_step Unexpected ts all h.1
   ]
   on_token at.First before all e = elim (chosen vector_step (bytes_eq t parenthesis_end) (ends before) (entry_step before t) ts all e) [
-    | inl h ↦ (let end = ended vector_step before ts all h.1 in inl (ap (λ x. x ∷ ts) (is_mark t parenthesis_end h.0) ∙ ap (λ l. parenthesis_end ∷ l) end.0, end.1))
+    | inl h ↦ (let end = ended vector_step before ts all h.1 in inl (
+      ap (λ x. x ∷ ts) (is_mark t parenthesis_end h.0) ∙ ap (λ l. parenthesis_end ∷ l) end.0,
+      end.1,
+    ))
     | inr h ↦ inr (entry_on before all h.1)
   ]
   on_token at.Entry before all e = entry_on before all e
   on_token at.Negative before all e = size_on true before all e
-  on_token at.Behind before all e = elim (chosen vector_step (bytes_eq t comma) (goes (at.Entry, before)) (if bytes_eq t parenthesis_end then ends before else stops Unexpected) ts all e) [
-    | inl h ↦ one_more before t ts all (is_mark t comma h.0) (later at.Entry before all h.1)
-    | inr h ↦ elim (chosen vector_step (bytes_eq t parenthesis_end) (ends before) (stops Unexpected) ts all h.1) [
-      | inl k ↦ (let end = ended vector_step before ts all k.1 in at_end before t ts all (is_mark t parenthesis_end k.0) end.0 end.1)
-      | inr k ↦ halted vector_step Unexpected ts all k.1
-    ]
-  ]
+  on_token at.Behind before all e =
+      elim (chosen vector_step (bytes_eq t comma) (goes (at.Entry, before)) (if bytes_eq t parenthesis_end then ends before else stops Unexpected) ts all e) [
+        | inl h ↦ one_more before t ts all (is_mark t comma h.0) (later at.Entry before all h.1)
+        | inr h ↦ elim (chosen vector_step (bytes_eq t parenthesis_end) (ends before) (stops Unexpected) ts all h.1) [
+          | inl k ↦ (let end = ended vector_step before ts all k.1 in at_end before t ts all (is_mark t parenthesis_end k.0) end.0 end.1)
+          | inr k ↦ halted vector_step Unexpected ts all k.1
+        ]
+      ]
 
 said : (ts : Texts) → Later ts
 unfolding Later
@@ -211,7 +223,8 @@ entry_read z first (t, n, size, inr (is, e)) s before begins rest =
     ∙ after-go vector_step (at.Negative, before) (at.Behind, before ++ signed_entry true n ∷ []) t rest (size_goes true before t n size)
     ∙ ap (λ k. after vector_step (at.Behind, before ++ k ∷ []) rest) (sym e)
 
-more_given : (zs : Entries) (ts : Texts) → AreMoreEntries ts zs → (before : Entries) → From vector_step (at.Behind, before) (ts ++ parenthesis_end ∷ []) (before ++ zs)
+more_given : (zs : Entries) (ts : Texts) → AreMoreEntries ts zs → (before : Entries) →
+    From vector_step (at.Behind, before) (ts ++ parenthesis_end ∷ []) (before ++ zs)
 more_given [] ts is before =
     ap (λ l. after vector_step (at.Behind, before) (l ++ parenthesis_end ∷ [])) is
     ∙ after-done vector_step (at.Behind, before) before parenthesis_end refl
@@ -290,7 +303,8 @@ says_done place t zs cause e = cc
 says : (place : VectorPlace) (t : List ℕ) (cause : Cause) → Reason place t cause → Says place t (halt cause)
 says place t cause r other e = let same : cause ≡ other = cc in subst (Reason place t) same r
 
-either : (place : VectorPlace) (t : List ℕ) (b : Bool) (x y : VectorMove) → (b ≡ true → Says place t x) → (b ≡ false → Says place t y) → Says place t (if b then x else y)
+either : (place : VectorPlace) (t : List ℕ) (b : Bool) (x y : VectorMove) → (b ≡ true → Says place t x) → (b ≡ false → Says place t y) →
+    Says place t (if b then x else y)
 either place t true x y h k = h refl
 either place t false x y h k = k refl
 
@@ -298,18 +312,23 @@ size_says : (place : VectorPlace) (m : Bool) (zs : Entries) (t : List ℕ) → t
 size_says place m zs t takes =
     let u : VectorState = (at.Behind, zs ++ signed_entry m (decimal_value t) ∷ []) in
     either place t (is_number t) (if nat_le (decimal_value t) most_entry then goes u else stops TooWide) (stops Unexpected)
-    (λ digits. either place t (nat_le (decimal_value t) most_entry) (goes u) (stops TooWide) (λ small. says_go place t u) (λ wide. says place t TooWide (takes, digits, not_le (decimal_value t) most_entry wide)))
+    (λ digits. either place t (nat_le (decimal_value t) most_entry) (goes u) (stops TooWide) (λ small. says_go place t u)
+    (λ wide. says place t TooWide (takes, digits, not_le (decimal_value t) most_entry wide)))
     (λ no. says place t Unexpected tt)
 
 entry_says : (place : VectorPlace) (zs : Entries) (t : List ℕ) → takes_number place ≡ true → Says place t (entry_step zs t)
-entry_says place zs t takes = either place t (bytes_eq t minus_mark) (goes (at.Negative, zs)) (size_step false zs t) (λ h. says_go place t (at.Negative, zs)) (λ h. size_says place false zs t takes)
+entry_says place zs t takes = either place t (bytes_eq t minus_mark) (goes (at.Negative, zs)) (size_step false zs t)
+    (λ h. says_go place t (at.Negative, zs)) (λ h. size_says place false zs t takes)
 
 token_says : (place : VectorPlace) (zs : Entries) (t : List ℕ) → Says place t (vector_step (place, zs) t)
-token_says at.Parenthesis zs t = either at.Parenthesis t (bytes_eq t parenthesis) (goes (at.First, zs)) (stops Unexpected) (λ h. says_go at.Parenthesis t (at.First, zs)) (λ h. says at.Parenthesis t Unexpected tt)
-token_says at.First zs t = either at.First t (bytes_eq t parenthesis_end) (ends zs) (entry_step zs t) (λ h. says_done at.First t zs) (λ h. entry_says at.First zs t refl)
+token_says at.Parenthesis zs t = either at.Parenthesis t (bytes_eq t parenthesis) (goes (at.First, zs)) (stops Unexpected)
+    (λ h. says_go at.Parenthesis t (at.First, zs)) (λ h. says at.Parenthesis t Unexpected tt)
+token_says at.First zs t = either at.First t (bytes_eq t parenthesis_end) (ends zs) (entry_step zs t) (λ h. says_done at.First t zs)
+    (λ h. entry_says at.First zs t refl)
 token_says at.Entry zs t = entry_says at.Entry zs t refl
 token_says at.Negative zs t = size_says at.Negative true zs t refl
-token_says at.Behind zs t = either at.Behind t (bytes_eq t comma) (goes (at.Entry, zs)) (if bytes_eq t parenthesis_end then ends zs else stops Unexpected) (λ h. says_go at.Behind t (at.Entry, zs))
+token_says at.Behind zs t = either at.Behind t (bytes_eq t comma) (goes (at.Entry, zs)) (if bytes_eq t parenthesis_end then ends zs else stops Unexpected)
+    (λ h. says_go at.Behind t (at.Entry, zs))
     (λ h. either at.Behind t (bytes_eq t parenthesis_end) (ends zs) (stops Unexpected) (λ k. says_done at.Behind t zs) (λ k. says at.Behind t Unexpected tt))
 
 pub reason : (place : VectorPlace) (zs : Entries) (t : List ℕ) (cause : Cause) → vector_step (place, zs) t ≡ halt cause → Reason place t cause
@@ -324,7 +343,8 @@ one_goes at.Negative h zs = ((at.Behind, zs ++ signed_entry true 1 ∷ []), refl
 one_goes at.Behind h zs = cc
 
 -- a number is unexpected where none may stand
-pub number_stops : (place : VectorPlace) → takes_number place ≡ false → (zs : Entries) (t : List ℕ) → is_number t ≡ true → vector_step (place, zs) t ≡ halt Unexpected
+pub number_stops : (place : VectorPlace) → takes_number place ≡ false → (zs : Entries) (t : List ℕ) → is_number t ≡ true →
+    vector_step (place, zs) t ≡ halt Unexpected
 number_stops at.Parenthesis h zs t digits = rw (number_no_mark t 40 digits refl) refl
 number_stops at.First h zs t digits = cc
 number_stops at.Entry h zs t digits = cc
@@ -340,7 +360,8 @@ word_stops at.Negative zs t word = rw (word_no_number t word) refl
 word_stops at.Behind zs t word = rw (word_no_mark t 44 word refl, word_no_mark t 41 word refl) refl
 
 -- where a number may stand it does what a size does
-sized : (place : VectorPlace) → takes_number place ≡ true → (zs : Entries) (t : List ℕ) → is_number t ≡ true → (m : Bool) × (vector_step (place, zs) t ≡ size_step m zs t)
+sized : (place : VectorPlace) → takes_number place ≡ true → (zs : Entries) (t : List ℕ) → is_number t ≡ true →
+    (m : Bool) × (vector_step (place, zs) t ≡ size_step m zs t)
 sized at.Parenthesis h zs t digits = cc
 sized at.First h zs t digits = (false, rw (number_no_mark t 41 digits refl, number_no_mark t 45 digits refl) refl)
 sized at.Entry h zs t digits = (false, rw (number_no_mark t 45 digits refl) refl)
@@ -348,7 +369,8 @@ sized at.Negative h zs t digits = (true, refl)
 sized at.Behind h zs t digits = cc
 
 -- past the limit it is too wide
-pub number_wide : (place : VectorPlace) → takes_number place ≡ true → (zs : Entries) (t : List ℕ) → is_number t ≡ true → most_entry < decimal_value t → vector_step (place, zs) t ≡ halt TooWide
+pub number_wide : (place : VectorPlace) → takes_number place ≡ true → (zs : Entries) (t : List ℕ) → is_number t ≡ true → most_entry < decimal_value t →
+    vector_step (place, zs) t ≡ halt TooWide
 number_wide place h zs t digits above =
     let s = sized place h zs t digits in
     let wide = le_false (decimal_value t) most_entry above in
@@ -356,10 +378,12 @@ number_wide place h zs t digits above =
     s.1 ∙ here
 
 -- and it is never unexpected
-pub number_taken : (place : VectorPlace) → takes_number place ≡ true → (zs : Entries) (t : List ℕ) → is_number t ≡ true → vector_step (place, zs) t ≡ halt Unexpected → ⊥
+pub number_taken : (place : VectorPlace) → takes_number place ≡ true → (zs : Entries) (t : List ℕ) → is_number t ≡ true →
+    vector_step (place, zs) t ≡ halt Unexpected → ⊥
 number_taken place h zs t digits e =
     let s = sized place h zs t digits in
-    let here : (if nat_le (decimal_value t) most_entry then goes (at.Behind, zs ++ signed_entry s.0 (decimal_value t) ∷ []) else stops TooWide) ≡ stops Unexpected = rw digits at (sym s.1 ∙ e) in
+    let here : (if nat_le (decimal_value t) most_entry then goes (at.Behind, zs ++ signed_entry s.0 (decimal_value t) ∷ []) else stops TooWide) ≡
+    stops Unexpected = rw digits at (sym s.1 ∙ e) in
     expected (nat_le (decimal_value t) most_entry) (at.Behind, zs ++ signed_entry s.0 (decimal_value t) ∷ []) here
   where
     expected : (b : Bool) (u : VectorState) → (if b then goes u else stops TooWide) ≡ stops Unexpected → ⊥
@@ -377,8 +401,10 @@ vector_machine = record {
   tells = λ s t e. reason s.0 s.1 t Ended e;
 }
 
-pub vector_read : (source : List ℕ) (from : ℕ) (zs : Entries) (place : ℕ) → vector_at source from ≡ Ok (zs, place) → IsVectorRead (record { source = source; at = from }) place zs
-vector_read source from zs place e = reads vector_step IsVectorText (at.Parenthesis, []) (length source) (lexemes word_more source from) zs place (λ ts. vector_said ts zs) e
+pub vector_read : (source : List ℕ) (from : ℕ) (zs : Entries) (place : ℕ) → vector_at source from ≡ Ok (zs, place) →
+    IsVectorRead (record { source = source; at = from }) place zs
+vector_read source from zs place e = reads vector_step IsVectorText (at.Parenthesis, []) (length source) (lexemes word_more source from) zs place
+    (λ ts. vector_said ts zs) e
 
 pub one_vector : HasOneMeaning IsVectorText
 one_vector = one_meaning vector_step IsVectorText (at.Parenthesis, []) vector_given

@@ -1,6 +1,7 @@
 -- A printed vector is read again.
 -- To cite: vectors_again. The rest are steps.
-use Rattle.std.proofs.Common.{◌≡◌, ◌≤◌, ◌+◌, ℕ, suc, ℤ, pos, negsuc, false, List, [], ◌∷◌, ◌++◌, length, flat_map, decimal, refl, ap, inl, inr, All, append_assoc, arith}
+use Rattle.std.proofs.Common.{◌≡◌, ◌≤◌, ◌+◌, ℕ, suc, ℤ, pos, negsuc, false, List, [], ◌∷◌, ◌++◌, length, flat_map, decimal, refl, ap, inl, inr, All}
+use Rattle.std.proofs.Common.{append_assoc, arith}
 use Rattle.std.specs.List.{AllByRecursion}
 use Rattle.gf_text.specs.declared.error.TextError.{TextError}
 use Rattle.gf_text.specs.declared.error.TextError.TheVariants as errors
@@ -36,7 +37,8 @@ entry_spelled (pos n) rest small stops = record {
 entry_spelled (negsuc n) rest small stops = record {
   tokens = minus_mark ∷ decimal (suc n) ∷ [];
   spelled = spelled-++ word_more minus_mark (decimal (suc n)) rest (minus_mark ∷ []) (decimal (suc n) ∷ [])
-      (spelled-token word_more minus_mark (decimal (suc n) ++ rest) (mark_token 45 (decimal (suc n) ++ rest) refl refl)) (digits_spelled (suc n) rest small stops);
+      (spelled-token word_more minus_mark (decimal (suc n) ++ rest) (mark_token 45 (decimal (suc n) ++ rest) refl refl))
+      (digits_spelled (suc n) rest small stops);
   said = (decimal (suc n), suc n, is_size (suc n) small, inr (refl, refl));
 }
 
@@ -114,4 +116,5 @@ pub vectors_again : VectorsAreReadAgain
 vectors_again zs before text small =
     let front = front_spelled zs text (one_by_one zs small) in
     read_as (record { source = before ++ (vector_text zs ++ text); at = length before }) (length before + length (vector_text zs)) zs
-    (spelled-read word_more IsVectorText zs before (40 ∷ entries_text zs) parenthesis_end text front.tokens front.spelled (mark_token 41 text refl refl) front.said)
+    (spelled-read word_more IsVectorText zs before (40 ∷ entries_text zs) parenthesis_end text front.tokens front.spelled (mark_token 41 text refl refl)
+    front.said)

@@ -2,7 +2,8 @@
 -- The exponents of equal variables of a term are added from the left; like terms are added; the first term, as written,
 -- that remains is marked.
 -- Laws: proofs/CombiningLaws.antt.
-use Rattle.std.specs.Prelude.{◌≡◌, ◌≢◌, ℕ, pos, ◌+◌, ◌-◌, ◌^◌, ◌<◌, Bool, true, false, nat_lt, List, [], ◌∷◌, Option, Some, IfSome, MatchOption, Result, Ok, Err, slice_get, slice_index, slice_set, replicate, if◌then◌else◌}
+use Rattle.std.specs.Prelude.{◌≡◌, ◌≢◌, ℕ, pos, ◌+◌, ◌-◌, ◌^◌, ◌<◌, Bool, true, false, nat_lt, List, [], ◌∷◌, Option, Some, IfSome, MatchOption, Result, Ok}
+use Rattle.std.specs.Prelude.{Err, slice_get, slice_index, slice_set, replicate, if◌then◌else◌}
 use Rattle.gf_frac.specs.Fraction.{Fraction, over, zero_ℚ, neg_ℚ}
 use Rattle.gf_exponents_theory.specs.Exponents.{Exponents}
 use Rattle.gf_poly.specs.declared.Term.{Term}

@@ -33,7 +33,8 @@ ReturnsRead view (Ok x) read = read ≡ Ok (view x)
 ReturnsRead view (Err e) read = Fails e read
 
 -- No tokens at the front of these are a text of the grammar; the refusal names the place of the fault, and says which.
-pub record IsNoText {Y : Type 0} (grammar : List (List ℕ) → Y → Type 0) (kind : List (List ℕ) → List ℕ → Cause → Type 0) (xs : List Lexeme) (end : ℕ) (e : TextError) : Type 0 where
+pub record IsNoText {Y : Type 0} (grammar : List (List ℕ) → Y → Type 0) (kind : List (List ℕ) → List ℕ → Cause → Type 0) (xs : List Lexeme) (end : ℕ)
+    (e : TextError) : Type 0 where
   pub fault : Fault
   pub refused : refusal fault ≡ e
   pub place : IsFault grammar kind xs end fault

@@ -15,7 +15,8 @@ AreMoreItems item ts (x ∷ xs) = (first : List (List ℕ)) × (rest : List (Lis
 -- a list: items joined by commas between braces
 abbrev pub IsListText : {A : Type 0} → (List (List ℕ) → A → Type 0) → List (List ℕ) → List A → Type 0
 IsListText item ts [] = ts ≡ brace ∷ brace_end ∷ []
-IsListText item ts (x ∷ xs) = (first : List (List ℕ)) × (rest : List (List ℕ)) × (ts ≡ brace ∷ (first ++ (rest ++ brace_end ∷ []))) × item first x × AreMoreItems item rest xs
+IsListText item ts (x ∷ xs) = (first : List (List ℕ)) × (rest : List (List ℕ)) × (ts ≡ brace ∷ (first ++ (rest ++ brace_end ∷ []))) × item first x ×
+    AreMoreItems item rest xs
 
 -- ---- the machine
 

@@ -74,7 +74,8 @@ GoesOnToText {A} grammar ts = (later : List (List ℕ)) × (a : A) × grammar (t
 -- At this place stands the first token after which nothing goes on: what stands before it goes on to a text of the
 -- grammar, and with it never does. `kind` says of the texts before a token, of its text and of a cause whether the fault
 -- there is of this cause.
-pub record StandsAt {A : Type 0} (grammar : List (List ℕ) → A → Type 0) (kind : List (List ℕ) → List ℕ → Cause → Type 0) (xs : List Lexeme) (place : ℕ) (cause : Cause) : Type 0 where
+pub record StandsAt {A : Type 0} (grammar : List (List ℕ) → A → Type 0) (kind : List (List ℕ) → List ℕ → Cause → Type 0) (xs : List Lexeme) (place : ℕ)
+    (cause : Cause) : Type 0 where
   pub front : List Lexeme
   pub token : Lexeme
   pub back : List Lexeme

@@ -48,7 +48,8 @@ HasSetSums n qs (came.Exponent o) = IsCombiningCause n (polynomials_of qs) (erro
 
 -- whatever sets stand before it, what came of them comes to this with what came of a set
 abbrev pub AddsSet : Sums → SetSums → SetSums → Type 0
-AddsSet next old new = (n : ℕ) (qs : List (List (List WrittenTerm))) (q : List (List WrittenTerm)) → HasSetSums n qs old → HasSums n q next → HasSetSums n (qs ++ q ∷ []) new
+AddsSet next old new = (n : ℕ) (qs : List (List (List WrittenTerm))) (q : List (List WrittenTerm)) → HasSetSums n qs old → HasSums n q next →
+    HasSetSums n (qs ++ q ∷ []) new
 
 -- each polynomial of each of these sets has n variables
 abbrev pub AreAllIn : ℕ → List (List Written) → Type 0
@@ -106,7 +107,8 @@ pub record HaveSumOverflow (ring : List (List ℕ)) (old : Position) (o : Overfl
 
 -- no text of a list of sets stands there, and the fault is of this kind
 abbrev pub HasNoSets : List (List ℕ) → Position → TextError → Type 0
-HasNoSets ring old e = IsNoText (IsListText (IsSetText ring)) (IsTokenKind ring (IsListText (IsSetText ring))) (lexemes (ring_more ring) old.source old.at) (length old.source) e
+HasNoSets ring old e = IsNoText (IsListText (IsSetText ring)) (IsTokenKind ring (IsListText (IsSetText ring))) (lexemes (ring_more ring) old.source old.at)
+    (length old.source) e
 
 -- why a list of sets is refused
 abbrev pub IsSetsCause : List (List ℕ) → Position → TextError → Type 0

@@ -3,7 +3,8 @@
 -- where none is written), powers of variables (each exponent 1 where none is written).
 -- `IsSetText` is the grammar, `set_step` the machine.
 -- Laws: proofs/SetTextLaws.antt, proofs/SetReadLaws.antt.
-use Rattle.std.specs.Prelude.{◌≡◌, ◌⊎◌, ℕ, ◌<◌, ◌≤◌, ◌-◌, ◌^◌, ◌==◌, ◌&&◌, nat_le, Bool, true, false, List, [], ◌∷◌, ◌++◌, length, Option, Some, None, bytes_eq, if◌then◌else◌, Result}
+use Rattle.std.specs.Prelude.{◌≡◌, ◌⊎◌, ℕ, ◌<◌, ◌≤◌, ◌-◌, ◌^◌, ◌==◌, ◌&&◌, nat_le, Bool, true, false, List, [], ◌∷◌, ◌++◌, length, Option, Some, None, bytes_eq}
+use Rattle.std.specs.Prelude.{if◌then◌else◌, Result}
 use Rattle.std.specs.List.{position_from}
 use Rattle.gf_text.specs.Machine.{Move, go, done, halt, Fault, run}
 use Rattle.gf_text.specs.Marks.{plus_mark, minus_mark, comma, star, slash, caret, brace, brace_end}
@@ -52,12 +53,14 @@ IsStar ts = (ts ≡ []) ⊎ (ts ≡ star ∷ [])
 -- powers behind something, each with or without a * before it
 abbrev pub AreMoreFactors : List (List ℕ) → List (List ℕ) → List Factor → Type 0
 AreMoreFactors ring ts [] = ts ≡ []
-AreMoreFactors ring ts (f ∷ fs) = (between : List (List ℕ)) × (first : List (List ℕ)) × (rest : List (List ℕ)) × (ts ≡ between ++ (first ++ rest)) × IsStar between × IsFactorText ring first f × AreMoreFactors ring rest fs
+AreMoreFactors ring ts (f ∷ fs) = (between : List (List ℕ)) × (first : List (List ℕ)) × (rest : List (List ℕ)) × (ts ≡ between ++ (first ++ rest)) ×
+    IsStar between × IsFactorText ring first f × AreMoreFactors ring rest fs
 
 -- powers, at least one
 abbrev pub IsMonomialText : List (List ℕ) → List (List ℕ) → List Factor → Type 0
 IsMonomialText ring ts [] = ⊥
-IsMonomialText ring ts (f ∷ fs) = (first : List (List ℕ)) × (rest : List (List ℕ)) × (ts ≡ first ++ rest) × IsFactorText ring first f × AreMoreFactors ring rest fs
+IsMonomialText ring ts (f ∷ fs) = (first : List (List ℕ)) × (rest : List (List ℕ)) × (ts ≡ first ++ rest) × IsFactorText ring first f ×
+    AreMoreFactors ring rest fs
 
 -- a rational number p/q: a number, or two with a / between them, the second not zero
 abbrev pub IsRationalText : List (List ℕ) → ℕ → ℕ → Type 0
@@ -66,13 +69,15 @@ IsRationalText ts p q = ((t : List ℕ) × (ts ≡ t ∷ []) × IsNumberText t p
 
 -- a term: a rational number and powers behind it, if any; or powers alone
 abbrev pub IsTermText : List (List ℕ) → List (List ℕ) → WrittenTerm → Type 0
-IsTermText ring ts u = ((rational : List (List ℕ)) × (rest : List (List ℕ)) × (ts ≡ rational ++ rest) × IsRationalText rational u.numer u.denom × AreMoreFactors ring rest u.factors)
+IsTermText ring ts u = ((rational : List (List ℕ)) × (rest : List (List ℕ)) × (ts ≡ rational ++ rest) × IsRationalText rational u.numer u.denom ×
+    AreMoreFactors ring rest u.factors)
     ⊎ ((u.numer ≡ 1) × (u.denom ≡ 1) × IsMonomialText ring ts u.factors)
 
 -- terms, each behind a sign
 abbrev pub AreMoreTerms : List (List ℕ) → List (List ℕ) → List WrittenTerm → Type 0
 AreMoreTerms ring ts [] = ts ≡ []
-AreMoreTerms ring ts (u ∷ us) = (term : List (List ℕ)) × (rest : List (List ℕ)) × (ts ≡ sign u.minus ∷ (term ++ rest)) × IsTermText ring term u × AreMoreTerms ring rest us
+AreMoreTerms ring ts (u ∷ us) = (term : List (List ℕ)) × (rest : List (List ℕ)) × (ts ≡ sign u.minus ∷ (term ++ rest)) × IsTermText ring term u ×
+    AreMoreTerms ring rest us
 
 -- a sign at the front of a polynomial, or none for a plus
 abbrev pub IsFrontSign : List (List ℕ) → Bool → Type 0
@@ -81,17 +86,20 @@ IsFrontSign ts m = (ts ≡ sign m ∷ []) ⊎ ((ts ≡ []) × (m ≡ false))
 -- a polynomial: an optional sign, a term, more terms
 abbrev pub IsPolynomialText : List (List ℕ) → List (List ℕ) → List WrittenTerm → Type 0
 IsPolynomialText ring ts [] = ⊥
-IsPolynomialText ring ts (u ∷ us) = (front : List (List ℕ)) × (term : List (List ℕ)) × (rest : List (List ℕ)) × (ts ≡ front ++ (term ++ rest)) × IsFrontSign front u.minus × IsTermText ring term u × AreMoreTerms ring rest us
+IsPolynomialText ring ts (u ∷ us) = (front : List (List ℕ)) × (term : List (List ℕ)) × (rest : List (List ℕ)) × (ts ≡ front ++ (term ++ rest)) ×
+    IsFrontSign front u.minus × IsTermText ring term u × AreMoreTerms ring rest us
 
 -- polynomials, each behind a comma
 abbrev pub AreMorePolynomials : List (List ℕ) → List (List ℕ) → List (List WrittenTerm) → Type 0
 AreMorePolynomials ring ts [] = ts ≡ []
-AreMorePolynomials ring ts (q ∷ qs) = (first : List (List ℕ)) × (rest : List (List ℕ)) × (ts ≡ comma ∷ (first ++ rest)) × IsPolynomialText ring first q × AreMorePolynomials ring rest qs
+AreMorePolynomials ring ts (q ∷ qs) = (first : List (List ℕ)) × (rest : List (List ℕ)) × (ts ≡ comma ∷ (first ++ rest)) × IsPolynomialText ring first q ×
+    AreMorePolynomials ring rest qs
 
 -- a set: polynomials joined by commas between braces
 abbrev pub IsSetText : List (List ℕ) → List (List ℕ) → List (List WrittenTerm) → Type 0
 IsSetText ring ts [] = ts ≡ brace ∷ brace_end ∷ []
-IsSetText ring ts (q ∷ qs) = (first : List (List ℕ)) × (rest : List (List ℕ)) × (ts ≡ brace ∷ (first ++ (rest ++ brace_end ∷ []))) × IsPolynomialText ring first q × AreMorePolynomials ring rest qs
+IsSetText ring ts (q ∷ qs) = (first : List (List ℕ)) × (rest : List (List ℕ)) × (ts ≡ brace ∷ (first ++ (rest ++ brace_end ∷ []))) ×
+    IsPolynomialText ring first q × AreMorePolynomials ring rest qs
 
 -- ---- the machine
 

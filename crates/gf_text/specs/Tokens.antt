@@ -2,7 +2,8 @@
 -- Which bytes are one token depends on what is read. A function `more` says, of a text that begins with a token, how
 -- many bytes of the token follow its first one.
 -- Laws: proofs/TokensLaws.antt.
-use Rattle.std.specs.Prelude.{◌≡◌, ℕ, zero, suc, ◌+◌, ◌*◌, ◌-◌, Bool, false, ◌&&◌, ◌||◌, ◌==◌, nat_le, nat_eq, max, List, [], ◌∷◌, take, drop, take_while, length, if◌then◌else◌}
+use Rattle.std.specs.Prelude.{◌≡◌, ℕ, zero, suc, ◌+◌, ◌*◌, ◌-◌, Bool, false, ◌&&◌, ◌||◌, ◌==◌, nat_le, nat_eq, max, List, [], ◌∷◌, take, drop, take_while}
+use Rattle.std.specs.Prelude.{length, if◌then◌else◌}
 use Rattle.std.specs.List.{starts_with, list_all, list_any}
 use Rattle.gf_text.specs.declared.error.Syntax.{Syntax}
 use Rattle.gf_text.specs.declared.error.Kind.TheVariants as kinds

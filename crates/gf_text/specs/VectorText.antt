@@ -1,7 +1,8 @@
 -- Vectors of whole numbers: what a text of a vector is, and the machine that reads it.
 -- `IsVectorText` is the grammar, `vector_step` the machine.
 -- Laws: proofs/VectorTextLaws.antt.
-use Rattle.std.specs.Prelude.{◌≡◌, ◌⊎◌, ℕ, ◌≤◌, ◌-◌, ◌^◌, nat_le, Bool, true, false, List, [], ◌∷◌, ◌++◌, length, bytes_eq, if◌then◌else◌, Result, ℤ, pos, unsigned_abs, decimal, flat_map}
+use Rattle.std.specs.Prelude.{◌≡◌, ◌⊎◌, ℕ, ◌≤◌, ◌-◌, ◌^◌, nat_le, Bool, true, false, List, [], ◌∷◌, ◌++◌, length, bytes_eq, if◌then◌else◌, Result, ℤ, pos}
+use Rattle.std.specs.Prelude.{unsigned_abs, decimal, flat_map}
 use lib.IntN.{neg_ℤ}
 use Rattle.gf_text.specs.PrintedText.{is_below_zero}
 use Rattle.gf_text.specs.Machine.{Move, go, done, halt, Fault, run}
@@ -41,7 +42,8 @@ AreMoreEntries ts (z ∷ zs) = (first : List (List ℕ)) × (rest : List (List �
 -- a vector: entries joined by commas between parentheses
 abbrev pub IsVectorText : List (List ℕ) → List ℤ → Type 0
 IsVectorText ts [] = ts ≡ parenthesis ∷ parenthesis_end ∷ []
-IsVectorText ts (z ∷ zs) = (first : List (List ℕ)) × (rest : List (List ℕ)) × (ts ≡ parenthesis ∷ (first ++ (rest ++ parenthesis_end ∷ []))) × IsEntryText first z × AreMoreEntries rest zs
+IsVectorText ts (z ∷ zs) = (first : List (List ℕ)) × (rest : List (List ℕ)) × (ts ≡ parenthesis ∷ (first ++ (rest ++ parenthesis_end ∷ []))) ×
+    IsEntryText first z × AreMoreEntries rest zs
 
 -- the entry is within its limit
 abbrev pub IsEntryWithin : ℤ → Type 0
@@ -74,7 +76,8 @@ VectorMove = Move VectorState (List ℤ)
 
 -- a number within the limit, with the sign that stood before it
 abbrev pub size_step : Bool → List ℤ → List ℕ → VectorMove
-size_step m zs t = if is_number t then (if nat_le (decimal_value t) most_entry then go (at.Behind, zs ++ signed_entry m (decimal_value t) ∷ []) else halt cause.TooWide)
+size_step m zs t =
+    if is_number t then (if nat_le (decimal_value t) most_entry then go (at.Behind, zs ++ signed_entry m (decimal_value t) ∷ []) else halt cause.TooWide)
     else halt cause.Unexpected
 
 -- a sign or a number at the front of an entry

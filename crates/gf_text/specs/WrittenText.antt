@@ -22,8 +22,10 @@ SetsHaveOneMeaning = (ring : List (List ℕ)) → IsRing ring → HasOneMeaning 
 
 -- At a place of a source a set is read in one way at most, and where it is read it is refused but for memory.
 pub record SetsAreReadInOneWay : Type 0 where
-  pub same : (ring : List (List ℕ)) (old : Position) (place end : ℕ) (ws vs : List Written) → IsSetRead ring old place ws → IsSetRead ring old end vs → (end ≡ place) × (vs ≡ ws)
-  pub taken : (ring : List (List ℕ)) (old : Position) (place : ℕ) (ws : List Written) (e : TextError) → IsRing ring → IsSetRead ring old place ws → IsSetCause ring old e → e ≡ errors.Memory
+  pub same : (ring : List (List ℕ)) (old : Position) (place end : ℕ) (ws vs : List Written) → IsSetRead ring old place ws → IsSetRead ring old end vs →
+      (end ≡ place) × (vs ≡ ws)
+  pub taken : (ring : List (List ℕ)) (old : Position) (place : ℕ) (ws : List Written) (e : TextError) → IsRing ring → IsSetRead ring old place ws →
+      IsSetCause ring old e → e ≡ errors.Memory
 
 -- ---- what the program keeps
 
@@ -94,4 +96,5 @@ pub record IsReadAsMarked (ring : List (List ℕ)) (old : Position) (place : ℕ
 abbrev pub BasesAreReadAgain : Type 0
 BasesAreReadAgain = (ring : List (List ℕ)) (ms : List MarkedPolynomial) (before text : List ℕ)
     → IsRing ring → AreKept (length ring) ms
-    → IsReadAsMarked ring (record { source = before ++ (basis_text ring ms ++ text); at = length before }) (length before + length (basis_text ring ms)) (record { variables = length ring; items = ms })
+    → IsReadAsMarked ring (record { source = before ++ (basis_text ring ms ++ text); at = length before }) (length before + length (basis_text ring ms))
+    (record { variables = length ring; items = ms })

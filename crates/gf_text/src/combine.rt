@@ -3,7 +3,8 @@ ghost use Rattle.std.specs.Prelude.{◌≡◌, ◌≤◌, ◌<◌, ◌^◌, IfOk
 ghost use Rattle.gf_frac.specs.Fraction.{zero_ℚ};
 ghost use Rattle.gf_poly.specs.Polynomial.{coefficient, IsDescending, HasVariables};
 ghost use Rattle.gf_text.specs.Limits.{IsFactorWithin, AreFactorsWithin, IsTermWithin, AreTermsWithin, ArePolynomialsWithin};
-ghost use Rattle.gf_text.specs.Combining.{raised_by, times_factors, exponents_of, coefficient_of, term_written, terms_written, WrittenExponentsFit, IsSumOf, FindsFirst, IsPlaceOf};
+ghost use Rattle.gf_text.specs.Combining.{raised_by, times_factors, exponents_of, coefficient_of, term_written, terms_written, WrittenExponentsFit, IsSumOf};
+ghost use Rattle.gf_text.specs.Combining.{FindsFirst, IsPlaceOf};
 ghost use Rattle.gf_text.specs.Sets.{IsExponentCause, IsSummed, IsSummingCause, HasSums, Adds, from_poly};
 
 use crate::error::TextError;

@@ -9,7 +9,8 @@ ghost use Rattle.gf_text.specs.Sets.{IsIn};
 ghost use Rattle.gf_text.specs.Told.{Told};
 ghost use Rattle.gf_text.specs.VectorText.{entry_text, vector_text};
 ghost use Rattle.gf_text.specs.Vectors.{VectorsAreReadAgain};
-ghost use Rattle.gf_text.specs.WrittenText.{SetsHaveOneMeaning, SetsAreReadInOneWay, SetsAreReadAgain, BasesAreReadAgain, IsTermInRange, AreInRange, IsKeptMarked, IsWrittenKept, AreKept};
+ghost use Rattle.gf_text.specs.WrittenText.{SetsHaveOneMeaning, SetsAreReadInOneWay, SetsAreReadAgain, BasesAreReadAgain, IsTermInRange, AreInRange};
+ghost use Rattle.gf_text.specs.WrittenText.{IsKeptMarked, IsWrittenKept, AreKept};
 
 use crate::names::{Name, Ring};
 use crate::set_printer::{write_marked, write_members};

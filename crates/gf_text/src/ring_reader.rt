@@ -86,7 +86,8 @@ fn expect(t: &[u8], mark: u8, next: RingPlace) -> RingStep
 
 /// What follows a name.
 fn behind_name(t: &[u8]) -> RingStep
-    ensures { result ≡ (if bytes_eq t.now comma then RingStep.Go RingPlace.Variable else if bytes_eq t.now bracket_end then RingStep.Done else RingStep.Halt Cause.Unexpected) }
+    ensures { result ≡ (if bytes_eq t.now comma then RingStep.Go RingPlace.Variable else if bytes_eq t.now bracket_end then RingStep.Done else RingStep.Halt
+        Cause.Unexpected) }
 {
     if t == b",".as_slice() {
         return RingStep::Go(RingPlace::Variable);

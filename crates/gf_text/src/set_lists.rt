@@ -1,6 +1,7 @@
 //! The reading of lists of sets.
 ghost use Rattle.std.specs.Prelude.{◌≤◌, [], ℕ, IfOk, IfErr, OnOk, length};
-ghost use Rattle.gf_text.specs.SetLists.{HasSetSums, AddsSet, AreAllIn, sets_in, sets_first, sets_inside, sets_from, sets_at, AreListSums, AreSetsRead, IsSetsCause};
+ghost use Rattle.gf_text.specs.SetLists.{HasSetSums, AddsSet, AreAllIn, sets_in, sets_first, sets_inside, sets_from, sets_at, AreListSums, AreSetsRead};
+ghost use Rattle.gf_text.specs.SetLists.{IsSetsCause};
 ghost use Rattle.gf_text.specs.ListText.{opening};
 ghost use Rattle.gf_text.specs.Given.{Fails};
 

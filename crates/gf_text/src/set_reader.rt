@@ -1,6 +1,7 @@
 //! The reading of a set.
 ghost use Rattle.std.specs.Prelude.{◌≡◌, ◌≤◌, [], IfOk, IfErr, OnOk, length};
-ghost use Rattle.gf_text.specs.SetText.{set_at, set_step, token_step, front_step, term_or, name_or, end_step, behind_step, denominator_step, exponent_step, is_word, with_factor, next_term, next_polynomial, empty};
+ghost use Rattle.gf_text.specs.SetText.{set_at, set_step, token_step, front_step, term_or, name_or, end_step, behind_step, denominator_step, exponent_step};
+ghost use Rattle.gf_text.specs.SetText.{is_word, with_factor, next_term, next_polynomial, empty};
 ghost use Rattle.gf_text.specs.Given.{Fails};
 ghost use Rattle.gf_text.specs.GivenSet.{set_move};
 ghost use Rattle.gf_text.specs.Sets.{AreSetSums, IsSetRead, IsSetCause, AreIn};

@@ -2,7 +2,8 @@
 ghost use Rattle.std.specs.Prelude.{◌≡◌, ◌||◌, ◌==◌, ◌++◌, not, length, decimal, IfOk, flat_map, if◌then◌else◌, codes};
 ghost use Rattle.std.specs.Fmt.{signed_decimal};
 ghost use Rattle.gf_poly.specs.Polynomial.{HasVariables};
-ghost use Rattle.gf_text.specs.PrintedText.{over_text, times_text, raised_text, next_text, powers, left_text, size_text, fraction_text, monomial_text, is_unit, is_below_zero, unsigned_text, later_text, terms_text};
+ghost use Rattle.gf_text.specs.PrintedText.{over_text, times_text, raised_text, next_text, powers, left_text, size_text, fraction_text, monomial_text, is_unit};
+ghost use Rattle.gf_text.specs.PrintedText.{is_below_zero, unsigned_text, later_text, terms_text};
 ghost use Rattle.gf_text.specs.Told.{Told};
 
 use crate::names::Ring;

@@ -1,7 +1,8 @@
 //! The tokens of a text.
 ghost use Rattle.std.specs.Prelude.{◌≡◌, ◌<◌, ◌≤◌, ◌^◌, ◌-◌, ◌∷◌, [], length, take_while, max, nat_eq, bytes_eq, true, MatchOption, IfSome, if◌then◌else◌};
 ghost use Rattle.std.specs.List.{list_all, starts_with};
-ghost use Rattle.gf_text.specs.Tokens.{is_space, is_digit, is_name_byte, is_number, decimal_value, spaces, lexemes, lexeme, longest, word_more, ring_more, begins_token};
+ghost use Rattle.gf_text.specs.Tokens.{is_space, is_digit, is_name_byte, is_number, decimal_value, spaces, lexemes, lexeme, longest, word_more, ring_more};
+ghost use Rattle.gf_text.specs.Tokens.{begins_token};
 ghost use Rattle.gf_text.specs.Given.{IsNumberRead};
 
 use crate::names::{Name, Ring};
@@ -106,7 +107,8 @@ fn ring_more(ring: &Ring, text: &[u8]) -> usize
 /// of any length: a letter and all letters, digits and `_` behind it.
 pub fn word_from(source: &[u8], at: usize) -> Option<(usize, usize)>
     requires { at ≤ length source.now }
-    ensures token { MatchOption result (lexemes word_more source.now at ≡ []) (λ t. lexemes word_more source.now at ≡ lexeme source.now t.0 t.1 ∷ lexemes word_more source.now t.1) }
+    ensures token { MatchOption result (lexemes word_more source.now at ≡ []) (λ t. lexemes word_more source.now at ≡ lexeme source.now t.0 t.1 ∷
+        lexemes word_more source.now t.1) }
     ensures within { IfSome result (λ t. (at ≤ t.0) × (t.0 < t.1) × (t.1 ≤ length source.now)) }
 {
     let start = at + spaces(&source[at..]);
@@ -121,7 +123,8 @@ pub fn word_from(source: &[u8], at: usize) -> Option<(usize, usize)>
 /// the longest one of the ring that stands there; a letter at which none stands is a token by itself.
 pub(crate) fn ring_token_from(ring: &Ring, source: &[u8], at: usize) -> Option<(usize, usize)>
     requires { at ≤ length source.now }
-    ensures token { MatchOption result (lexemes (ring_more ring.now) source.now at ≡ []) (λ t. lexemes (ring_more ring.now) source.now at ≡ lexeme source.now t.0 t.1 ∷ lexemes (ring_more ring.now) source.now t.1) }
+    ensures token { MatchOption result (lexemes (ring_more ring.now) source.now at ≡ []) (λ t. lexemes (ring_more ring.now) source.now at ≡
+        lexeme source.now t.0 t.1 ∷ lexemes (ring_more ring.now) source.now t.1) }
     ensures within { IfSome result (λ t. (at ≤ t.0) × (t.0 < t.1) × (t.1 ≤ length source.now)) }
 {
     let start = at + spaces(&source[at..]);

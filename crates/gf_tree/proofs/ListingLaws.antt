@@ -34,11 +34,13 @@ back_again : (k : Region) (u v : MarkedPolynomials) → IsNode k u → IsNodeIn 
 back_again k u v h m = node_moved (fan_of k u) (fan_of k v) u (own_fan (fan_of k u) v m) h
 
 -- a step gives one more
-pub given_more : (start old new : Walk) (done : List MarkedPolynomials) (v : MarkedPolynomials) → IsNodeIn (ideal_at start) start.here → HasGiven start done old → IsStepTo old new v → HasGiven start (done ++ v ∷ []) new
+pub given_more : (start old new : Walk) (done : List MarkedPolynomials) (v : MarkedPolynomials) → IsNodeIn (ideal_at start) start.here →
+    HasGiven start done old → IsStepTo old new v → HasGiven start (done ++ v ∷ []) new
 given_more start old new done v h g s =
     let k = start.region in
     let basis : IsNodeIn (fan_of k start.here) new.here =
-    across_fans k start.here old.here new.here g.basis (subst (λ (j : Region). IsNodeIn (fan_of j old.here) new.here) g.region (subst (IsNodeIn (ideal_at old)) (sym s.here) s.basis)) in
+    across_fans k start.here old.here new.here g.basis (subst (λ (j : Region). IsNodeIn (fan_of j old.here) new.here) g.region
+    (subst (IsNodeIn (ideal_at old)) (sym s.here) s.basis)) in
     record {
       pairs = s.pairs ∙ g.pairs;
       region = s.region ∙ g.region;
@@ -55,27 +57,34 @@ pub given_all : (start old new : Walk) (done nodes : List MarkedPolynomials) →
 given_all start old new done nodes g e l = (let a = g.whole nodes l in all_there nodes done a.0 a.1 (e.none a.0 a.2))
 
 -- a refusal of its walker is one of a search over the bases of the first one's ideal
-pub refusal_given : (start now : Walk) (done : List MarkedPolynomials) (e : TreeError) → HasGiven start done now → IsTreeRefusal (ideal_at now) now.pairs e → IsTreeRefusal (ideal_at start) start.pairs e
+pub refusal_given : (start now : Walk) (done : List MarkedPolynomials) (e : TreeError) → HasGiven start done now → IsTreeRefusal (ideal_at now) now.pairs e →
+    IsTreeRefusal (ideal_at start) start.pairs e
 refusal_given start now done e g r =
     refusal_beside start.region start.pairs start.here now.here e g.basis
-    (subst (λ (p : ℕ). IsTreeRefusal (fan_of start.region now.here) p e) g.pairs (subst (λ (j : Region). IsTreeRefusal (fan_of j now.here) now.pairs e) g.region r))
+    (subst (λ (p : ℕ). IsTreeRefusal (fan_of start.region now.here) p e) g.pairs (subst (λ (j : Region). IsTreeRefusal (fan_of j now.here) now.pairs e)
+    g.region r))
 
 -- and limits are kept alike
-pub limits_given : (start now : Walk) (done : List MarkedPolynomials) → HasGiven start done now → IsTreeWithinLimits (ideal_at start) start.pairs → IsTreeWithinLimits (ideal_at now) now.pairs
+pub limits_given : (start now : Walk) (done : List MarkedPolynomials) → HasGiven start done now → IsTreeWithinLimits (ideal_at start) start.pairs →
+    IsTreeWithinLimits (ideal_at now) now.pairs
 limits_given start now done g w =
     subst (λ (j : Region). IsTreeWithinLimits (fan_of j now.here) now.pairs) (sym g.region)
-    (subst (λ (p : ℕ). IsTreeWithinLimits (fan_of start.region now.here) p) (sym g.pairs) (limits_moved (ideal_at start) (fan_of start.region now.here) start.pairs (own_fan (ideal_at start) now.here g.basis) w))
+    (subst (λ (p : ℕ). IsTreeWithinLimits (fan_of start.region now.here) p) (sym g.pairs) (limits_moved (ideal_at start) (fan_of start.region now.here)
+    start.pairs (own_fan (ideal_at start) now.here g.basis) w))
 
 -- so what was left at the start is what was given
-pub all_left : (start old new : Walk) (done : List MarkedPolynomials) → ((nodes : List MarkedPolynomials) × AreLeft start nodes) → HasGiven start done old → IsEnd old new → AreLeft start done
+pub all_left : (start old new : Walk) (done : List MarkedPolynomials) → ((nodes : List MarkedPolynomials) × AreLeft start nodes) → HasGiven start done old →
+    IsEnd old new → AreLeft start done
 all_left start old new done f g e = subst (AreLeft start) (given_all start old new done f.0 g e f.1) f.1
 
 -- ---- below the root
 
 -- what is left before the root is the list of all bases
-pub list_below : (k : Region) (v root : MarkedPolynomials) (pairs : ℕ) (nodes : List MarkedPolynomials) → IsNode k v → IsRootFor k v root → AreLeft (walk_at root k pairs) nodes → IsListOfBases k v nodes
+pub list_below : (k : Region) (v root : MarkedPolynomials) (pairs : ℕ) (nodes : List MarkedPolynomials) → IsNode k v → IsRootFor k v root →
+    AreLeft (walk_at root k pairs) nodes → IsListOfBases k v nodes
 list_below k v root pairs nodes h r l =
-    let whole : IsWholeList IsBefore (IsParent k) root nodes = whole_below IsBefore (IsParent k) before_strict (upward_tree k) root (no_loop-rank (IsParent k) (rank k) (upward_falls k) root) nodes l in
+    let whole : IsWholeList IsBefore (IsParent k) root nodes =
+    whole_below IsBefore (IsParent k) before_strict (upward_tree k) root (no_loop-rank (IsParent k) (rank k) (upward_falls k) root) nodes l in
     list_of_bases k root v nodes h r.basis r.is_root whole
 
 -- there is a list of what is left before a basis
@@ -83,15 +92,15 @@ pub root_list : (k : Region) (root : MarkedPolynomials) (pairs : ℕ) → IsNode
 root_list k root pairs h = (let f = upward_finite k root h in (f.nodes, f.leaves))
 
 -- a walker that began before the root and has nothing left gave all bases
-pub all_given : (k : Region) (v root : MarkedPolynomials) (pairs : ℕ) (done : List MarkedPolynomials) (old new : Walk) → IsNode k v → IsRootFor k v root → HasGiven (walk_at root k pairs) done old → IsEnd old new →
-    IsListOfBases k v done
+pub all_given : (k : Region) (v root : MarkedPolynomials) (pairs : ℕ) (done : List MarkedPolynomials) (old new : Walk) → IsNode k v → IsRootFor k v root →
+    HasGiven (walk_at root k pairs) done old → IsEnd old new → IsListOfBases k v done
 all_given k v root pairs done old new h r g e =
     let f = root_list k root pairs r.own in
     subst (IsListOfBases k v) (given_all (walk_at root k pairs) old new done f.0 g e f.1) (list_below k v root pairs f.0 h r f.1)
 
 -- what it gave so far is the beginning of that list
-pub part_given : (k : Region) (v root : MarkedPolynomials) (pairs : ℕ) (done : List MarkedPolynomials) (now : Walk) → IsNode k v → IsRootFor k v root → HasGiven (walk_at root k pairs) done now →
-    (rest : List MarkedPolynomials) × IsListOfBases k v (done ++ rest)
+pub part_given : (k : Region) (v root : MarkedPolynomials) (pairs : ℕ) (done : List MarkedPolynomials) (now : Walk) → IsNode k v → IsRootFor k v root →
+    HasGiven (walk_at root k pairs) done now → (rest : List MarkedPolynomials) × IsListOfBases k v (done ++ rest)
 part_given k v root pairs done now h r g =
     let f = root_list k root pairs r.own in
     let a = g.whole f.0 f.1 in
@@ -99,12 +108,12 @@ part_given k v root pairs done now h r g =
 
 -- ---- in the words of the ideal
 
-pub all_listed : (F : Fan) (v root : MarkedPolynomials) (pairs : ℕ) (done : List MarkedPolynomials) (old new : Walk) → IsNodeIn F v → IsRootFor F.region v root → HasGiven (walk_at root F.region pairs) done old → IsEnd old new →
-    IsListFor F done
+pub all_listed : (F : Fan) (v root : MarkedPolynomials) (pairs : ℕ) (done : List MarkedPolynomials) (old new : Walk) → IsNodeIn F v →
+    IsRootFor F.region v root → HasGiven (walk_at root F.region pairs) done old → IsEnd old new → IsListFor F done
 all_listed F v root pairs done old new h r g x = list_for F v done h (all_given F.region v root pairs done old new (own F.region F v refl h) r g x)
 
-pub part_listed : (F : Fan) (v root : MarkedPolynomials) (pairs : ℕ) (done : List MarkedPolynomials) (now : Walk) → IsNodeIn F v → IsRootFor F.region v root → HasGiven (walk_at root F.region pairs) done now →
-    (rest : List MarkedPolynomials) × IsListFor F (done ++ rest)
+pub part_listed : (F : Fan) (v root : MarkedPolynomials) (pairs : ℕ) (done : List MarkedPolynomials) (now : Walk) → IsNodeIn F v → IsRootFor F.region v root →
+    HasGiven (walk_at root F.region pairs) done now → (rest : List MarkedPolynomials) × IsListFor F (done ++ rest)
 part_listed F v root pairs done now h r g =
     let a = part_given F.region v root pairs done now (own F.region F v refl h) r g in
     (a.0, list_for F v (done ++ a.0) h a.1)

@@ -1,5 +1,6 @@
 -- Refusals of a search: of its steps, seen from another basis of the same ideal, and where it stays within its limits.
--- To cite: flip_refused, cone_refused, flip_at, cone_at, place_at, refusal_moved, limits_moved, refusal_beside, call_refused, refusal_above, refusal_over, refused_on_way,
+-- To cite: flip_refused, cone_refused, flip_at, cone_at, place_at, refusal_moved, limits_moved, refusal_beside, call_refused, refusal_above, refusal_over,
+-- refused_on_way,
 -- no_memory_on_way, way_refused, way_only, within_memory, only_memory,
 -- only_memory_back.
 use Rattle.std.proofs.Common.{◌≡◌, ℕ, ◌<◌, ◌≤◌, List, [], ℤ, length, Result, Ok, Err, IfErr, arith, refl, sym, ap, ◌∙◌, subst}
@@ -28,13 +29,13 @@ use Rattle.gf_tree.specs.Refusals.{IsTreeRefusal, IsRefusedAtBasis, IsWayRefused
 
 -- ---- steps
 
-pub flip_refused : (k : Region) (pairs : ℕ) (v : MarkedPolynomials) (a : List ℤ) (r : BasisError) (e : TreeError) → IsNode k v → IsFlippable v.variables k v.items a →
-    IsFlipRefusal v.variables v.items a pairs r → e ≡ of_flip_error r → IsTreeRefusal (fan_of k v) pairs e
+pub flip_refused : (k : Region) (pairs : ℕ) (v : MarkedPolynomials) (a : List ℤ) (r : BasisError) (e : TreeError) → IsNode k v →
+    IsFlippable v.variables k v.items a → IsFlipRefusal v.variables v.items a pairs r → e ≡ of_flip_error r → IsTreeRefusal (fan_of k v) pairs e
 flip_refused k pairs v a r e h f c q = IsTreeRefusal.flip v a r h f c q
 
 -- a step of the system of one of the first normals
-pub cone_refused : (k : Region) (pairs : ℕ) (v : MarkedPolynomials) (c : ConeRows) (m : ℕ) (r : GordanError) (e : TreeError) → IsNode k v → IsConeOf v.variables k v.items c →
-    m ≤ length c.normals → Failed (IsStepBefore c m) r → e ≡ of_cone_error r → IsTreeRefusal (fan_of k v) pairs e
+pub cone_refused : (k : Region) (pairs : ℕ) (v : MarkedPolynomials) (c : ConeRows) (m : ℕ) (r : GordanError) (e : TreeError) → IsNode k v →
+    IsConeOf v.variables k v.items c → m ≤ length c.normals → Failed (IsStepBefore c m) r → e ≡ of_cone_error r → IsTreeRefusal (fan_of k v) pairs e
 cone_refused k pairs v c m (cones.Cone s) e h is l f q =
     IsTreeRefusal.system v s h (record { cone = c; is_cone = is; place = f.0; inside = omega (arith, l, f.1); step = f.2 }) q
 cone_refused k pairs v c m cones.Memory e h is l f q = IsTreeRefusal.memory q
@@ -47,7 +48,8 @@ flip_at k pairs v a r e f c q = IsRefusedAtBasis.flip a r f c q
 
 pub cone_at : (k : Region) (pairs : ℕ) (v : MarkedPolynomials) (c : ConeRows) (m : ℕ) (r : GordanError) (e : TreeError) → IsConeOf v.variables k v.items c →
     m ≤ length c.normals → Failed (IsStepBefore c m) r → e ≡ of_cone_error r → IsRefusedAtBasis k pairs v e
-cone_at k pairs v c m (cones.Cone s) e is l f q = IsRefusedAtBasis.system s (record { cone = c; is_cone = is; place = f.0; inside = omega (arith, l, f.1); step = f.2 }) q
+cone_at k pairs v c m (cones.Cone s) e is l f q =
+    IsRefusedAtBasis.system s (record { cone = c; is_cone = is; place = f.0; inside = omega (arith, l, f.1); step = f.2 }) q
 cone_at k pairs v c m cones.Memory e is l f q = IsRefusedAtBasis.memory q
 
 pub place_at : (k : Region) (pairs : ℕ) (v : MarkedPolynomials) (c : ConeRows) (i : ℕ) (r : GordanError) (e : TreeError) → IsConeOf v.variables k v.items c →
@@ -67,21 +69,36 @@ pub refusal_moved : (F G : Fan) (pairs : ℕ) (e : TreeError) → SameFan F G �
 refusal_moved F G pairs e s (IsTreeRefusal.flip v a r h f c q) =
     IsTreeRefusal.flip v a r (node_moved F G v s h) (subst (λ (k : Region). IsFlippable v.variables k v.items a) s.region f) c q
 refusal_moved F G pairs e s (IsTreeRefusal.system v o h t q) =
-    IsTreeRefusal.system v o (node_moved F G v s h) (record { cone = t.cone; is_cone = subst (λ (k : Region). IsConeOf v.variables k v.items t.cone) s.region t.is_cone; place = t.place; inside = t.inside; step = t.step }) q
+    IsTreeRefusal.system v o (node_moved F G v s h) (record {
+      cone = t.cone;
+      is_cone = subst (λ (k : Region). IsConeOf v.variables k v.items t.cone) s.region t.is_cone;
+      place = t.place;
+      inside = t.inside;
+      step = t.step;
+    }) q
 refusal_moved F G pairs e s (IsTreeRefusal.memory q) = IsTreeRefusal.memory q
 
 pub limits_moved : (F G : Fan) (pairs : ℕ) → SameFan F G → IsTreeWithinLimits F pairs → IsTreeWithinLimits G pairs
 limits_moved F G pairs s w = record {
   flips = λ v a h f. w.flips v a (node_moved G F v (back_fan F G s) h) (subst (λ (k : Region). IsFlippable v.variables k v.items a) (sym s.region) f);
-  systems = λ v o h t. w.systems v o (node_moved G F v (back_fan F G s) h) (record { cone = t.cone; is_cone = subst (λ (k : Region). IsConeOf v.variables k v.items t.cone) (sym s.region) t.is_cone; place = t.place; inside = t.inside; step = t.step });
+  systems = λ v o h t. w.systems v o (node_moved G F v (back_fan F G s) h)
+      (record {
+        cone = t.cone;
+        is_cone = subst (λ (k : Region). IsConeOf v.variables k v.items t.cone) (sym s.region) t.is_cone;
+        place = t.place;
+        inside = t.inside;
+        step = t.step;
+      });
 }
 
 -- a refusal at another basis of the ideal
-pub refusal_beside : (k : Region) (pairs : ℕ) (v w : MarkedPolynomials) (e : TreeError) → IsNodeIn (fan_of k v) w → IsTreeRefusal (fan_of k w) pairs e → IsTreeRefusal (fan_of k v) pairs e
+pub refusal_beside : (k : Region) (pairs : ℕ) (v w : MarkedPolynomials) (e : TreeError) → IsNodeIn (fan_of k v) w → IsTreeRefusal (fan_of k w) pairs e →
+    IsTreeRefusal (fan_of k v) pairs e
 refusal_beside k pairs v w e h r = refusal_moved (fan_of k w) (fan_of k v) pairs e (back_fan (fan_of k v) (fan_of k w) (own_fan (fan_of k v) w h)) r
 
 -- a refusal of a call at a basis
-pub call_refused : (k : Region) (pairs : ℕ) (v : MarkedPolynomials) (e : TreeError) → IsNode k v → IsCallRefusal k pairs v e → IsTreeRefusal (fan_of k v) pairs e
+pub call_refused : (k : Region) (pairs : ℕ) (v : MarkedPolynomials) (e : TreeError) → IsNode k v → IsCallRefusal k pairs v e →
+    IsTreeRefusal (fan_of k v) pairs e
 call_refused k pairs v e h (IsCallRefusal.here r) = at_refused k pairs v e h r
 call_refused k pairs v e h (IsCallRefusal.beside w b a r) =
     let m = across_in k v w b h a in
@@ -100,7 +117,8 @@ pub refusal_over : (k : Region) (pairs : ℕ) (v : MarkedPolynomials) (e : TreeE
 refusal_over k pairs v e h r = refusal_above k pairs v r.0 e h r.1
 
 -- a refusal at a basis to which the way up from v leads
-pub refused_on_way : (k : Region) (pairs : ℕ) (v u : MarkedPolynomials) (p : List (List ℤ)) (e : TreeError) → Leads (IsParent k) u p v → IsRefusedAtBasis k pairs u e → IsWayRefused k pairs v e
+pub refused_on_way : (k : Region) (pairs : ℕ) (v u : MarkedPolynomials) (p : List (List ℤ)) (e : TreeError) → Leads (IsParent k) u p v →
+    IsRefusedAtBasis k pairs u e → IsWayRefused k pairs v e
 refused_on_way k pairs v u p e l r = (length p, record { node = u; path = p; leads = l; near = omega arith; refused = r })
 
 -- want of memory is one at v itself
@@ -113,7 +131,8 @@ way_refused k pairs v e h r =
     let m = root_above k v r.1.node r.1.path h r.1.leads in
     refusal_beside k pairs v r.1.node e m (at_refused k pairs r.1.node e (root_own k v r.1.node h m) r.1.refused)
 
-pub way_only : {A : Type 0} (k : Region) (pairs : ℕ) (v : MarkedPolynomials) (r : Result A TreeError) → IsNode k v → IfErr r (IsWayRefused k pairs v) → IfErr r (IsTreeRefusal (fan_of k v) pairs)
+pub way_only : {A : Type 0} (k : Region) (pairs : ℕ) (v : MarkedPolynomials) (r : Result A TreeError) → IsNode k v → IfErr r (IsWayRefused k pairs v) →
+    IfErr r (IsTreeRefusal (fan_of k v) pairs)
 way_only k pairs v (Ok a) h w = w
 way_only k pairs v (Err e) h w = way_refused k pairs v e h w
 
@@ -124,10 +143,12 @@ within_memory F pairs e w (IsTreeRefusal.flip v a r h f c q) = q ∙ ap of_flip_
 within_memory F pairs e w (IsTreeRefusal.system v o h t q) = absurd (w.systems v o h t)
 within_memory F pairs e w (IsTreeRefusal.memory q) = q
 
-pub only_memory : {A : Type 0} (F : Fan) (pairs : ℕ) (r : Result A TreeError) → IfErr r (IsTreeRefusal F pairs) → IsTreeWithinLimits F pairs → IfErr r (λ e. e ≡ Memory)
+pub only_memory : {A : Type 0} (F : Fan) (pairs : ℕ) (r : Result A TreeError) → IfErr r (IsTreeRefusal F pairs) → IsTreeWithinLimits F pairs →
+    IfErr r (λ e. e ≡ Memory)
 only_memory F pairs (Ok a) c w = c
 only_memory F pairs (Err e) c w = within_memory F pairs e w c
 
-pub only_memory_back : {A W : Type 0} (F : Fan) (pairs : ℕ) (r : Result A (W × TreeError)) → IfErr r (λ p. IsTreeRefusal F pairs p.1) → IsTreeWithinLimits F pairs → IfErr r (λ p. p.1 ≡ Memory)
+pub only_memory_back : {A W : Type 0} (F : Fan) (pairs : ℕ) (r : Result A (W × TreeError)) → IfErr r (λ p. IsTreeRefusal F pairs p.1) →
+    IsTreeWithinLimits F pairs → IfErr r (λ p. p.1 ≡ Memory)
 only_memory_back F pairs (Ok a) c w = c
 only_memory_back F pairs (Err e) c w = within_memory F pairs e.1 w c

@@ -1,7 +1,8 @@
 -- The way up among the normals that a program keeps: ascending, each once.
 -- To cite: place_of_normal, way_found, way_none, least_of_way, no_crossing, no_way, way_read, place_read, missing_read, told_way,
 -- not_told, shown_crossing, refuted_crossing, negative_read, wide_at, small_at.
-use Rattle.std.proofs.Common.{◌≡◌, ◌⊎◌, ℕ, ◌<◌, List, [], length, get_or, Contains, All, ℤ, Option, Some, None, Bool, true, false, IsTrue, ◌↔◌, arith, refl, sym, ap, ◌∙◌, subst, inl, inr}
+use Rattle.std.proofs.Common.{◌≡◌, ◌⊎◌, ℕ, ◌<◌, List, [], length, get_or, Contains, All, ℤ, Option, Some, None, Bool, true, false, IsTrue, ◌↔◌, arith, refl}
+use Rattle.std.proofs.Common.{sym, ap, ◌∙◌, subst, inl, inr}
 use Rattle.std.proofs.lemmas.Bool.{cases_lt}
 use Rattle.std.proofs.lemmas.List.{get_or_default}
 use Rattle.std.specs.declared.cmp.Ordering.{Ordering}
@@ -49,7 +50,8 @@ module _ (n : ℕ) (k : Region) (bs : List MarkedPolynomial) (c : ConeRows) (is 
 
   -- a normal before another's place is before it
   ascends : (i j : ℕ) → i < j → j < length c.normals → IsBefore (normal_at c i) (normal_at c j)
-  ascends i j l g = rises c.normals is.normals.rises i j (normal_at c i) (normal_at c j) l g (get_or_default c.normals i (normal_at c i) [] (omega (arith, l, g))) (get_or_default c.normals j (normal_at c j) [] g)
+  ascends i j l g = rises c.normals is.normals.rises i j (normal_at c i) (normal_at c j) l g
+      (get_or_default c.normals i (normal_at c i) [] (omega (arith, l, g))) (get_or_default c.normals j (normal_at c j) [] g)
 
   -- the normal at the least place that leads up is the way up
   pub way_found : (i : ℕ) → IsLeastUp k.root c i → IsWayUp n k bs (normal_at c i)
@@ -87,15 +89,20 @@ module _ (n : ℕ) (k : Region) (bs : List MarkedPolynomial) (c : ConeRows) (is 
 
   -- ---- as a program reads the normals
 
-  read_normal : (given : List (List ℤ)) (d : ConeRows) (i : ℕ) (x a : List ℤ) → given ≡ d.normals → d ≡ c → i < length given → x ≡ get_or given i x → a ≡ x → a ≡ normal_at c i
-  read_normal given d i x a e f l r q = q ∙ r ∙ get_or_default given i x [] l ∙ ap (λ (z : List (List ℤ)). get_or z i []) (e ∙ ap (λ (z : ConeRows). z.normals) f)
+  read_normal : (given : List (List ℤ)) (d : ConeRows) (i : ℕ) (x a : List ℤ) → given ≡ d.normals → d ≡ c → i < length given → x ≡ get_or given i x → a ≡ x →
+      a ≡ normal_at c i
+  read_normal given d i x a e f l r q = q ∙ r ∙ get_or_default given i x [] l ∙ ap (λ (z : List (List ℤ)). get_or z i []) (e ∙ ap (λ (z : ConeRows). z.normals)
+      f)
 
-  pub way_read : (given : List (List ℤ)) (d : ConeRows) (i : ℕ) (x a : List ℤ) → given ≡ d.normals → d ≡ c → x ≡ get_or given i x → a ≡ x → IsLeastUp k.root c i → IsWayUp n k bs a
+  pub way_read : (given : List (List ℤ)) (d : ConeRows) (i : ℕ) (x a : List ℤ) → given ≡ d.normals → d ≡ c → x ≡ get_or given i x → a ≡ x →
+      IsLeastUp k.root c i → IsWayUp n k bs a
   way_read given d i x a e f r q w =
-      subst (IsWayUp n k bs) (sym (read_normal given d i x a e f (subst (λ (z : List (List ℤ)). i < length z) (sym (e ∙ ap (λ (z : ConeRows). z.normals) f)) w.leads.inside) r q)) (way_found i w)
+      subst (IsWayUp n k bs) (sym (read_normal given d i x a e f (subst (λ (z : List (List ℤ)). i < length z) (sym (e ∙ ap (λ (z : ConeRows). z.normals) f))
+      w.leads.inside) r q)) (way_found i w)
 
   -- a vector at a place of the list
-  pub place_read : (given : List (List ℤ)) (a : List ℤ) (i : ℕ) → given ≡ c.normals → IsVectorPlace given a (Some i) → (i < length c.normals) × (normal_at c i ≡ a)
+  pub place_read : (given : List (List ℤ)) (a : List ℤ) (i : ℕ) → given ≡ c.normals → IsVectorPlace given a (Some i) →
+      (i < length c.normals) × (normal_at c i ≡ a)
   place_read given a i e p = subst (λ (z : List (List ℤ)). (i < length z) × (get_or z i [] ≡ a)) e p
 
   pub missing_read : (given : List (List ℤ)) (a : List ℤ) → given ≡ c.normals → IsVectorPlace given a None → Contains c.normals a → ⊥
@@ -109,19 +116,23 @@ module _ (n : ℕ) (k : Region) (bs : List MarkedPolynomial) (c : ConeRows) (is 
   )
 
   -- whether a flip may cross the facet of the vector at a place
-  pub shown_crossing : (a : List ℤ) (i : ℕ) (w : List ℤ) (o : Option (List ℤ)) → (i < length c.normals) × (normal_at c i ≡ a) → IsCrossingDecided c i o → o ≡ Some w → IsFlippable n k bs a
+  pub shown_crossing : (a : List ℤ) (i : ℕ) (w : List ℤ) (o : Option (List ℤ)) → (i < length c.normals) × (normal_at c i ≡ a) → IsCrossingDecided c i o →
+      o ≡ Some w → IsFlippable n k bs a
   shown_crossing a i w o p d t = subst (IsFlippable n k bs) p.1 (subst (IsCrossingDecided c i) t d n k bs is)
 
-  pub refuted_crossing : (a : List ℤ) (i : ℕ) (o : Option (List ℤ)) → (i < length c.normals) × (normal_at c i ≡ a) → IsCrossingDecided c i o → o ≡ None → IsFlippable n k bs a → ⊥
+  pub refuted_crossing : (a : List ℤ) (i : ℕ) (o : Option (List ℤ)) → (i < length c.normals) × (normal_at c i ≡ a) → IsCrossingDecided c i o → o ≡ None →
+      IsFlippable n k bs a → ⊥
   refuted_crossing a i o p d t f = subst (IsCrossingDecided c i) t d n k bs is (subst (IsFlippable n k bs) (sym p.1) f)
 
   -- a normal that is seen to be negative at the root
-  pub negative_read : (given : List (List ℤ)) (a x : List ℤ) (i : ℕ) (o : Ordering) → given ≡ c.normals → (i < length c.normals) × (normal_at c i ≡ a) → x ≡ get_or given i x → (o ≡ Less) ↔ IsNegative k.root x → o ≡ Less →
-      IsNegative k.root a
+  pub negative_read : (given : List (List ℤ)) (a x : List ℤ) (i : ℕ) (o : Ordering) → given ≡ c.normals → (i < length c.normals) × (normal_at c i ≡ a) →
+      x ≡ get_or given i x → (o ≡ Less) ↔ IsNegative k.root x → o ≡ Less → IsNegative k.root a
   negative_read given a x i o e p r s q = subst (IsNegative k.root) p.1 ((negative_told k.root c given i x o e p.0 r s q).0 refl)
 
-  pub wide_at : (given : List (List ℤ)) (x : List ℤ) (i : ℕ) → given ≡ c.normals → AreRows c.variables given → i < length c.normals → x ≡ get_or given i x → IsRegion n k → length x ≡ length k.root
+  pub wide_at : (given : List (List ℤ)) (x : List ℤ) (i : ℕ) → given ≡ c.normals → AreRows c.variables given → i < length c.normals → x ≡ get_or given i x →
+      IsRegion n k → length x ≡ length k.root
   wide_at given x i e w l r g = width_read c given i x (length k.root) e w l r (g.root.width ∙ sym is.variables)
 
-  pub small_at : (given : List (List ℤ)) (a x : List ℤ) (i : ℕ) → given ≡ c.normals → All IsSmall given → (i < length c.normals) × (normal_at c i ≡ a) → x ≡ get_or given i x → IsForSign x
+  pub small_at : (given : List (List ℤ)) (a x : List ℤ) (i : ℕ) → given ≡ c.normals → All IsSmall given → (i < length c.normals) × (normal_at c i ≡ a) →
+      x ≡ get_or given i x → IsForSign x
   small_at given a x i e s p r = small_for_sign x (small_read c given i x e s p.0 r)

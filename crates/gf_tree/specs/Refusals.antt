@@ -34,7 +34,8 @@ pub data IsTreeRefusal (F : Fan) (pairs : ℕ) (e : TreeError) : Type 0 where
 -- why a call at the basis v is refused, without other bases: a flip across a flippable normal of v is refused, or a step of the system of a
 -- normal of v leaves its range; or memory runs out
 pub data IsRefusedAtBasis (k : Region) (pairs : ℕ) (v : MarkedPolynomials) (e : TreeError) : Type 0 where
-  flip : (a : List ℤ) (r : BasisError) → IsFlippable v.variables k v.items a → IsFlipRefusal v.variables v.items a pairs r → e ≡ of_flip_error r → IsRefusedAtBasis k pairs v e
+  flip : (a : List ℤ) (r : BasisError) → IsFlippable v.variables k v.items a → IsFlipRefusal v.variables v.items a pairs r → e ≡ of_flip_error r →
+      IsRefusedAtBasis k pairs v e
   system : (s : ConeOverflow) → IsConeStep (fan_of k v) v s → e ≡ Cone s → IsRefusedAtBasis k pairs v e
   memory : e ≡ Memory → IsRefusedAtBasis k pairs v e
 

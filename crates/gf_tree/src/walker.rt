@@ -34,9 +34,23 @@ impl Model for Walker {
 
     ghost Value = { Walk };
 
-    ghost view = { λ w. record { here = w.inner.here; mark = w.inner.mark; depth = w.inner.depth; pairs = w.inner.tree.pairs; given = w.given; region = w.inner.tree.region } };
+    ghost view = { λ w. record {
+      here = w.inner.here;
+      mark = w.inner.mark;
+      depth = w.inner.depth;
+      pairs = w.inner.tree.pairs;
+      given = w.given;
+      region = w.inner.tree.region;
+    } };
 
-    ghost invariant = { λ w. HasListLeft (record { here = w.inner.here; mark = w.inner.mark; depth = w.inner.depth; pairs = w.inner.tree.pairs; given = w.given; region = w.inner.tree.region }) };
+    ghost invariant = { λ w. HasListLeft (record {
+      here = w.inner.here;
+      mark = w.inner.mark;
+      depth = w.inner.depth;
+      pairs = w.inner.tree.pairs;
+      given = w.given;
+      region = w.inner.tree.region;
+    }) };
 }
 
 impl Walker {

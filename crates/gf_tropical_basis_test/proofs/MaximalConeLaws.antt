@@ -45,7 +45,8 @@ all_patterns n As h law p = record {
 
 -- ---- the maximal ones
 
-pub maximal_patterns : (n : ℕ) (As : List (List (List ℤ))) (h : FanLists) → GordansAlternative → FansAreConeLists → IsPrevarietyFan n As h → ArePatternCones IsOnPrevariety n As (maximal_rows h)
+pub maximal_patterns : (n : ℕ) (As : List (List (List ℤ))) (h : FanLists) → GordansAlternative → FansAreConeLists → IsPrevarietyFan n As h →
+    ArePatternCones IsOnPrevariety n As (maximal_rows h)
 maximal_patterns n As h gordan law p =
     let s : IsFanOf n p.fan.0 h = subst (λ z. IsFanOf z p.fan.0 h) p.ambient p.fan.1 in
     patterns_same IsOnPrevariety n As (fan_rows h) (maximal_rows h)

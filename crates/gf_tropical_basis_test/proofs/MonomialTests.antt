@@ -69,7 +69,8 @@ not_empty e q = cc
 
 pub tests_of_monomials_stay_within_limits : PolynomialsWithRoomStayWithinLimits → LimitsAreMet → TestsOfMonomialsStayWithinLimits
 tests_of_monomials_stay_within_limits fans searches n b budget e hn hb v up short room = record {
-  prevariety = fans.prevarieties n b (unit_monomial e ∷ []) hn hb (all_by (λ (f : Terms). f ≢ []) (unit_monomial e ∷ []) (λ f c q. not_empty e (sym (only (unit_monomial e) f c) ∙ q)))
+  prevariety = fans.prevarieties n b (unit_monomial e ∷ []) hn hb
+      (all_by (λ (f : Terms). f ≢ []) (unit_monomial e ∷ []) (λ f c q. not_empty e (sym (only (unit_monomial e) f c) ∙ q)))
       (all_by (HasVariables n) (unit_monomial e ∷ []) (λ f c. subst (HasVariables n) (sym (only (unit_monomial e) f c)) v)) up
       (λ k l. let z : k ≡ 0 = omega (arith, l) in subst (λ j. has_room n b j ≡ true) (sym z) room);
   root = monomials_stay_within_limits MonomialOrder.deglex e budget short;

@@ -32,8 +32,8 @@ use Rattle.gf_tropical_basis_test.proofs.FaceTestLaws.{passes, fails}
 suited : (n : ℕ) (fs : List Terms) → HaveRingVariables n fs → HaveOneDegree fs → IsSuited MonomialOrder.revlex n fs
 suited n fs v one = orders_that_suit.revlex n fs v one
 
-is_test : (n : ℕ) (fs : List Terms) (h : FanLists) (v : HaveRingVariables n fs) (one : HaveOneDegree fs) → GordansAlternative → FansAreConeLists → IsPrevarietyFan n (map points fs) h →
-    IsBasisTest n (suited n fs v one).grade fs (maximal_rows h)
+is_test : (n : ℕ) (fs : List Terms) (h : FanLists) (v : HaveRingVariables n fs) (one : HaveOneDegree fs) → GordansAlternative → FansAreConeLists →
+    IsPrevarietyFan n (map points fs) h → IsBasisTest n (suited n fs v one).grade fs (maximal_rows h)
 is_test n fs h v one gordan law p = record {
   variables = ring_variables n fs v;
   positive = (suited n fs v one).admissible;
@@ -42,29 +42,36 @@ is_test n fs h v one gordan law p = record {
 }
 
 -- a marked reduced basis is one of the list
-listed : (n : ℕ) (fs : List Terms) (bs : List MarkedPolynomial) → HaveRingVariables n fs → IsMarkedReducedBasis n fs bs → IsNodeIn (ideal_by n fs) (record { variables = n; items = bs })
-listed n fs bs v b = record { fan = record { ideal = ring_variables n fs v; region = all_positive-region n }; variables = refl; basis = basis_everywhere n fs bs b }
+listed : (n : ℕ) (fs : List Terms) (bs : List MarkedPolynomial) → HaveRingVariables n fs → IsMarkedReducedBasis n fs bs →
+    IsNodeIn (ideal_by n fs) (record { variables = n; items = bs })
+listed n fs bs v b = record {
+  fan = record { ideal = ring_variables n fs v; region = all_positive-region n };
+  variables = refl;
+  basis = basis_everywhere n fs bs b;
+}
 
 of_listed : (n : ℕ) (fs : List Terms) (b : MarkedPolynomials) → IsNodeIn (ideal_by n fs) b → IsMarkedReducedBasis n fs b.items
 of_listed n fs b k = record { reduced = k.basis.reduced; arranged = k.basis.arranged }
 
 -- ---- the verdict
 
-yes_right : (n : ℕ) (fs : List Terms) (h : FanLists) (v : HaveRingVariables n fs) (one : HaveOneDegree fs) → IsBasisTest n (suited n fs v one).grade fs (maximal_rows h) → HaveBasesOutcome n fs (maximal_rows h) None →
-    IsVerdict n fs Yes
+yes_right : (n : ℕ) (fs : List Terms) (h : FanLists) (v : HaveRingVariables n fs) (one : HaveOneDegree fs) →
+    IsBasisTest n (suited n fs v one).grade fs (maximal_rows h) → HaveBasesOutcome n fs (maximal_rows h) None → IsVerdict n fs Yes
 yes_right n fs h v one t o = tropical_bases_are_tested.yes n (suited n fs v one).grade fs (maximal_rows h) t (λ bs b.
     let x : MarkedPolynomials = record { variables = n; items = bs } in
     passes n bs (maximal_rows h) b.arranged.canonical (o.outcome x (of_among o.bases x (o.are_bases.all x (listed n fs bs v b)))))
 
-no_right : (n : ℕ) (fs : List Terms) (h : FanLists) (u : List ℤ) (v : HaveRingVariables n fs) (one : HaveOneDegree fs) → IsBasisTest n (suited n fs v one).grade fs (maximal_rows h) → HaveBasesOutcome n fs (maximal_rows h) (Some u) →
-    IsVerdict n fs (No u)
+no_right : (n : ℕ) (fs : List Terms) (h : FanLists) (u : List ℤ) (v : HaveRingVariables n fs) (one : HaveOneDegree fs) →
+    IsBasisTest n (suited n fs v one).grade fs (maximal_rows h) → HaveBasesOutcome n fs (maximal_rows h) (Some u) → IsVerdict n fs (No u)
 no_right n fs h u v one t o =
     let b : MarkedPolynomials = o.outcome.0 in
-    let node : IsNodeIn (ideal_by n fs) b = o.are_bases.only b (among_of o.bases b (reached_in (λ (c : MarkedPolynomials). HasBasisOutcome n (maximal_rows h) c.items None) o.bases b o.outcome.1)) in
+    let node : IsNodeIn (ideal_by n fs) b = o.are_bases.only b
+    (among_of o.bases b (reached_in (λ (c : MarkedPolynomials). HasBasisOutcome n (maximal_rows h) c.items None) o.bases b o.outcome.1)) in
     let f : (length u ≡ n) × IsFailedAt n fs (maximal_rows h) u = fails n fs (maximal_rows h) b.items u (of_listed n fs b node) o.outcome.2 in
     let w = tropical_bases_are_tested.no n (suited n fs v one).grade fs (maximal_rows h) u t f.0 f.1 in
     (f.0, w.0, w.1)
 
-pub verdict_right : (n : ℕ) (fs : List Terms) (verdict : Verdict) → HaveRingVariables n fs → HaveOneDegree fs → GordansAlternative → FansAreConeLists → IsFirstVerdict n fs verdict → IsVerdict n fs verdict
+pub verdict_right : (n : ℕ) (fs : List Terms) (verdict : Verdict) → HaveRingVariables n fs → HaveOneDegree fs → GordansAlternative → FansAreConeLists →
+    IsFirstVerdict n fs verdict → IsVerdict n fs verdict
 verdict_right n fs Yes v one gordan law i = yes_right n fs i.fan v one (is_test n fs i.fan v one gordan law i.is_fan) i.outcome
 verdict_right n fs (No u) v one gordan law i = no_right n fs i.fan u v one (is_test n fs i.fan v one gordan law i.is_fan) i.outcome

@@ -35,5 +35,5 @@ pub record IsTestWithinLimits (n : ℕ) (fs : List Terms) (pairs : ℕ) : Type 0
   pub prevariety : IsTropicalWithinLimits IsPairSystem n fs
   pub root : AreRunsWithinLimits MonomialOrder.deglex fs pairs
   pub search : IsTreeWithinLimits (ideal_by n fs) pairs
-  pub faces : (h : FanLists) (b : MarkedPolynomials) (normals : List (List ℤ)) (c : Rows) → IsPrevarietyFan n (map points fs) h → IsNodeIn (ideal_by n fs) b → AreNormals b.items normals →
-      Contains (maximal_rows h) c → AreFacesWithinLimits n b.items normals c pairs
+  pub faces : (h : FanLists) (b : MarkedPolynomials) (normals : List (List ℤ)) (c : Rows) → IsPrevarietyFan n (map points fs) h → IsNodeIn (ideal_by n fs) b →
+      AreNormals b.items normals → Contains (maximal_rows h) c → AreFacesWithinLimits n b.items normals c pairs

@@ -29,15 +29,17 @@ use Rattle.gf_tropical_basis_test.specs.Verdicts.{HasBasisOutcome, maximal_rows}
 
 -- a refusal at one of the cones, and all cones before it pass with the basis bs; or memory runs out
 pub data IsRefusedWithBasis (n : ℕ) (cones : List Rows) (bs : List MarkedPolynomial) (pairs : ℕ) (e : InitialError) : Type 0 where
-  at_cone : (normals : List (List ℤ)) (c : Rows) → AreNormals bs normals → IsReached (λ (d : Rows). HasOutcome n bs normals d None) cones c → IsConeRefusal n bs normals c pairs e → IsRefusedWithBasis n cones bs pairs e
+  at_cone : (normals : List (List ℤ)) (c : Rows) → AreNormals bs normals → IsReached (λ (d : Rows). HasOutcome n bs normals d None) cones c →
+      IsConeRefusal n bs normals c pairs e → IsRefusedWithBasis n cones bs pairs e
   no_memory : e ≡ initial.Memory → IsRefusedWithBasis n cones bs pairs e
 
 -- ---- all bases of the ideal of fs
 
 -- a refusal at one of the bases, and all bases before it pass; a refusal of the search; or memory runs out
 pub data AreBasesRefused (n : ℕ) (fs : List Terms) (cones : List Rows) (pairs : ℕ) (e : BasisTestError) : Type 0 where
-  at_basis : (bases : List MarkedPolynomials) (b : MarkedPolynomials) (r : InitialError) → IsListFor (ideal_by n fs) bases → IsReached (λ (c : MarkedPolynomials). HasBasisOutcome n cones c.items None) bases b →
-      IsRefusedWithBasis n cones b.items pairs r → e ≡ Initial r → AreBasesRefused n fs cones pairs e
+  at_basis : (bases : List MarkedPolynomials) (b : MarkedPolynomials) (r : InitialError) → IsListFor (ideal_by n fs) bases →
+      IsReached (λ (c : MarkedPolynomials). HasBasisOutcome n cones c.items None) bases b → IsRefusedWithBasis n cones b.items pairs r → e ≡ Initial r →
+      AreBasesRefused n fs cones pairs e
   at_search : (r : TreeError) → IsTreeRefusal (ideal_by n fs) pairs r → e ≡ Search r → AreBasesRefused n fs cones pairs e
   no_memory : e ≡ Memory → AreBasesRefused n fs cones pairs e
 

@@ -41,7 +41,8 @@ pub record HasBasisOutcome (n : ℕ) (cones : List Rows) (bs : List MarkedPolyno
 pub record HaveBasesOutcome (n : ℕ) (fs : List Terms) (cones : List Rows) (v : Option (List ℤ)) : Type 0 where
   pub bases : List MarkedPolynomials
   pub are_bases : IsListFor (ideal_by n fs) bases
-  pub outcome : IsFirstThatFails (λ (b : MarkedPolynomials). HasBasisOutcome n cones b.items None) (λ (u : List ℤ) (b : MarkedPolynomials). HasBasisOutcome n cones b.items (Some u)) bases v
+  pub outcome : IsFirstThatFails (λ (b : MarkedPolynomials). HasBasisOutcome n cones b.items None) (λ (u : List ℤ) (b : MarkedPolynomials).
+      HasBasisOutcome n cones b.items (Some u)) bases v
 
 -- the vector of a verdict of no
 abbrev pub outcome_of : Verdict → Option (List ℤ)

@@ -32,8 +32,10 @@ fn from_root(
     requires room { root.variables < ROOM }
     requires ambient { fan.now.ambient ≡ root.variables }
     requires own { IsNode region.now root }
-    ensures ok { IfOk result (λ verdict. (fs : List Terms) (start : MarkedPolynomials) → IsStartOf fs start region.now root → HaveBasesOutcome start.variables fs (maximal_rows fan.now) (outcome_of verdict)) }
-    ensures err { IfErr result (λ e. (fs : List Terms) (start : MarkedPolynomials) → IsStartOf fs start region.now root → AreBasesRefused start.variables fs (maximal_rows fan.now) pairs e) }
+    ensures ok { IfOk result (λ verdict. (fs : List Terms) (start : MarkedPolynomials) → IsStartOf fs start region.now root →
+        HaveBasesOutcome start.variables fs (maximal_rows fan.now) (outcome_of verdict)) }
+    ensures err { IfErr result (λ e. (fs : List Terms) (start : MarkedPolynomials) → IsStartOf fs start region.now root →
+        AreBasesRefused start.variables fs (maximal_rows fan.now) pairs e) }
 {
     let mut walker = Walker::at(alloc, root, region, pairs)?;
     while let Some(basis) = walker.advance()? {
@@ -60,8 +62,10 @@ pub(crate) fn at_bases(
     requires ambient { fan.now.ambient ≡ start.variables }
     requires region { region.now ≡ all_positive start.variables }
     requires own { IsNode region.now start }
-    ensures ok { IfOk result (λ verdict. (fs : List Terms) → IsNodeIn (ideal_by start.variables fs) start → HaveBasesOutcome start.variables fs (maximal_rows fan.now) (outcome_of verdict)) }
-    ensures err { IfErr result (λ e. (fs : List Terms) → IsNodeIn (ideal_by start.variables fs) start → AreBasesRefused start.variables fs (maximal_rows fan.now) pairs e) }
+    ensures ok { IfOk result (λ verdict. (fs : List Terms) → IsNodeIn (ideal_by start.variables fs) start →
+        HaveBasesOutcome start.variables fs (maximal_rows fan.now) (outcome_of verdict)) }
+    ensures err { IfErr result (λ e. (fs : List Terms) → IsNodeIn (ideal_by start.variables fs) start →
+        AreBasesRefused start.variables fs (maximal_rows fan.now) pairs e) }
 {
     let root = to_root(alloc, start, region, pairs)?;
     from_root(alloc, root, region, fan, pairs)

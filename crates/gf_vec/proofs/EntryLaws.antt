@@ -49,7 +49,8 @@ cancel c x n e = elim (sign_of c) [
 -- a positive factor is cancelled on both sides
 pub same_by : (c x y : ℤ) → pos 0 <ℤ c → c *ℤ x ≡ c *ℤ y → x ≡ y
 same_by c x y h e =
-    let z : x +ℤ neg_ℤ y ≡ pos 0 = zero-cancel c (x +ℤ neg_ℤ y) h (same (dv c ⊗ (dv x ⊕ dneg (dv y))) (dv c ⊗ dv x ⊕ dneg (dv c ⊗ dv y)) (omega arith) ∙ ap (λ z. z +ℤ neg_ℤ (c *ℤ y)) e ∙ omega (arith, ints)) in
+    let z : x +ℤ neg_ℤ y ≡ pos 0 = zero-cancel c (x +ℤ neg_ℤ y) h (same (dv c ⊗ (dv x ⊕ dneg (dv y))) (dv c ⊗ dv x ⊕ dneg (dv c ⊗ dv y)) (omega arith) ∙
+    ap (λ z. z +ℤ neg_ℤ (c *ℤ y)) e ∙ omega (arith, ints)) in
     omega (arith, ints)
 
 -- a vector whose entries are zero is the zero vector

@@ -1,6 +1,7 @@
 -- Primitive vectors: what division by the content leaves, and that two on one ray are one.
 -- Source of the second: Euclid, Elements, book 7, proposition 30.
-use Rattle.std.proofs.Common.{◌≡◌, ℕ, zero, suc, ◌*◌, ◌/◌, ◌<◌, List, [], ◌∷◌, length, ℤ, pos, negsuc, ◌*ℤ◌, ◌<ℤ◌, arith, sym, refl, ap, ◌∙◌, subst, inl, inr, unsigned_abs}
+use Rattle.std.proofs.Common.{◌≡◌, ℕ, zero, suc, ◌*◌, ◌/◌, ◌<◌, List, [], ◌∷◌, length, ℤ, pos, negsuc, ◌*ℤ◌, ◌<ℤ◌, arith, sym, refl, ap, ◌∙◌, subst, inl, inr}
+use Rattle.std.proofs.Common.{unsigned_abs}
 use Rattle.std.specs.Int.{IsGcd, ◌∣◌}
 use Rattle.std.proofs.lemmas.Int.{ints, unsigned_abs-mul}
 use Rattle.std.proofs.lemmas.Nat.Gcd.{IsGcd-swap}
@@ -18,7 +19,8 @@ use Rattle.gf_vec.proofs.VectorIdentities.{vv, ◌⊡◌, vsame}
 
 -- a positive factor of vectors is cancelled
 pub times_cancel : (c : ℤ) (u v : List ℤ) → pos 0 <ℤ c → scaled c u ≡ scaled c v → u ≡ v
-times_cancel c u v h e = vector_ext u v (sym (length-times c u) ∙ ap length e ∙ length-times c v) (λ w. same_by c (dot u w) (dot v w) h (sym (dot-times c u w) ∙ ap (λ z. dot z w) e ∙ dot-times c v w))
+times_cancel c u v h e = vector_ext u v (sym (length-times c u) ∙ ap length e ∙ length-times c v)
+    (λ w. same_by c (dot u w) (dot v w) h (sym (dot-times c u w) ∙ ap (λ z. dot z w) e ∙ dot-times c v w))
 
 -- ---- after division by the content
 
@@ -26,7 +28,8 @@ pub primitive_of : (w u : List ℤ) → IsPrimitivePart w u → IsPrimitive u
 primitive_of w u d =
     let n : ℕ = unsigned_abs d.0 in
     let e : d.0 ≡ pos n = omega (arith, ints, d.1.positive) in
-    let q : u ≡ quotients (pos n) w = times_cancel d.0 u (quotients (pos n) w) d.1.positive (d.1.multiple ∙ sym (times-quotients n w d.1.content.divides) ∙ ap (λ z. scaled z (quotients (pos n) w)) (sym e)) in
+    let q : u ≡ quotients (pos n) w = times_cancel d.0 u (quotients (pos n) w) d.1.positive (d.1.multiple ∙ sym (times-quotients n w d.1.content.divides) ∙
+    ap (λ z. scaled z (quotients (pos n) w)) (sym e)) in
     subst IsPrimitive (sym q) (IsPrimitive-quotients w n d.1.content)
 
 minus_size : (x : ℤ) → unsigned_abs (negsuc 0 *ℤ x) ≡ unsigned_abs x
@@ -74,7 +77,10 @@ zero_times y b h e = same_by (pos y) b (pos 0) (omega (arith, ints)) (e ∙ omeg
 zero_back : (y : ℕ) (s r : List ℤ) → 0 < y → s ≡ scaled (pos y) r → AllZero s → AllZero r
 zero_back y s [] h e z = tt
 zero_back y [] (b ∷ r) h e z = let l : 0 ≡ suc (length (scaled (pos y) r)) = ap length e in absurd (omega arith)
-zero_back y (a ∷ s) (b ∷ r) h e z = (zero_times y b h (sym (head_of a (pos y *ℤ b) s (scaled (pos y) r) e) ∙ z.0), zero_back y s r h (tail_of a (pos y *ℤ b) s (scaled (pos y) r) e) z.1)
+zero_back y (a ∷ s) (b ∷ r) h e z = (
+  zero_times y b h (sym (head_of a (pos y *ℤ b) s (scaled (pos y) r) e) ∙ z.0),
+  zero_back y s r h (tail_of a (pos y *ℤ b) s (scaled (pos y) r) e) z.1,
+)
 
 same_of : (x y : ℕ) (s r : List ℤ) → 0 < y → IsGcd x y 1 → scaled (pos x) s ≡ scaled (pos y) r → IsPrimitive r → IsPrimitive s → (AllZero r → ⊥) → s ≡ r
 same_of x y s r hy g e pr ps nz = elim (pr x (divides_other x y s r g e)) [
@@ -115,6 +121,8 @@ primitive_same r s k a hk ha e pr ps nz =
     let en : n ≡ g * x = sym (mul-div_cancel' g i.0) in
     let em : m ≡ g * y = sym (mul-div_cancel' g i.1) in
     let one : IsGcd x y 1 = lowest-quotients n m g x y i hg en em in
-    let whole : scaled (pos (g * x)) s ≡ scaled (pos (g * y)) r = ap (λ t. scaled (pos t) s) (sym en) ∙ ap (λ t. scaled t s) (sym (naturals k hk)) ∙ e ∙ ap (λ t. scaled t r) (naturals a ha) ∙ ap (λ t. scaled (pos t) r) em in
-    let low : scaled (pos x) s ≡ scaled (pos y) r = times_cancel (pos g) (scaled (pos x) s) (scaled (pos y) r) (omega (arith, ints)) (sym (split_factor g x s) ∙ whole ∙ split_factor g y r) in
+    let whole : scaled (pos (g * x)) s ≡ scaled (pos (g * y)) r = ap (λ t. scaled (pos t) s) (sym en) ∙ ap (λ t. scaled t s) (sym (naturals k hk)) ∙ e ∙
+    ap (λ t. scaled t r) (naturals a ha) ∙ ap (λ t. scaled (pos t) r) em in
+    let low : scaled (pos x) s ≡ scaled (pos y) r =
+    times_cancel (pos g) (scaled (pos x) s) (scaled (pos y) r) (omega (arith, ints)) (sym (split_factor g x s) ∙ whole ∙ split_factor g y r) in
     same_of x y s r (quotient_positive g y (subst (λ t. 0 < t) em hm)) one low pr ps nz

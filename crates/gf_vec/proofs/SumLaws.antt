@@ -1,5 +1,6 @@
 -- A sum of two vectors in place, one entry further.
-use Rattle.std.proofs.Common.{◌≡◌, ℕ, ◌+◌, ◌<◌, ◌≤◌, List, [], ◌∷◌, ◌++◌, length, ℤ, pos, ◌+ℤ◌, arith, sym, refl, ap, ◌∙◌, take, drop, get_or, set, inl, inr, append_assoc, subst, negsuc, ◌*ℤ◌, map, All}
+use Rattle.std.proofs.Common.{◌≡◌, ℕ, ◌+◌, ◌<◌, ◌≤◌, List, [], ◌∷◌, ◌++◌, length, ℤ, pos, ◌+ℤ◌, arith, sym, refl, ap, ◌∙◌, take, drop, get_or, set, inl, inr}
+use Rattle.std.proofs.Common.{append_assoc, subst, negsuc, ◌*ℤ◌, map, All}
 use Rattle.std.proofs.lemmas.List.{take_more, drop_more, length-take, get_or_at, set_at, take_all, append-nil, drop_all, length-map}
 use Rattle.std.specs.List.{AllByRecursion}
 use Rattle.std.proofs.lemmas.Int.{unsigned_abs-mul}
@@ -31,8 +32,11 @@ all_push (y ∷ xs) x h k = (h.0, all_push xs x h.1 k)
 front_len : (xs ys : List ℤ) (i : ℕ) → i < length xs → length xs ≡ length ys → length (vector_sum (take i xs) (take i ys)) ≡ i
 front_len xs ys i h e = length-plus (take i xs) (take i ys) (omega (arith, length-take i xs, length-take i ys)) ∙ omega (arith, length-take i xs)
 
-split : (xs ys : List ℤ) (i : ℕ) → i < length xs → length xs ≡ length ys →
-    sum_steps (drop i xs) (drop i ys) ≡ record { op = Add; left = get_or xs i (pos 0); right = get_or ys i (pos 0) } ∷ sum_steps (drop (i + 1) xs) (drop (i + 1) ys)
+split : (xs ys : List ℤ) (i : ℕ) → i < length xs → length xs ≡ length ys → sum_steps (drop i xs) (drop i ys) ≡ record {
+  op = Add;
+  left = get_or xs i (pos 0);
+  right = get_or ys i (pos 0);
+} ∷ sum_steps (drop (i + 1) xs) (drop (i + 1) ys)
 split xs ys i h e = let k : i < length ys = omega arith in rw (drop_more xs i (pos 0), drop_more ys i (pos 0)) refl
 
 -- the entry at i is as it was
@@ -50,15 +54,16 @@ Summed-more xs ys now next i z h e ez fz en s =
     rw (take_more xs i (pos 0) h, take_more ys i (pos 0) k, ez) (plus-push (take i xs) (take i ys) _ _ (omega (arith, length-take i xs, length-take i ys))) in
     let fits : InRange (get_or xs i (pos 0) +ℤ get_or ys i (pos 0)) = subst (λ w. InRange w) ez fz in
     record {
-      items = en ∙ ap (λ l. set l i z) (s.items ∙ ap (λ l. front ++ l) (drop_more xs i (pos 0) h)) ∙ set_at front (get_or xs i (pos 0)) (drop (i + 1) xs) z i (front_len xs ys i h e)
+      items = en ∙ ap (λ l. set l i z) (s.items ∙ ap (λ l. front ++ l) (drop_more xs i (pos 0) h)) ∙ set_at front (get_or xs i (pos 0)) (drop (i + 1) xs) z i
+          (front_len xs ys i h e)
           ∙ sym (append_assoc front (z ∷ []) (drop (i + 1) xs)) ∙ ap (λ l. l ++ drop (i + 1) xs) (sym more);
       range = subst (AllByRecursion InRange) (sym more) (all_push front z s.range fz);
       none = λ n. s.none (rw (split xs ys i h e) (fits, n));
       first = λ w f. s.first w (rw (split xs ys i h e) (inr (fits, f)));
     }
 
-pub Summed-wide : (xs ys now : List ℤ) (i : ℕ) (x y : ℤ) (w : WideVector) → i < length xs → length xs ≡ length ys →
-    x ≡ get_or xs i (pos 0) → y ≡ get_or ys i (pos 0) → w ≡ record { op = Add; left = x; right = y } → IsWide w → Summed xs ys now i → IsFirstWide w (sum_steps xs ys)
+pub Summed-wide : (xs ys now : List ℤ) (i : ℕ) (x y : ℤ) (w : WideVector) → i < length xs → length xs ≡ length ys → x ≡ get_or xs i (pos 0) →
+    y ≡ get_or ys i (pos 0) → w ≡ record { op = Add; left = x; right = y } → IsWide w → Summed xs ys now i → IsFirstWide w (sum_steps xs ys)
 Summed-wide xs ys now i x y w h e ex ey ew iw s = s.first w (rw (split xs ys i h e) (inl (rw (← ex, ← ey) (sym ew), iw)))
 
 negative_range : (x : ℤ) → InRange x → InRange (negsuc 0 *ℤ x)
@@ -71,10 +76,13 @@ negatives_range (x ∷ xs) h = (negative_range x h.0, negatives_range xs h.1)
 pub negated_all : (xs now : List ℤ) (i : ℕ) → length xs ≤ i → now ≡ map (λ x. negsuc 0 *ℤ x) (take i xs) ++ drop i xs → All InRange xs → All InRange now
 negated_all xs now i h e r =
     let d : drop i xs ≡ [] = drop_all i xs h in
-    subst (All InRange) (sym (e ∙ ap (λ l. map (λ x. negsuc 0 *ℤ x) (take i xs) ++ l) d ∙ append-nil _ ∙ ap (λ l. map (λ x. negsuc 0 *ℤ x) l) (take_all i xs h))) (All-from_recursion InRange _ (negatives_range xs (recursion_from_All InRange xs r)))
+    subst (All InRange) (sym (e ∙ ap (λ l. map (λ x. negsuc 0 *ℤ x) (take i xs) ++ l) d ∙ append-nil _ ∙ ap (λ l. map (λ x. negsuc 0 *ℤ x) l)
+    (take_all i xs h))) (All-from_recursion InRange _ (negatives_range xs (recursion_from_All InRange xs r)))
 
 -- the entry at i is not turned yet
-pub negated_entry : (xs now : List ℤ) (i : ℕ) → i < length xs → now ≡ map (λ x. negsuc 0 *ℤ x) (take i xs) ++ drop i xs → get_or now i (pos 0) ≡ get_or xs i (pos 0)
+pub negated_entry : (xs now : List ℤ) (i : ℕ) → i < length xs → now ≡ map (λ x. negsuc 0 *ℤ x) (take i xs) ++ drop i xs →
+    get_or now i (pos 0) ≡ get_or xs i (pos 0)
 negated_entry xs now i h e =
     ap (λ l. get_or l i (pos 0)) (e ∙ ap (λ l. map (λ x. negsuc 0 *ℤ x) (take i xs) ++ l) (drop_more xs i (pos 0) h))
-    ∙ get_or_at (map (λ x. negsuc 0 *ℤ x) (take i xs)) (get_or xs i (pos 0)) (drop (i + 1) xs) (pos 0) i (omega (arith, length-map (take i xs) (λ x. negsuc 0 *ℤ x), length-take i xs))
+    ∙ get_or_at (map (λ x. negsuc 0 *ℤ x) (take i xs)) (get_or xs i (pos 0)) (drop (i + 1) xs) (pos 0) i
+    (omega (arith, length-map (take i xs) (λ x. negsuc 0 *ℤ x), length-take i xs))

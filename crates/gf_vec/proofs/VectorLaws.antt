@@ -73,7 +73,8 @@ dot-zero_values (e ∷ es) [] v z = refl
 dot-zero_values (e ∷ es) (t ∷ ts) v z = rw (z.0, dot-zero_values es ts v z.1, *ℤ-zero) refl
 
 -- non-negative multipliers of positive values: not negative, and positive where one is
-pub dot-not_negative : (ms : List ℤ) (rows : List (List ℤ)) (v : List ℤ) → AllByRecursion (λ m. pos 0 ≤ℤ m) ms → AllByRecursion (λ t. pos 0 <ℤ dot t v) rows → pos 0 ≤ℤ dot ms (values rows v)
+pub dot-not_negative : (ms : List ℤ) (rows : List (List ℤ)) (v : List ℤ) → AllByRecursion (λ m. pos 0 ≤ℤ m) ms → AllByRecursion (λ t. pos 0 <ℤ dot t v) rows →
+    pos 0 ≤ℤ dot ms (values rows v)
 dot-not_negative [] rows v a b = omega (arith, ints)
 dot-not_negative (m ∷ ms) [] v a b = omega (arith, ints)
 dot-not_negative (m ∷ ms) (t ∷ ts) v a b =
@@ -82,7 +83,8 @@ dot-not_negative (m ∷ ms) (t ∷ ts) v a b =
     let r : pos 0 ≤ℤ dot ms (values ts v) = dot-not_negative ms ts v a.1 b.1 in
     omega (arith, ints)
 
-pub dot-positive : (ms : List ℤ) (rows : List (List ℤ)) (v : List ℤ) → length ms ≡ length rows → AllByRecursion (λ m. pos 0 ≤ℤ m) ms → SomePositive ms → AllByRecursion (λ t. pos 0 <ℤ dot t v) rows → pos 0 <ℤ dot ms (values rows v)
+pub dot-positive : (ms : List ℤ) (rows : List (List ℤ)) (v : List ℤ) → length ms ≡ length rows → AllByRecursion (λ m. pos 0 ≤ℤ m) ms → SomePositive ms →
+    AllByRecursion (λ t. pos 0 <ℤ dot t v) rows → pos 0 <ℤ dot ms (values rows v)
 dot-positive [] rows v e a s b = absurd s
 dot-positive (m ∷ ms) [] v e a s b = absurd (omega arith)
 dot-positive (m ∷ ms) (t ∷ ts) v e a (inl s) b =

@@ -1,7 +1,9 @@
 -- How a row is cut up for a wave, dealt out, and put together again.
--- To cite: cut_more, cut_over, cut_done, first_out, last_over, spare_more, spare_last, free_more, numbered_more, goes_place, goes_none, planned_fits, fit_last, dealt_first, free_hands,
+-- To cite: cut_more, cut_over, cut_done, first_out, last_over, spare_more, spare_last, free_more, numbered_more, goes_place, goes_none, planned_fits, fit_last,
+-- dealt_first, free_hands,
 -- free_dealt, hands_last, hands_fewer, hands_fit, wave_of, gathered_more, gathered_fits.
-use Rattle.std.proofs.Common.{◌≡◌, ℕ, zero, suc, ◌<◌, ◌≤◌, ◌+◌, ◌-◌, ◌*◌, min, List, [], ◌∷◌, ◌++◌, length, refl, sym, ap, subst, ◌∙◌, append_assoc, arith, get_or, length-append, append-nil, replicate, take, drop}
+use Rattle.std.proofs.Common.{◌≡◌, ℕ, zero, suc, ◌<◌, ◌≤◌, ◌+◌, ◌-◌, ◌*◌, min, List, [], ◌∷◌, ◌++◌, length, refl, sym, ap, subst, ◌∙◌, append_assoc, arith}
+use Rattle.std.proofs.Common.{get_or, length-append, append-nil, replicate, take, drop}
 use Rattle.std.specs.Vec.{vec_capacity}
 use Rattle.std.proofs.Math.Nat.{suc-mul}
 use Rattle.gf_reverse_search.specs.Place.{Place}
@@ -9,7 +11,8 @@ use Rattle.gf_reverse_search.specs.declared.expand.Piece.{Piece}
 use Rattle.gf_waves.specs.declared.job.Slot.{Slot}
 use Rattle.gf_waves.specs.declared.job.Job.{Job}
 use Rattle.gf_waves.specs.Frontier.{job_number, first_job, behind_job, renewed, walkers_of}
-use Rattle.gf_waves.specs.Plans.{IsPlanned, IsSpare, AreSpare, IsFit, AreFit, IsJobFit, AreFreeJobs, AreNumbered, IsDealt, hands_of, AreExpanded, IsWorked, worked_rows, piles_of, gather}
+use Rattle.gf_waves.specs.Plans.{IsPlanned, IsSpare, AreSpare, IsFit, AreFit, IsJobFit, AreFreeJobs, AreNumbered, IsDealt, hands_of, AreExpanded, IsWorked}
+use Rattle.gf_waves.specs.Plans.{worked_rows, piles_of, gather}
 use Rattle.gf_waves.specs.Wave.{IsWaved, ExpandsOn}
 
 -- ---- the pieces of a job
@@ -23,7 +26,8 @@ module _ {T N L E : Type 0} where
   cut_length (suc c) (suc m) (p ∷ ps) = (let k = cut_length c (suc m - walkers_of p) ps in omega (arith, k))
 
   -- one piece more is taken
-  first_more : (c m : ℕ) (p : Piece T N L E) (ps : List (Piece T N L E)) → 0 < c → 0 < m → first_job c m (p ∷ ps) ≡ renewed p ∷ first_job (c - 1) (m - walkers_of p) ps
+  first_more : (c m : ℕ) (p : Piece T N L E) (ps : List (Piece T N L E)) → 0 < c → 0 < m →
+      first_job c m (p ∷ ps) ≡ renewed p ∷ first_job (c - 1) (m - walkers_of p) ps
   first_more zero m p ps h k = absurd (omega arith)
   first_more (suc c) zero p ps h k = absurd (omega arith)
   first_more (suc c) (suc m) p ps h k = ap (λ d. renewed p ∷ first_job d (suc m - walkers_of p) ps) (let e : c ≡ suc c - 1 = omega arith in e)
@@ -33,12 +37,15 @@ module _ {T N L E : Type 0} where
   behind_more (suc c) zero p ps h k = absurd (omega arith)
   behind_more (suc c) (suc m) p ps h k = ap (λ d. behind_job d (suc m - walkers_of p) ps) (let e : c ≡ suc c - 1 = omega arith in e)
 
-  pub cut_more : (c m d k : ℕ) (p : Piece T N L E) (row rest job more olds : List (Piece T N L E)) → 0 < c → 0 < m → d ≡ c - 1 → k ≡ m - walkers_of p → row ≡ p ∷ rest → more ≡ job ++ renewed p ∷ [] →
-      job ++ first_job c m row ≡ first_job 8 1 olds → behind_job c m row ≡ behind_job 8 1 olds → (more ++ first_job d k rest ≡ first_job 8 1 olds) × (behind_job d k rest ≡ behind_job 8 1 olds)
+  pub cut_more : (c m d k : ℕ) (p : Piece T N L E) (row rest job more olds : List (Piece T N L E)) → 0 < c → 0 < m → d ≡ c - 1 → k ≡ m - walkers_of p →
+      row ≡ p ∷ rest → more ≡ job ++ renewed p ∷ [] → job ++ first_job c m row ≡ first_job 8 1 olds → behind_job c m row ≡ behind_job 8 1 olds →
+      (more ++ first_job d k rest ≡ first_job 8 1 olds) × (behind_job d k rest ≡ behind_job 8 1 olds)
   cut_more c m d k p row rest job more olds h i e f is on first behind = (
     subst (λ x. more ++ first_job x k rest ≡ first_job 8 1 olds) (sym e) (subst (λ x. more ++ first_job (c - 1) x rest ≡ first_job 8 1 olds) (sym f)
-        (ap (λ x. x ++ first_job (c - 1) (m - walkers_of p) rest) on ∙ append_assoc job (renewed p ∷ []) (first_job (c - 1) (m - walkers_of p) rest) ∙ ap (λ x. job ++ x) (sym (first_more c m p rest h i)) ∙ ap (λ x. job ++ first_job c m x) (sym is) ∙ first)),
-    subst (λ x. behind_job x k rest ≡ behind_job 8 1 olds) (sym e) (subst (λ x. behind_job (c - 1) x rest ≡ behind_job 8 1 olds) (sym f) (sym (behind_more c m p rest h i) ∙ ap (behind_job c m) (sym is) ∙ behind)),
+        (ap (λ x. x ++ first_job (c - 1) (m - walkers_of p) rest) on ∙ append_assoc job (renewed p ∷ []) (first_job (c - 1) (m - walkers_of p) rest) ∙
+        ap (λ x. job ++ x) (sym (first_more c m p rest h i)) ∙ ap (λ x. job ++ first_job c m x) (sym is) ∙ first)),
+    subst (λ x. behind_job x k rest ≡ behind_job 8 1 olds) (sym e) (subst (λ x. behind_job (c - 1) x rest ≡ behind_job 8 1 olds) (sym f)
+        (sym (behind_more c m p rest h i) ∙ ap (behind_job c m) (sym is) ∙ behind)),
   )
 
   none_first : (c m : ℕ) → first_job {T = T} {N = N} {L = L} {E = E} c m [] ≡ []
@@ -52,14 +59,16 @@ module _ {T N L E : Type 0} where
   none_behind (suc c) (suc m) = refl
 
   -- no piece is left
-  pub cut_over : (c m : ℕ) (row rest job olds : List (Piece T N L E)) → row ≡ [] → rest ≡ [] → job ++ first_job c m row ≡ first_job 8 1 olds → behind_job c m row ≡ behind_job 8 1 olds → (job ≡ first_job 8 1 olds) × (rest ≡ behind_job 8 1 olds)
+  pub cut_over : (c m : ℕ) (row rest job olds : List (Piece T N L E)) → row ≡ [] → rest ≡ [] → job ++ first_job c m row ≡ first_job 8 1 olds →
+      behind_job c m row ≡ behind_job 8 1 olds → (job ≡ first_job 8 1 olds) × (rest ≡ behind_job 8 1 olds)
   cut_over c m row rest job olds e f first behind = (
     sym (ap (λ x. job ++ x) (ap (first_job c m) e ∙ none_first c m) ∙ append-nil job) ∙ first,
     f ∙ sym (ap (behind_job c m) e ∙ none_behind c m) ∙ behind,
   )
 
   -- no piece is to be taken
-  pub cut_done : (c m : ℕ) (row job olds : List (Piece T N L E)) → (0 < c → 0 < m → ⊥) → job ++ first_job c m row ≡ first_job 8 1 olds → behind_job c m row ≡ behind_job 8 1 olds → (job ≡ first_job 8 1 olds) × (row ≡ behind_job 8 1 olds)
+  pub cut_done : (c m : ℕ) (row job olds : List (Piece T N L E)) → (0 < c → 0 < m → ⊥) → job ++ first_job c m row ≡ first_job 8 1 olds →
+      behind_job c m row ≡ behind_job 8 1 olds → (job ≡ first_job 8 1 olds) × (row ≡ behind_job 8 1 olds)
   cut_done zero m row job olds none first behind = (sym (append-nil job) ∙ first, behind)
   cut_done (suc c) zero row job olds none first behind = (sym (append-nil job) ∙ first, behind)
   cut_done (suc c) (suc m) row job olds none first behind = absurd (none (omega arith) (omega arith))
@@ -90,9 +99,11 @@ module _ {T N L E : Type 0} where
   free_more m [] j a b = b
   free_more m (i ∷ js) j a b = (a.0, a.1, a.2, a.3, free_more m js j a.4 b)
 
-  pub numbered_more : (n : ℕ) (js : List (Job T N L E)) (j : Job T N L E) → AreNumbered n js → j.number ≡ job_number (n + length js) → AreNumbered n (js ++ j ∷ [])
+  pub numbered_more : (n : ℕ) (js : List (Job T N L E)) (j : Job T N L E) → AreNumbered n js → j.number ≡ job_number (n + length js) →
+      AreNumbered n (js ++ j ∷ [])
   numbered_more n [] j a e = (e ∙ ap job_number (let k : n + 0 ≡ n = omega arith in k), tt)
-  numbered_more n (i ∷ js) j a e = (a.0, numbered_more (n + 1) js j a.1 (e ∙ ap job_number (let k : n + suc (length js) ≡ n + 1 + length js = omega arith in k)))
+  numbered_more n (i ∷ js) j a e =
+      (a.0, numbered_more (n + 1) js j a.1 (e ∙ ap job_number (let k : n + suc (length js) ≡ n + 1 + length js = omega arith in k)))
 
 -- ---- a plan that goes on
 
@@ -105,21 +116,24 @@ module _ {T N L E : Type 0} (count : ℕ) (olds : List (Piece T N L E)) where
   behind xs news ys x e = ap (λ n. n ++ ys) e ∙ append_assoc xs (x ∷ []) ys
 
   -- past a place
-  pub goes_place : (m k : ℕ) (row rest : List (Piece T N L E)) (slots more : List (Slot T N L E)) (slot : Slot T N L E) → m ≡ suc k → rest ≡ behind_job 8 1 row → IsFit slot → slot.row.items ≡ first_job 8 1 row → more ≡ slots ++ slot ∷ [] → Goes m row slots → Goes k rest more
+  pub goes_place : (m k : ℕ) (row rest : List (Piece T N L E)) (slots more : List (Slot T N L E)) (slot : Slot T N L E) → m ≡ suc k →
+      rest ≡ behind_job 8 1 row → IsFit slot → slot.row.items ≡ first_job 8 1 row → more ≡ slots ++ slot ∷ [] → Goes m row slots → Goes k rest more
   goes_place m k row rest slots more slot e f fit is on goes = λ ss tail p.
       subst (λ x. IsPlanned count olds x tail) (sym (behind slots more ss slot on))
       (goes (slot ∷ ss) tail (subst (λ j. IsPlanned j row (slot ∷ ss) tail) (sym e) (slot, ss, refl, fit, is, subst (λ r. IsPlanned k r ss tail) f p)))
 
   -- no place is to be made any more
   pub goes_none : (m : ℕ) (row : List (Piece T N L E)) (slots : List (Slot T N L E)) → m ≡ 0 → Goes m row slots → IsPlanned count olds slots row
-  goes_none m row slots e goes = subst (λ x. IsPlanned count olds x row) (append-nil slots) (goes [] row (subst (λ j. IsPlanned j row [] row) (sym e) (refl, refl)))
+  goes_none m row slots e goes =
+      subst (λ x. IsPlanned count olds x row) (append-nil slots) (goes [] row (subst (λ j. IsPlanned j row [] row) (sym e) (refl, refl)))
 
 -- ---- dealing out
 
 module _ {T N L E : Type 0} where
   pub planned_fits : (m : ℕ) (olds tail : List (Piece T N L E)) (slots : List (Slot T N L E)) → IsPlanned m olds slots tail → AreFit slots × (length slots ≡ m)
   planned_fits zero olds tail slots p = (subst AreFit (sym p.0) tt, ap length p.0)
-  planned_fits (suc m) olds tail slots p = (let k = planned_fits m (behind_job 8 1 olds) tail p.1 p.5 in (subst AreFit (sym p.2) (p.3, k.0), ap length p.2 ∙ ap suc k.1))
+  planned_fits (suc m) olds tail slots p =
+      (let k = planned_fits m (behind_job 8 1 olds) tail p.1 p.5 in (subst AreFit (sym p.2) (p.3, k.0), ap length p.2 ∙ ap suc k.1))
 
   pub fit_last : (ss : List (Slot T N L E)) (s : Slot T N L E) → AreFit (ss ++ s ∷ []) → AreFit ss × IsFit s
   fit_last [] s a = (tt, a.0)
@@ -130,12 +144,15 @@ module _ {T N L E : Type 0} where
   hands_more (i ∷ js) j = ap (λ x. i.slots.items ∷ x) (hands_more js j)
 
   -- one place more, in front: the last job has it, and comes first
-  pub dealt_first : (s : Slot T N L E) (ss : List (Slot T N L E)) (jobs init news : List (Job T N L E)) (j k : Job T N L E) → jobs ≡ init ++ j ∷ [] → news ≡ k ∷ init → k.slots.items ≡ s ∷ j.slots.items → IsDealt ss (hands_of jobs) → IsDealt (s ∷ ss) (hands_of news)
-  dealt_first s ss jobs init news j k e f g d = subst (λ x. IsDealt (s ∷ ss) (hands_of x)) (sym f) (j.slots.items, g, subst (IsDealt ss) (ap hands_of e ∙ hands_more init j) d)
+  pub dealt_first : (s : Slot T N L E) (ss : List (Slot T N L E)) (jobs init news : List (Job T N L E)) (j k : Job T N L E) → jobs ≡ init ++ j ∷ [] →
+      news ≡ k ∷ init → k.slots.items ≡ s ∷ j.slots.items → IsDealt ss (hands_of jobs) → IsDealt (s ∷ ss) (hands_of news)
+  dealt_first s ss jobs init news j k e f g d =
+      subst (λ x. IsDealt (s ∷ ss) (hands_of x)) (sym f) (j.slots.items, g, subst (IsDealt ss) (ap hands_of e ∙ hands_more init j) d)
 
   -- the jobs, while so many places are to be dealt out
   abbrev pub IsOpenHand : ℕ → Job T N L E → Type 0
-  IsOpenHand m j = AreFit j.slots.items × (j.worked.items ≡ []) × (length j.slots.items + m ≤ vec_capacity j.slots) × (length j.slots.items + m ≤ vec_capacity j.worked)
+  IsOpenHand m j = AreFit j.slots.items × (j.worked.items ≡ []) × (length j.slots.items + m ≤ vec_capacity j.slots) ×
+      (length j.slots.items + m ≤ vec_capacity j.worked)
 
   abbrev pub AreOpenHands : ℕ → List (Job T N L E) → Type 0
   AreOpenHands m [] = Unit {0}
@@ -182,7 +199,9 @@ module _ {T N L E : Type 0} (lt : L → L → Type 0) (up : T → N → L → N 
   AreHandsWorked (b ∷ bs) (h ∷ hands) [] = ⊥
   AreHandsWorked (b ∷ bs) (h ∷ hands) (p ∷ piles) = AreExpanded lt up refuses b.0 b.1 h p × AreHandsWorked bs hands piles
 
-  hands_worked_more : (bs : List (ℕ × ℕ)) (hands : List (List (Slot T N L E))) (piles : List (List (List (Piece T N L E)))) (b : ℕ × ℕ) (h : List (Slot T N L E)) (p : List (List (Piece T N L E))) → AreHandsWorked bs hands piles → AreExpanded lt up refuses b.0 b.1 h p → AreHandsWorked (bs ++ b ∷ []) (hands ++ h ∷ []) (piles ++ p ∷ [])
+  hands_worked_more : (bs : List (ℕ × ℕ)) (hands : List (List (Slot T N L E))) (piles : List (List (List (Piece T N L E)))) (b : ℕ × ℕ) (h : List
+      (Slot T N L E)) (p : List (List (Piece T N L E))) → AreHandsWorked bs hands piles → AreExpanded lt up refuses b.0 b.1 h p →
+      AreHandsWorked (bs ++ b ∷ []) (hands ++ h ∷ []) (piles ++ p ∷ [])
   hands_worked_more [] [] [] b h p a e = (e, tt)
   hands_worked_more [] [] (q ∷ piles) b h p a e = absurd a
   hands_worked_more [] (g ∷ hands) piles b h p a e = absurd a
@@ -204,13 +223,20 @@ module _ {T N L E : Type 0} (lt : L → L → Type 0) (up : T → N → L → N 
   total_even (suc due) times room = (let k = total_even due times room in let x = suc-mul due room in omega (arith, k, x))
 
   -- the first place is worked on, and the next job's turn comes
-  waved_dealt : (m : ℕ) (olds tail : List (Piece T N L E)) (slots : List (Slot T N L E)) (bs : List (ℕ × ℕ)) (hands : List (List (Slot T N L E))) (piles : List (List (List (Piece T N L E)))) → IsPlanned m olds slots tail → IsDealt slots hands → AreHandsWorked bs hands piles →
+  waved_dealt : (m : ℕ) (olds tail : List (Piece T N L E)) (slots : List (Slot T N L E)) (bs : List (ℕ × ℕ)) (hands : List (List (Slot T N L E))) (piles : List
+      (List (List (Piece T N L E)))) → IsPlanned m olds slots tail → IsDealt slots hands → AreHandsWorked bs hands piles →
       IsWaved lt up refuses m bs olds (gather m piles ++ tail) × (length (gather m piles ++ tail) ≤ length olds + total bs)
   waved_dealt zero olds tail slots bs hands piles p d a = (p.1, let k : length tail ≡ length olds = ap length p.1 in omega (arith, k))
-  waved_dealt (suc m) olds tail slots bs hands piles p d a = at_first (λ cs gs qs e b. waved_dealt m (behind_job 8 1 olds) tail p.1 cs gs qs p.5 e b) bs hands piles (subst (λ x. IsDealt x hands) p.2 d) a
+  waved_dealt (suc m) olds tail slots bs hands piles p d a =
+      at_first (λ cs gs qs e b. waved_dealt m (behind_job 8 1 olds) tail p.1 cs gs qs p.5 e b) bs hands piles (subst (λ x. IsDealt x hands) p.2 d) a
     where
-      at_pile : ((bs : List (ℕ × ℕ)) (hands : List (List (Slot T N L E))) (piles : List (List (List (Piece T N L E)))) → IsDealt p.1 hands → AreHandsWorked bs hands piles → IsWaved lt up refuses m bs (behind_job 8 1 olds) (gather m piles ++ tail) × (length (gather m piles ++ tail) ≤ length (behind_job 8 1 olds) + total bs)) → (b : ℕ × ℕ) (bs : List (ℕ × ℕ)) (hands : List (List (Slot T N L E))) (q : List (List (Piece T N L E))) (piles : List (List (List (Piece T N L E)))) (rest : List (Slot T N L E)) → AreExpanded lt up refuses b.0 b.1 (p.0 ∷ rest) q → IsDealt p.1 (hands ++ rest ∷ []) → AreHandsWorked bs hands piles →
-          IsWaved lt up refuses (suc m) (b ∷ bs) olds (gather (suc m) (q ∷ piles) ++ tail) × (length (gather (suc m) (q ∷ piles) ++ tail) ≤ length olds + total (b ∷ bs))
+      at_pile : ((bs : List (ℕ × ℕ)) (hands : List (List (Slot T N L E))) (piles : List (List (List (Piece T N L E)))) → IsDealt p.1 hands →
+          AreHandsWorked bs hands piles → IsWaved lt up refuses m bs (behind_job 8 1 olds) (gather m piles ++ tail) ×
+          (length (gather m piles ++ tail) ≤ length (behind_job 8 1 olds) + total bs)) → (b : ℕ × ℕ) (bs : List (ℕ × ℕ)) (hands : List (List (Slot T N L E)))
+          (q : List (List (Piece T N L E))) (piles : List (List (List (Piece T N L E)))) (rest : List (Slot T N L E)) →
+          AreExpanded lt up refuses b.0 b.1 (p.0 ∷ rest) q → IsDealt p.1 (hands ++ rest ∷ []) → AreHandsWorked bs hands piles →
+          IsWaved lt up refuses (suc m) (b ∷ bs) olds (gather (suc m) (q ∷ piles) ++ tail) × (length (gather (suc m) (q ∷ piles) ++ tail) ≤ length olds +
+          total (b ∷ bs))
       at_pile go b bs hands [] piles rest e d a = absurd e
       at_pile go b bs hands (row ∷ rows) piles rest e d a =
           let j = e.0 in
@@ -229,7 +255,10 @@ module _ {T N L E : Type 0} (lt : L → L → Type 0) (up : T → N → L → N 
             omega (arith, few, bound, sum, cut, slot, long, parts),
           )
 
-      at_first : ((bs : List (ℕ × ℕ)) (hands : List (List (Slot T N L E))) (piles : List (List (List (Piece T N L E)))) → IsDealt p.1 hands → AreHandsWorked bs hands piles → IsWaved lt up refuses m bs (behind_job 8 1 olds) (gather m piles ++ tail) × (length (gather m piles ++ tail) ≤ length (behind_job 8 1 olds) + total bs)) → (bs : List (ℕ × ℕ)) (hands : List (List (Slot T N L E))) (piles : List (List (List (Piece T N L E)))) → IsDealt (p.0 ∷ p.1) hands → AreHandsWorked bs hands piles →
+      at_first : ((bs : List (ℕ × ℕ)) (hands : List (List (Slot T N L E))) (piles : List (List (List (Piece T N L E)))) → IsDealt p.1 hands →
+          AreHandsWorked bs hands piles → IsWaved lt up refuses m bs (behind_job 8 1 olds) (gather m piles ++ tail) ×
+          (length (gather m piles ++ tail) ≤ length (behind_job 8 1 olds) + total bs)) → (bs : List (ℕ × ℕ)) (hands : List (List (Slot T N L E)))
+          (piles : List (List (List (Piece T N L E)))) → IsDealt (p.0 ∷ p.1) hands → AreHandsWorked bs hands piles →
           IsWaved lt up refuses (suc m) bs olds (gather (suc m) piles ++ tail) × (length (gather (suc m) piles ++ tail) ≤ length olds + total bs)
       at_first go bs [] piles d a = absurd d
       at_first go [] (h ∷ hands) piles d a = absurd a
@@ -237,19 +266,26 @@ module _ {T N L E : Type 0} (lt : L → L → Type 0) (up : T → N → L → N 
       at_first go (b ∷ bs) (h ∷ hands) (q ∷ piles) d a = at_pile go b bs hands q piles d.0 (subst (λ x. AreExpanded lt up refuses b.0 b.1 x q) d.1 a.0) d.2 a.1
 
   -- job by job from index by index
-  worked_hands : (times room : ℕ) (js ds : List (Job T N L E)) → length ds ≡ length js → ((i : ℕ) (d : Job T N L E) → i < length js → IsWorked lt up refuses times room (get_or js i d) (get_or ds i d)) → AreHandsWorked (replicate (length js) (times, room)) (hands_of js) (piles_of ds)
+  worked_hands : (times room : ℕ) (js ds : List (Job T N L E)) → length ds ≡ length js →
+      ((i : ℕ) (d : Job T N L E) → i < length js → IsWorked lt up refuses times room (get_or js i d) (get_or ds i d)) →
+      AreHandsWorked (replicate (length js) (times, room)) (hands_of js) (piles_of ds)
   worked_hands times room [] [] e z = tt
   worked_hands times room [] (d ∷ ds) e z = absurd (omega (arith, e))
   worked_hands times room (j ∷ js) [] e z = absurd (omega (arith, e))
-  worked_hands times room (j ∷ js) (d ∷ ds) e z = (z zero j (omega arith), worked_hands times room js ds (omega (arith, e)) (λ i x h. z (suc i) x (omega (arith, h))))
+  worked_hands times room (j ∷ js) (d ∷ ds) e z =
+      (z zero j (omega arith), worked_hands times room js ds (omega (arith, e)) (λ i x h. z (suc i) x (omega (arith, h))))
 
   -- a row that is cut up into places, dealt out, worked on by job and put together again
-  pub wave_of : (due times room m : ℕ) (olds tail : List (Piece T N L E)) (slots : List (Slot T N L E)) (js ds : List (Job T N L E)) (n : ℕ) → m ≡ due * 8 → IsPlanned m olds slots tail → IsDealt slots (hands_of js) → length js ≡ n → n ≡ due → length ds ≡ length js →
+  pub wave_of : (due times room m : ℕ) (olds tail : List (Piece T N L E)) (slots : List (Slot T N L E)) (js ds : List (Job T N L E)) (n : ℕ) → m ≡ due * 8 →
+      IsPlanned m olds slots tail → IsDealt slots (hands_of js) → length js ≡ n → n ≡ due → length ds ≡ length js →
       ((i : ℕ) (d : Job T N L E) → i < length js → IsWorked lt up refuses times room (get_or js i d) (get_or ds i d)) →
-      IsWaved lt up refuses (due * 8) (replicate due (times, room)) olds (gather (due * 8) (piles_of ds) ++ tail) × (length (gather (due * 8) (piles_of ds) ++ tail) ≤ length olds + due * room)
+      IsWaved lt up refuses (due * 8) (replicate due (times, room)) olds (gather (due * 8) (piles_of ds) ++ tail) ×
+      (length (gather (due * 8) (piles_of ds) ++ tail) ≤ length olds + due * room)
   wave_of due times room m olds tail slots js ds n e planned dealt long count same each =
-      let worked = subst (λ x. AreHandsWorked (replicate x (times, room)) (hands_of js) (piles_of ds)) (long ∙ count) (worked_hands times room js ds same each) in
-      let k = waved_dealt (due * 8) olds tail slots (replicate due (times, room)) (hands_of js) (piles_of ds) (subst (λ x. IsPlanned x olds slots tail) e planned) dealt worked in
+      let worked = subst (λ x. AreHandsWorked (replicate x (times, room)) (hands_of js) (piles_of ds))
+      (long ∙ count) (worked_hands times room js ds same each) in
+      let k = waved_dealt (due * 8) olds tail slots (replicate due (times, room)) (hands_of js) (piles_of ds)
+      (subst (λ x. IsPlanned x olds slots tail) e planned) dealt worked in
       let bound = k.1 in
       let sum = total_even due times room in
       (k.0, omega (arith, bound, sum))
@@ -261,23 +297,30 @@ module _ {T N L E : Type 0} where
   piles_more [] j = refl
   piles_more (i ∷ js) j = ap (λ x. worked_rows i ∷ x) (piles_more js j)
 
-  gather_next : (k : ℕ) (p : List (List (Piece T N L E))) (piles : List (List (List (Piece T N L E)))) → gather (suc k) (p ∷ piles) ≡ get_or p 0 [] ++ gather k (piles ++ drop 1 p ∷ [])
+  gather_next : (k : ℕ) (p : List (List (Piece T N L E))) (piles : List (List (List (Piece T N L E)))) →
+      gather (suc k) (p ∷ piles) ≡ get_or p 0 [] ++ gather k (piles ++ drop 1 p ∷ [])
   gather_next k [] piles = refl
   gather_next k (row ∷ rows) piles = refl
 
   -- the first job's next row, if there is one, and then the others'
-  gathered_next : (m k : ℕ) (jobs rest news : List (Job T N L E)) (j d : Job T N L E) → m ≡ suc k → jobs ≡ j ∷ rest → news ≡ rest ++ d ∷ [] → worked_rows d ≡ drop 1 (worked_rows j) → gather m (piles_of jobs) ≡ get_or (worked_rows j) 0 [] ++ gather k (piles_of news)
+  gathered_next : (m k : ℕ) (jobs rest news : List (Job T N L E)) (j d : Job T N L E) → m ≡ suc k → jobs ≡ j ∷ rest → news ≡ rest ++ d ∷ [] →
+      worked_rows d ≡ drop 1 (worked_rows j) → gather m (piles_of jobs) ≡ get_or (worked_rows j) 0 [] ++ gather k (piles_of news)
   gathered_next m k jobs rest news j d e f g h =
-      ap (λ x. gather x (piles_of jobs)) e ∙ ap (λ x. gather (suc k) (piles_of x)) f ∙ gather_next k (worked_rows j) (piles_of rest) ∙ ap (λ x. get_or (worked_rows j) 0 [] ++ gather k (piles_of rest ++ x ∷ [])) (sym h) ∙ ap (λ x. get_or (worked_rows j) 0 [] ++ gather k x) (sym (ap piles_of g ∙ piles_more rest d))
+      ap (λ x. gather x (piles_of jobs)) e ∙ ap (λ x. gather (suc k) (piles_of x)) f ∙ gather_next k (worked_rows j) (piles_of rest) ∙
+      ap (λ x. get_or (worked_rows j) 0 [] ++ gather k (piles_of rest ++ x ∷ [])) (sym h) ∙ ap (λ x. get_or (worked_rows j) 0 [] ++ gather k x)
+      (sym (ap piles_of g ∙ piles_more rest d))
 
   -- it is put behind a row
-  pub gathered_more : (m k : ℕ) (jobs rest news : List (Job T N L E)) (j d : Job T N L E) (row more whole : List (Piece T N L E)) → m ≡ suc k → jobs ≡ j ∷ rest → news ≡ rest ++ d ∷ [] → worked_rows d ≡ drop 1 (worked_rows j) → more ≡ row ++ get_or (worked_rows j) 0 [] →
+  pub gathered_more : (m k : ℕ) (jobs rest news : List (Job T N L E)) (j d : Job T N L E) (row more whole : List (Piece T N L E)) → m ≡ suc k →
+      jobs ≡ j ∷ rest → news ≡ rest ++ d ∷ [] → worked_rows d ≡ drop 1 (worked_rows j) → more ≡ row ++ get_or (worked_rows j) 0 [] →
       row ++ gather m (piles_of jobs) ≡ whole → more ++ gather k (piles_of news) ≡ whole
   gathered_more m k jobs rest news j d row more whole e f g h on all =
-      ap (λ x. x ++ gather k (piles_of news)) on ∙ append_assoc row (get_or (worked_rows j) 0 []) (gather k (piles_of news)) ∙ ap (λ x. row ++ x) (sym (gathered_next m k jobs rest news j d e f g h)) ∙ all
+      ap (λ x. x ++ gather k (piles_of news)) on ∙ append_assoc row (get_or (worked_rows j) 0 []) (gather k (piles_of news)) ∙
+      ap (λ x. row ++ x) (sym (gathered_next m k jobs rest news j d e f g h)) ∙ all
 
   -- and is no longer than all
-  pub gathered_fits : (m k : ℕ) (jobs rest : List (Job T N L E)) (j : Job T N L E) (row whole : List (Piece T N L E)) → m ≡ suc k → jobs ≡ j ∷ rest → row ++ gather m (piles_of jobs) ≡ whole → length row + length (get_or (worked_rows j) 0 []) ≤ length whole
+  pub gathered_fits : (m k : ℕ) (jobs rest : List (Job T N L E)) (j : Job T N L E) (row whole : List (Piece T N L E)) → m ≡ suc k → jobs ≡ j ∷ rest →
+      row ++ gather m (piles_of jobs) ≡ whole → length row + length (get_or (worked_rows j) 0 []) ≤ length whole
   gathered_fits m k jobs rest j row whole e f all =
       let first = get_or (worked_rows j) 0 [] in
       let back = gather k (piles_of rest ++ drop 1 (worked_rows j) ∷ []) in

@@ -1,6 +1,7 @@
 -- A wave and a call keep that each refusal in the row is its walker's, and a refusal that is told is that of the walker in front.
 -- To cite: waved_refusals, given_refusals, given_refused_any, starved_refused.
-use Rattle.std.proofs.Common.{IfErr, ◌≡◌, ℕ, zero, suc, ◌+◌, ◌-◌, min, length, List, [], ◌∷◌, ◌++◌, refl, sym, inl, inr, subst, Option, Some, None, Ok, Err, true, false}
+use Rattle.std.proofs.Common.{IfErr, ◌≡◌, ℕ, zero, suc, ◌+◌, ◌-◌, min, length, List, [], ◌∷◌, ◌++◌, refl, sym, inl, inr, subst, Option, Some, None, Ok, Err}
+use Rattle.std.proofs.Common.{true, false}
 use Rattle.std.specs.declared.result.Result.{Result}
 use Rattle.gf_reverse_search.specs.declared.mark.Mark.{Mark}
 use Rattle.gf_reverse_search.specs.declared.mark.Mark.TheVariants.{After}
@@ -33,7 +34,8 @@ module _ {T N L E : Type 0} (lt : L → L → Type 0) (up : T → N → L → N 
   follows_refusals Full w (Refused x e ∷ ps) f = (subst (λ y. refuses y e) (sym f.1) f.2, subst (AreRefusals refuses) (sym f.0) tt)
 
   down_refusals : (most : ℕ) (w : Place T N L) (ps : List (Piece T N L E)) → GoesDown lt up refuses most w ps → AreRefusals refuses ps
-  down_refusals most w ps g = subst (AreRefusals refuses) (sym g.whole) (refusals_both g.below g.rest (below_refusals w.tree w.here w.mark g.mark g.below g.children) (follows_refusals _ _ g.rest g.follows))
+  down_refusals most w ps g = subst (AreRefusals refuses) (sym g.whole)
+      (refusals_both g.below g.rest (below_refusals w.tree w.here w.mark g.mark g.below g.children) (follows_refusals _ _ g.rest g.follows))
 
   one_refusals : (w : Place T N L) (ps : List (Piece T N L E)) → IsExpansion lt up refuses w ps → AreRefusals refuses ps
   one_refusals w ps (inl (inl g)) = down_refusals 1 w ps g
@@ -42,13 +44,15 @@ module _ {T N L E : Type 0} (lt : L → L → Type 0) (up : T → N → L → N 
 
   -- ---- a job
 
-  on_refusals : (k n : ℕ) (olds : List (Piece T N L E)) (j i : ℕ) (news : List (Piece T N L E)) → ExpandsOn lt up refuses k n olds j i news → AreRefusals refuses olds → AreRefusals refuses news
+  on_refusals : (k n : ℕ) (olds : List (Piece T N L E)) (j i : ℕ) (news : List (Piece T N L E)) → ExpandsOn lt up refuses k n olds j i news →
+      AreRefusals refuses olds → AreRefusals refuses news
   on_refusals zero n olds j i news h a = subst (AreRefusals refuses) (sym h.0) a
   on_refusals (suc k) zero olds j i news h a = subst (AreRefusals refuses) (sym h.0) a
   on_refusals (suc k) (suc zero) olds j i news h a = subst (AreRefusals refuses) (sym h.0) a
   on_refusals (suc k) (suc (suc n)) [] j i news h a = subst (AreRefusals refuses) (sym h.0) a
   on_refusals (suc k) (suc (suc n)) (Ready v ∷ ps) j i news h a = subst (AreRefusals refuses) (sym h.1) (on_refusals (suc k) (suc (suc n)) ps j i h.0 h.2 a)
-  on_refusals (suc k) (suc (suc n)) (Under w ∷ ps) j i news h a = on_refusals k (n + 3 - length h.0) (h.0 ++ ps) j i news h.2 (refusals_both h.0 ps (one_refusals w h.0 h.1) a)
+  on_refusals (suc k) (suc (suc n)) (Under w ∷ ps) j i news h a =
+      on_refusals k (n + 3 - length h.0) (h.0 ++ ps) j i news h.2 (refusals_both h.0 ps (one_refusals w h.0 h.1) a)
   on_refusals (suc k) (suc (suc n)) (Refused w e ∷ ps) j i news h a = subst (AreRefusals refuses) (sym h.0) a
 
   -- ---- a wave
@@ -70,15 +74,18 @@ module _ {T N L E : Type 0} (lt : L → L → Type 0) (up : T → N → L → N 
   behind_refusals (suc c) (suc m) (Under w ∷ ps) a = behind_refusals c (suc m - 1) ps a
   behind_refusals (suc c) (suc m) (Refused w e ∷ ps) a = behind_refusals c (suc m - 1) ps a.1
 
-  pub waved_refusals : (m : ℕ) (jobs : List (ℕ × ℕ)) (olds news : List (Piece T N L E)) → IsWaved lt up refuses m jobs olds news → AreRefusals refuses olds → AreRefusals refuses news
+  pub waved_refusals : (m : ℕ) (jobs : List (ℕ × ℕ)) (olds news : List (Piece T N L E)) → IsWaved lt up refuses m jobs olds news → AreRefusals refuses olds →
+      AreRefusals refuses news
   waved_refusals zero jobs olds news h a = subst (AreRefusals refuses) (sym h) a
   waved_refusals (suc m) [] olds news h a = absurd h
   waved_refusals (suc m) (b ∷ jobs) olds news h a =
-      subst (AreRefusals refuses) (sym h.4) (refusals_both h.0 h.1 (on_refusals b.0 b.1 (first_job 8 1 olds) h.2 h.3 h.0 h.5 (first_refusals 8 1 olds)) (waved_refusals m (jobs ++ (h.2, min h.3 16) ∷ []) (behind_job 8 1 olds) h.1 h.6 (behind_refusals 8 1 olds a)))
+      subst (AreRefusals refuses) (sym h.4) (refusals_both h.0 h.1 (on_refusals b.0 b.1 (first_job 8 1 olds) h.2 h.3 h.0 h.5 (first_refusals 8 1 olds))
+      (waved_refusals m (jobs ++ (h.2, min h.3 16) ∷ []) (behind_job 8 1 olds) h.1 h.6 (behind_refusals 8 1 olds a)))
 
   -- ---- an answer
 
-  pub given_refusals : (olds : List (Piece T N L E)) (answer : Result (Option N) E) (news : List (Piece T N L E)) → IsGiven lt up refuses olds answer news → AreRefusals refuses olds → AreRefusals refuses news
+  pub given_refusals : (olds : List (Piece T N L E)) (answer : Result (Option N) E) (news : List (Piece T N L E)) → IsGiven lt up refuses olds answer news →
+      AreRefusals refuses olds → AreRefusals refuses news
   given_refusals [] answer news h a = subst (AreRefusals refuses) (sym h.1) tt
   given_refusals (Ready v ∷ ps) answer news h a = subst (AreRefusals refuses) (sym h.1) a
   given_refusals (Refused w e ∷ ps) answer news h a = subst (AreRefusals refuses) (sym h.1) a.1
@@ -91,14 +98,17 @@ module _ {T N L E : Type 0} (lt : L → L → Type 0) (up : T → N → L → N 
   same_refusal e f answer h k = cc
 
   -- a refusal that is told is that of the walker in front
-  given_refused : (olds : List (Piece T N L E)) (e : E) (news : List (Piece T N L E)) → IsGiven lt up refuses olds (Err e) news → AreRefusals refuses olds → IsFrontRefused refuses news e
+  given_refused : (olds : List (Piece T N L E)) (e : E) (news : List (Piece T N L E)) → IsGiven lt up refuses olds (Err e) news → AreRefusals refuses olds →
+      IsFrontRefused refuses news e
   given_refused [] e news h a = absurd (let f = h.0 in cc)
   given_refused (Ready v ∷ ps) e news h a = absurd (let f = h.0 in cc)
-  given_refused (Refused w f ∷ ps) e news h a = subst (λ r. IsFrontRefused refuses r e) (sym h.1) (subst (λ g. refuses w g) (sym (same_refusal e f (Err e) refl h.0)) a.0)
+  given_refused (Refused w f ∷ ps) e news h a =
+      subst (λ r. IsFrontRefused refuses r e) (sym h.1) (subst (λ g. refuses w g) (sym (same_refusal e f (Err e) refl h.0)) a.0)
   given_refused (Under w ∷ ps) e news (inl h) a = subst (λ r. IsFrontRefused refuses r e) (sym h.1) h.0
   given_refused (Under w ∷ ps) e news (inr h) a = given_refused ps e news h.1 a
 
-  pub given_refused_any : (olds : List (Piece T N L E)) (answer : Result (Option N) E) (news : List (Piece T N L E)) → IsGiven lt up refuses olds answer news → AreRefusals refuses olds → IfErr answer (IsFrontRefused refuses news)
+  pub given_refused_any : (olds : List (Piece T N L E)) (answer : Result (Option N) E) (news : List (Piece T N L E)) → IsGiven lt up refuses olds answer news →
+      AreRefusals refuses olds → IfErr answer (IsFrontRefused refuses news)
   given_refused_any olds (Ok o) news h a = tt
   given_refused_any olds (Err e) news h a = given_refused olds e news h a
 

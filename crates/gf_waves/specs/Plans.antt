@@ -35,7 +35,8 @@ AreFit (s ∷ ss) = IsFit s × AreFit ss
 abbrev pub IsPlanned : {T N L E : Type 0} → ℕ → List (Piece T N L E) → List (Slot T N L E) → List (Piece T N L E) → Type 0
 IsPlanned zero olds slots tail = (slots ≡ []) × (tail ≡ olds)
 IsPlanned {T} {N} {L} {E} (suc m) olds slots tail =
-    (slot : Slot T N L E) × (ss : List (Slot T N L E)) × (slots ≡ slot ∷ ss) × IsFit slot × (slot.row.items ≡ first_job 8 1 olds) × IsPlanned m (behind_job 8 1 olds) ss tail
+    (slot : Slot T N L E) × (ss : List (Slot T N L E)) × (slots ≡ slot ∷ ss) × IsFit slot × (slot.row.items ≡ first_job 8 1 olds) × IsPlanned m
+    (behind_job 8 1 olds) ss tail
 
 -- ---- dealing out
 
@@ -63,21 +64,26 @@ hands_of (j ∷ js) = j.slots.items ∷ hands_of js
 -- ---- working
 
 -- a walker is expanded before a row
-abbrev pub IsExpanded : {T N L E : Type 0} → (L → L → Type 0) → (T → N → L → N → Type 0) → (Place T N L → E → Type 0) → Place T N L → List (Piece T N L E) → List (Piece T N L E) → Type 0
+abbrev pub IsExpanded : {T N L E : Type 0} → (L → L → Type 0) → (T → N → L → N → Type 0) → (Place T N L → E → Type 0) → Place T N L → List (Piece T N L E) →
+    List (Piece T N L E) → Type 0
 IsExpanded {T} {N} {L} {E} lt up refuses w olds news = (front : List (Piece T N L E)) × (news ≡ front ++ olds) × IsExpansion lt up refuses w front
 
 -- some pieces are done with: what the others may become with the expansions and the room that are left, that stands behind these
-abbrev pub IsOn : {T N L E : Type 0} → (L → L → Type 0) → (T → N → L → N → Type 0) → (Place T N L → E → Type 0) → ℕ → ℕ → List (Piece T N L E) → List (Piece T N L E) → ℕ → ℕ → List (Piece T N L E) → List (Piece T N L E) → Type 0
+abbrev pub IsOn : {T N L E : Type 0} → (L → L → Type 0) → (T → N → L → N → Type 0) → (Place T N L → E → Type 0) → ℕ → ℕ → List (Piece T N L E) →
+    List (Piece T N L E) → ℕ → ℕ → List (Piece T N L E) → List (Piece T N L E) → Type 0
 IsOn {T} {N} {L} {E} lt up refuses left room dones olds less fewer more rest =
-    (first : List (Piece T N L E)) × (more ≡ dones ++ first) × ((j i : ℕ) (news : List (Piece T N L E)) → ExpandsOn lt up refuses less fewer rest j i news → ExpandsOn lt up refuses left room olds j i (first ++ news))
+    (first : List (Piece T N L E)) × (more ≡ dones ++ first) × ((j i : ℕ) (news : List (Piece T N L E)) → ExpandsOn lt up refuses less fewer rest j i news →
+    ExpandsOn lt up refuses left room olds j i (first ++ news))
 
 -- a job's places are worked on, one after another, with what the ones before have left, room for sixteen pieces at most; and none grows by more
 -- than it uses up
-abbrev pub AreExpanded : {T N L E : Type 0} → (L → L → Type 0) → (T → N → L → N → Type 0) → (Place T N L → E → Type 0) → ℕ → ℕ → List (Slot T N L E) → List (List (Piece T N L E)) → Type 0
+abbrev pub AreExpanded : {T N L E : Type 0} → (L → L → Type 0) → (T → N → L → N → Type 0) → (Place T N L → E → Type 0) → ℕ → ℕ → List (Slot T N L E) →
+    List (List (Piece T N L E)) → Type 0
 AreExpanded lt up refuses k n [] rows = rows ≡ []
 AreExpanded lt up refuses k n (s ∷ ss) [] = ⊥
 AreExpanded lt up refuses k n (s ∷ ss) (row ∷ rows) =
-    (j : ℕ) × (i : ℕ) × ExpandsOn lt up refuses k n s.row.items j i row × (length row + i ≤ length s.row.items + n) × AreExpanded lt up refuses j (min i 16) ss rows
+    (j : ℕ) × (i : ℕ) × ExpandsOn lt up refuses k n s.row.items j i row × (length row + i ≤ length s.row.items + n) × AreExpanded lt up refuses j (min i 16)
+    ss rows
 
 -- the job has places that are to be worked on, and room for what they become
 abbrev pub IsJobFit : {T N L E : Type 0} → Job T N L E → Type 0
@@ -96,7 +102,8 @@ abbrev pub IsWorked : {T N L E : Type 0} → (L → L → Type 0) → (T → N �
 IsWorked lt up refuses times room old new = AreExpanded lt up refuses times room old.slots.items (worked_rows new)
 
 -- the same of several jobs, index by index
-pub record AreWorkedAt {T N L E : Type 0} (lt : L → L → Type 0) (up : T → N → L → N → Type 0) (refuses : Place T N L → E → Type 0) (times room : ℕ) (olds news : List (Job T N L E)) : Type 0 where
+pub record AreWorkedAt {T N L E : Type 0} (lt : L → L → Type 0) (up : T → N → L → N → Type 0) (refuses : Place T N L → E → Type 0) (times room : ℕ)
+    (olds news : List (Job T N L E)) : Type 0 where
   pub same_length : length news ≡ length olds
   pub each : (i : ℕ) (d : Job T N L E) → i < length olds → IsWorked lt up refuses times room (slice_index_or olds i d) (slice_index_or news i d)
 

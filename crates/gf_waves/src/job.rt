@@ -61,7 +61,8 @@ fn step<T: ReusingTree>(
     requires few { length done.old.items + length row.old.items + 1 < limit }
     requires room { 24 ≤ deque_capacity row.old }
     requires room_for_done { 24 ≤ deque_capacity done.old }
-    ensures on { IsOn T.before T.up (RefusesAt T.up T.refuses) left (limit - (length done.old.items + length row.old.items)) done.old.items row.old.items result (limit - (length done.new.items + length row.new.items)) done.new.items row.new.items }
+    ensures on { IsOn T.before T.up (RefusesAt T.up T.refuses) left (limit - (length done.old.items + length row.old.items)) done.old.items row.old.items result
+        (limit - (length done.new.items + length row.new.items)) done.new.items row.new.items }
     ensures falls { 3 * result + length row.new.items < 3 * left + length row.old.items }
     ensures few { length done.new.items + length row.new.items ≤ limit }
     ensures room { deque_capacity row.old ≤ deque_capacity row.new }

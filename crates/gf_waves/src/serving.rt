@@ -155,7 +155,9 @@ fn give_first<T: Tree>(row: &mut VecDeque<Piece<T>>) -> Result<Option<T::Node>, 
 pub fn give<T: Tree>(row: &mut VecDeque<Piece<T>>) -> Result<Option<T::Node>, T::Error>
     requires { AreRefusals (RefusesAt T.up T.refuses) row.old.items }
     ensures given { IsGiven T.before T.up (RefusesAt T.up T.refuses) row.old.items result row.new.items }
-    ensures list { (workers jobs next : ℕ) (olds : List (Piece T T.Node T.Label T.Error)) (nodes : List T.Node) → IsReadied T.before T.up (RefusesAt T.up T.refuses) workers jobs olds next row.old.items → PiecesLeave (IsLeftAt T.before T.up) olds nodes → IsAfter (IsLeftAt T.before T.up) result nodes row.new.items }
+    ensures list { (workers jobs next : ℕ) (olds : List (Piece T T.Node T.Label T.Error)) (nodes : List T.Node) →
+        IsReadied T.before T.up (RefusesAt T.up T.refuses) workers jobs olds next row.old.items → PiecesLeave (IsLeftAt T.before T.up) olds nodes →
+        IsAfter (IsLeftAt T.before T.up) result nodes row.new.items }
     ensures few { length row.new.items ≤ length row.old.items }
     ensures refusals { AreRefusals (RefusesAt T.up T.refuses) row.new.items }
     ensures refused { IfErr result (IsFrontRefused (RefusesAt T.up T.refuses) row.new.items) }

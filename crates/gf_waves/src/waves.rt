@@ -54,8 +54,13 @@ impl<'g, T: Tree, G: Gate> Waves<'g, T, G> {
         requires node { T.is_node tree root }
         requires some { 1 ≤ workers }
         requires most { workers ≤ 64 }
-        ensures start { IfOk result (λ w. w ≡ record { workers = workers; jobs = 0; pieces = Ready root ∷ Under (record { tree = tree; here = root; mark = Listed; depth = 0 }) ∷ [] }) }
-        ensures list { IfOk result (λ w. (nodes : List T.Node) → Leaves T.before (T.up tree) Before root 0 nodes → PiecesLeave (IsLeftAt T.before T.up) w.pieces nodes) }
+        ensures start { IfOk result (λ w. w ≡ record {
+          workers = workers;
+          jobs = 0;
+          pieces = Ready root ∷ Under (record { tree = tree; here = root; mark = Listed; depth = 0 }) ∷ [];
+        }) }
+        ensures list { IfOk result (λ w. (nodes : List T.Node) → Leaves T.before (T.up tree) Before root 0 nodes →
+            PiecesLeave (IsLeftAt T.before T.up) w.pieces nodes) }
         ensures memory { IfErr result T.is_memory }
     {
         let first = tree.copy(&root)?;
@@ -155,7 +160,8 @@ where
     ///
     /// The first refusal in list order. What is left is the same, and a later call goes on from there.
     pub fn next_written<R: Threads + Sync>(&mut self, rt: &R) -> Result<Option<T::Node>, T::Error>
-        ensures list { (nodes : List T.Node) → PiecesLeave (IsLeftAt T.before T.up) self.old.pieces nodes → IsAfter (IsLeftAt T.before T.up) result nodes self.new.pieces }
+        ensures list { (nodes : List T.Node) → PiecesLeave (IsLeftAt T.before T.up) self.old.pieces nodes →
+            IsAfter (IsLeftAt T.before T.up) result nodes self.new.pieces }
         ensures call { IsCall T.before T.up (RefusesAt T.up T.refuses) T.is_memory self.old result self.new }
         ensures refused { IfErr result (IsFrontRefused (RefusesAt T.up T.refuses) self.new.pieces) }
         ensures refusals { AreRefusals (RefusesAt T.up T.refuses) self.new.pieces }

@@ -1,5 +1,6 @@
 -- Facets that a flip may cross, by the rays on which a normal is zero.
-use Rattle.std.proofs.Common.{◌≡◌, ℕ, zero, suc, ◌<◌, List, [], ◌∷◌, ◌++◌, length, ℤ, pos, ◌<ℤ◌, ◌≤ℤ◌, arith, refl, sym, ap, ◌∙◌, subst, Contains, get_or, inl, inr}
+use Rattle.std.proofs.Common.{◌≡◌, ℕ, zero, suc, ◌<◌, List, [], ◌∷◌, ◌++◌, length, ℤ, pos, ◌<ℤ◌, ◌≤ℤ◌, arith, refl, sym, ap, ◌∙◌, subst, Contains, get_or, inl}
+use Rattle.std.proofs.Common.{inr}
 use Rattle.std.proofs.lemmas.Int.{ints}
 use Rattle.std.proofs.lemmas.List.{get_or_default}
 use Rattle.std.proofs.lemmas.Bool.{cases_eq}
@@ -27,12 +28,14 @@ use Rattle.gf_weights.specs.Cuts.{HasRaysOf, IsZeroAt, HasRayOff, HasRayOffOther
 use Rattle.gf_rays.proofs.FacetLaws.{row_in}
 
 -- that at another place is one of the others
-other_row : (ns beside : List (List ℤ)) (i k : ℕ) → i < length ns → k < length (ns ++ beside) → (k ≡ i → ⊥) → Contains (others_of i ns ++ beside) (get_or (ns ++ beside) k [])
+other_row : (ns beside : List (List ℤ)) (i k : ℕ) → i < length ns → k < length (ns ++ beside) → (k ≡ i → ⊥) →
+    Contains (others_of i ns ++ beside) (get_or (ns ++ beside) k [])
 other_row [] beside i k l m d = absurd (omega (arith, l))
 other_row (x ∷ ns) beside zero zero l m d = absurd (d refl)
 other_row (x ∷ ns) beside zero (suc k) l m d = row_in (ns ++ beside) k (omega (arith, m))
 other_row (x ∷ ns) beside (suc i) zero l m d = Contains-here x (others_of i ns ++ beside)
-other_row (x ∷ ns) beside (suc i) (suc k) l m d = in_tail x (others_of i ns ++ beside) (get_or (ns ++ beside) k []) (other_row ns beside i k (omega (arith, l)) (omega (arith, m)) (λ e. d (ap suc e)))
+other_row (x ∷ ns) beside (suc i) (suc k) l m d =
+    in_tail x (others_of i ns ++ beside) (get_or (ns ++ beside) k []) (other_row ns beside i k (omega (arith, l)) (omega (arith, m)) (λ e. d (ap suc e)))
 
 -- ---- the sum of the rays on which a row is zero
 
@@ -51,18 +54,22 @@ module _ (n : ℕ) (rows lin rays : List (List ℤ)) (i : ℕ) (d : IsDescribed 
 
   -- the row is zero there
   pub part_zero : dot at (sum_of n (zeros_of at rays)) ≡ pos 0
-  part_zero = Made-dot_zero n (zeros_of at rays) [] at (sum_of n (zeros_of at rays)) (λ x c. ((zeros_part at rays).each x c).1) (λ x c. absurd (none_in x c)) part_sum
+  part_zero = Made-dot_zero n (zeros_of at rays) [] at (sum_of n (zeros_of at rays)) (λ x c. ((zeros_part at rays).each x c).1) (λ x c. absurd (none_in x c))
+      part_sum
 
   -- and each other row that isn't zero on all of them is positive
-  pub part_positive : (k j : ℕ) → k < length rows → j < length rays → dot at (get_or rays j []) ≡ pos 0 → (dot (get_or rows k []) (get_or rays j []) ≡ pos 0 → ⊥) → pos 0 <ℤ dot (get_or rows k []) (sum_of n (zeros_of at rays))
+  pub part_positive : (k j : ℕ) → k < length rows → j < length rays → dot at (get_or rays j []) ≡ pos 0 → (dot (get_or rows k []) (get_or rays j []) ≡ pos 0 →
+      ⊥) → pos 0 <ℤ dot (get_or rows k []) (sum_of n (zeros_of at rays))
   part_positive k j lk lj z off =
       let row : List ℤ = get_or rows k [] in
       let there : Contains (zeros_of at rays) (get_or rays j []) = (zeros_part at rays).every (get_or rays j []) (row_in rays j lj) z in
-      let up : (x : List ℤ) → Contains (zeros_of at rays) x → pos 0 ≤ℤ dot row x = λ x c. d.valid.up row x (row_in rows k lk) ((zeros_part at rays).each x c).0 in
+      let up : (x : List ℤ) → Contains (zeros_of at rays) x → pos 0 ≤ℤ dot row x =
+      λ x c. d.valid.up row x (row_in rows k lk) ((zeros_part at rays).each x c).0 in
       elim (sign_of (dot row (sum_of n (zeros_of at rays)))) [
         | positive g ↦ g
         | none g ↦ absurd (off (sum_zero n (zeros_of at rays) row (get_or rays j []) part_wide up g there))
-        | negative g ↦ let q : pos 0 ≤ℤ dot row (sum_of n (zeros_of at rays)) = Made-dot n (zeros_of at rays) [] row (sum_of n (zeros_of at rays)) up (λ x c. absurd (none_in x c)) part_sum in absurd (omega (arith, ints, g, q))
+        | negative g ↦ let q : pos 0 ≤ℤ dot row (sum_of n (zeros_of at rays)) =
+            Made-dot n (zeros_of at rays) [] row (sum_of n (zeros_of at rays)) up (λ x c. absurd (none_in x c)) part_sum in absurd (omega (arith, ints, g, q))
       ]
 
 -- ---- by the rows of a cone
@@ -75,7 +82,8 @@ crossing_of_rays c r i h l off =
     let d : IsDescribed n rows [] r.lineality r.rays = described_of n rows [] r.lineality r.rays h.rays in
     let li : i < length rows = in_all c i l in
     let w : List ℤ = sum_of n (zeros_of (get_or rows i []) r.rays) in
-    let moved : (k : ℕ) → k < length rows → (k ≡ i → ⊥) → HasRayOff (record r { inequalities = rows }) i k = subst (λ (z : List (List ℤ)). (k : ℕ) → k < length z → (k ≡ i → ⊥) → HasRayOff (record r { inequalities = z }) i k) h.rows off in (
+    let moved : (k : ℕ) → k < length rows → (k ≡ i → ⊥) → HasRayOff (record r { inequalities = rows }) i k =
+    subst (λ (z : List (List ℤ)). (k : ℕ) → k < length z → (k ≡ i → ⊥) → HasRayOff (record r { inequalities = z }) i k) h.rows off in (
       w,
       solution_of_shown c i w l (part_long n rows r.lineality r.rays i d li) (λ k lk. record {
         zero = λ e. ap (λ (j : ℕ). dot (get_or rows j []) w) e ∙ part_zero n rows r.lineality r.rays i d li;
@@ -93,15 +101,21 @@ not_crossing c r i k h l lk ne z (w, s) =
     let li : i < length rows = in_all c i l in
     let mk : k < length rows = subst (λ (t : List (List ℤ)). k < length t) h.rows lk in
     let zero : dot (get_or rows i []) w ≡ pos 0 = ap (λ (t : List ℤ). dot t w) (get_or-append c.normals c.beside [] i l) ∙ s.zero 0 [] (omega arith) in
-    let up : (j : ℕ) → j < length rows → (j ≡ i → ⊥) → pos 0 <ℤ dot (get_or rows j []) w = λ j m e. All-contains (λ t. pos 0 <ℤ dot t w) (other_rows c i) (get_or rows j []) s.positive (other_row c.normals c.beside i j l m e) in
+    let up : (j : ℕ) → j < length rows → (j ≡ i → ⊥) → pos 0 <ℤ dot (get_or rows j []) w =
+    λ j m e. All-contains (λ t. pos 0 <ℤ dot t w) (other_rows c i) (get_or rows j []) s.positive (other_row c.normals c.beside i j l m e) in
     let inside : (t : List ℤ) → Contains rows t → pos 0 ≤ℤ dot t w = λ t ct. elim (cases_eq ct.0 i) [
-      | inl e ↦ let q : dot t w ≡ pos 0 = ap (λ (y : List ℤ). dot y w) (sym ct.2 ∙ get_or_default rows ct.0 t [] ct.1 ∙ ap (λ (j : ℕ). get_or rows j []) e) ∙ zero in omega (arith, ints, q)
-      | inr e ↦ let q : pos 0 <ℤ dot (get_or rows ct.0 []) w = up ct.0 ct.1 e in let f : dot (get_or rows ct.0 []) w ≡ dot t w = ap (λ (y : List ℤ). dot y w) (get_or_default rows ct.0 [] t ct.1 ∙ ct.2) in omega (arith, ints, q, f)
+      | inl e ↦ let q : dot t w ≡ pos 0 = ap (λ (y : List ℤ). dot y w) (sym ct.2 ∙ get_or_default rows ct.0 t [] ct.1 ∙ ap (λ (j : ℕ). get_or rows j []) e) ∙
+          zero in omega (arith, ints, q)
+      | inr e ↦ let q : pos 0 <ℤ dot (get_or rows ct.0 []) w = up ct.0 ct.1 e in let f : dot (get_or rows ct.0 []) w ≡ dot t w =
+          ap (λ (y : List ℤ). dot y w) (get_or_default rows ct.0 [] t ct.1 ∙ ct.2) in omega (arith, ints, q, f)
     ] in
-    let moved : (j : ℕ) → j < length r.rays → IsZeroAt (record r { inequalities = rows }) i j → IsZeroAt (record r { inequalities = rows }) k j = subst (λ (t : List (List ℤ)). (j : ℕ) → j < length r.rays → IsZeroAt (record r { inequalities = t }) i j → IsZeroAt (record r { inequalities = t }) k j) h.rows z in
+    let moved : (j : ℕ) → j < length r.rays → IsZeroAt (record r { inequalities = rows }) i j → IsZeroAt (record r { inequalities = rows }) k j =
+    subst (λ (t : List (List ℤ)). (j : ℕ) → j < length r.rays → IsZeroAt (record r { inequalities = t }) i j → IsZeroAt (record r { inequalities = t }) k j)
+    h.rows z in
     let flat : (x : List ℤ) → Contains r.rays x → dot (get_or rows i []) x ≡ pos 0 → dot (get_or rows k []) x ≡ pos 0 = λ x cx q.
     let e : get_or r.rays cx.0 [] ≡ x = get_or_default r.rays cx.0 [] x cx.1 ∙ cx.2 in
     ap (λ (y : List ℤ). dot (get_or rows k []) y) (sym e) ∙ moved cx.0 cx.1 (ap (λ (y : List ℤ). dot (get_or rows i []) y) e ∙ q) in
-    let down : dot (get_or rows k []) w ≡ pos 0 = within_zero n rows [] r.lineality r.rays (get_or rows i []) (get_or rows k []) w d (row_in rows i li) (row_in rows k mk) flat s.width (in_cone rows w inside) zero in
+    let down : dot (get_or rows k []) w ≡ pos 0 = within_zero n rows [] r.lineality r.rays (get_or rows i []) (get_or rows k []) w d (row_in rows i li)
+    (row_in rows k mk) flat s.width (in_cone rows w inside) zero in
     let q : pos 0 <ℤ dot (get_or rows k []) w = up k mk ne in
     absurd (omega (arith, ints, down, q))

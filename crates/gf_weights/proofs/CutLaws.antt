@@ -27,7 +27,8 @@ pointed n ns (l ∷ lin) rays r =
     let inside = q.1.0.inside in
     let below : q.0 < n = omega (arith, inside, wide) in
     let d = described_of n (ns ++ units n n) [] (l ∷ lin) rays r in
-    let flat : dot (unit n q.0) l ≡ pos 0 = d.valid.flat (unit n q.0) l (Contains-append_right ns (units n n) (unit n q.0) (unit_there n n q.0 below)) (Contains-here l lin) in
+    let flat : dot (unit n q.0) l ≡ pos 0 = d.valid.flat (unit n q.0) l (Contains-append_right ns (units n n) (unit n q.0) (unit_there n n q.0 below))
+    (Contains-here l lin) in
     let same : dot (unit n q.0) l ≡ get_or l q.0 (pos 0) = dot-unit n q.0 l below wide in
     let up : pos 0 <ℤ entry_at l q.0 = q.1.1 in
     absurd (omega (arith, ints, flat, same, up))
@@ -42,18 +43,25 @@ unfolding cut_rows
 cut_rays n j bs c r k =
     let rows = cut_rows n j bs c k.cone in
     let are : IsRays n (all_rows c) [] r.lineality r.rays = subst (λ (m : ℕ). IsRays m (all_rows c) [] r.lineality r.rays) k.cone.variables k.rays.rays in
-    let none : r.lineality ≡ [] = pointed n (c.normals ++ j.rows) r.lineality r.rays (subst (λ (z : List (List ℤ)). IsRays n z [] r.lineality r.rays) (rows.all ∙ sym (append_assoc c.normals j.rows (units n n))) are) in
+    let none : r.lineality ≡ [] = pointed n (c.normals ++ j.rows) r.lineality r.rays (subst (λ (z : List (List ℤ)). IsRays n z [] r.lineality r.rays)
+    (rows.all ∙ sym (append_assoc c.normals j.rows (units n n))) are) in
     record { rows = all_rows c; are_rows = rows; are_rays = subst (λ (z : List (List ℤ)). IsRays n (all_rows c) [] z r.rays) none are }
 
 pub ambient_is : (n : ℕ) (j : Region) (bs : List MarkedPolynomial) (c : ConeRows) (r : RowsAndRays) → IsCutOf n j bs c r → r.ambient ≡ n
 ambient_is n j bs c r k = k.rays.ambient ∙ k.cone.variables
 
 -- so the sums of its rays are printed
-pub weight_is : (n : ℕ) (j : Region) (bs : List MarkedPolynomial) (c : ConeRows) (r : RowsAndRays) (v : List ℤ) → IsCutOf n j bs c r → v ≡ sum_of r.ambient r.rays → IsWeightIn n j bs v
+pub weight_is : (n : ℕ) (j : Region) (bs : List MarkedPolynomial) (c : ConeRows) (r : RowsAndRays) (v : List ℤ) → IsCutOf n j bs c r →
+    v ≡ sum_of r.ambient r.rays → IsWeightIn n j bs v
 weight_is n j bs c r v k e = record { rays = r.rays; cut = cut_rays n j bs c r k; sum = e ∙ ap (λ (m : ℕ). sum_of m r.rays) (ambient_is n j bs c r k) }
 
-pub witness_is : (n : ℕ) (j : Region) (bs : List MarkedPolynomial) (c : ConeRows) (r : RowsAndRays) (a v : List ℤ) → IsCutOf n j bs c r → v ≡ sum_of r.ambient (zeros_of a r.rays) → IsWitnessIn n j bs a v
-witness_is n j bs c r a v k e = record { rays = r.rays; cut = cut_rays n j bs c r k; sum = e ∙ ap (λ (m : ℕ). sum_of m (zeros_of a r.rays)) (ambient_is n j bs c r k) }
+pub witness_is : (n : ℕ) (j : Region) (bs : List MarkedPolynomial) (c : ConeRows) (r : RowsAndRays) (a v : List ℤ) → IsCutOf n j bs c r →
+    v ≡ sum_of r.ambient (zeros_of a r.rays) → IsWitnessIn n j bs a v
+witness_is n j bs c r a v k e = record {
+  rays = r.rays;
+  cut = cut_rays n j bs c r k;
+  sum = e ∙ ap (λ (m : ℕ). sum_of m (zeros_of a r.rays)) (ambient_is n j bs c r k);
+}
 
 -- the row of the cone at the place of a normal is this normal
 pub normal_row : (c : ConeRows) (r : RowsAndRays) (i : ℕ) → HasRaysOf c r → i < length c.normals → get_or r.inequalities i [] ≡ normal_at c i

@@ -31,7 +31,8 @@ module _ (n : ℕ) (region : Region) (bs : List MarkedPolynomial) (c : ConeRows)
   })
 
   -- a normal whose facet no flip may cross
-  pub facets_passed : (i : ℕ) (fs : List FacetWitness) → (IsFlippable n region bs (normal_at c i) → ⊥) → AreWitnessedBefore n region bs c i fs → AreWitnessedBefore n region bs c (i + 1) fs
+  pub facets_passed : (i : ℕ) (fs : List FacetWitness) → (IsFlippable n region bs (normal_at c i) → ⊥) → AreWitnessedBefore n region bs c i fs →
+      AreWitnessedBefore n region bs c (i + 1) fs
   facets_passed i fs not h = record {
     rises = h.rises;
     before = λ a k. let q = h.before a k in (q.0, omega (arith, q.1), q.2);
@@ -44,8 +45,9 @@ module _ (n : ℕ) (region : Region) (bs : List MarkedPolynomial) (c : ConeRows)
   }
 
   -- and one whose facet may be crossed, with its witness
-  pub facets_next : (i : ℕ) (fs next : List FacetWitness) (f : FacetWitness) → IsConeOf n region bs c → i < length c.normals → f.normal ≡ normal_at c i → IsFlippable n region bs (normal_at c i) →
-      IsWitnessIn n region bs (normal_at c i) f.witness → next ≡ fs ++ f ∷ [] → AreWitnessedBefore n region bs c i fs → AreWitnessedBefore n region bs c (i + 1) next
+  pub facets_next : (i : ℕ) (fs next : List FacetWitness) (f : FacetWitness) → IsConeOf n region bs c → i < length c.normals → f.normal ≡ normal_at c i →
+      IsFlippable n region bs (normal_at c i) → IsWitnessIn n region bs (normal_at c i) f.witness → next ≡ fs ++ f ∷ [] →
+      AreWitnessedBefore n region bs c i fs → AreWitnessedBefore n region bs c (i + 1) next
   facets_next i fs next f k l e flip w en h = subst (AreWitnessedBefore n region bs c (i + 1)) (sym en) (record {
     rises = subst Ascends (sym (normals_append fs f)) (ascends_more (normals_of fs) f.normal h.rises (λ a q.
         let b = h.before a q in
@@ -56,20 +58,29 @@ module _ (n : ℕ) (region : Region) (bs : List MarkedPolynomial) (c : ConeRows)
     ];
     flippable = λ g q. elim (Contains-append_cases fs (f ∷ []) g q) [
       | inl b ↦ h.flippable g b
-      | inr b ↦ elim (in_cons f [] g b) [ inl d ↦ subst (λ (z : FacetWitness). IsFlippable n region bs z.normal) (sym d) (subst (IsFlippable n region bs) (sym e) flip) | inr d ↦ absurd (none_in g d) ]
+      | inr b ↦ elim (in_cons f [] g b) [
+        | inl d ↦ subst (λ (z : FacetWitness). IsFlippable n region bs z.normal) (sym d) (subst (IsFlippable n region bs) (sym e) flip)
+        | inr d ↦ absurd (none_in g d)
+      ]
     ];
     witnessed = λ g q. elim (Contains-append_cases fs (f ∷ []) g q) [
       | inl b ↦ h.witnessed g b
-      | inr b ↦ elim (in_cons f [] g b) [ inl d ↦ subst (λ (z : FacetWitness). IsWitnessIn n region bs z.normal z.witness) (sym d) (subst (λ (z : List ℤ). IsWitnessIn n region bs z f.witness) (sym e) w) | inr d ↦ absurd (none_in g d) ]
+      | inr b ↦ elim (in_cons f [] g b) [
+        | inl d ↦ subst (λ (z : FacetWitness). IsWitnessIn n region bs z.normal z.witness) (sym d) (subst (λ (z : List ℤ). IsWitnessIn n region bs z f.witness)
+            (sym e) w)
+        | inr d ↦ absurd (none_in g d)
+      ]
     ];
     all = λ j m g. subst (λ (z : List (List ℤ)). Contains z (normal_at c j)) (sym (normals_append fs f)) (elim (cases_lt j i) [
       | inl d ↦ Contains-append_left (normals_of fs) (f.normal ∷ []) (normal_at c j) (h.all j d g)
-      | inr d ↦ let ej : j ≡ i = omega (arith, m, d) in subst (λ (z : List ℤ). Contains (normals_of fs ++ f.normal ∷ []) z) (e ∙ ap (normal_at c) (sym ej)) (Contains-append_right (normals_of fs) (f.normal ∷ []) f.normal (Contains-here f.normal []))
+      | inr d ↦ let ej : j ≡ i = omega (arith, m, d) in subst (λ (z : List ℤ). Contains (normals_of fs ++ f.normal ∷ []) z) (e ∙ ap (normal_at c) (sym ej))
+          (Contains-append_right (normals_of fs) (f.normal ∷ []) f.normal (Contains-here f.normal []))
     ]);
   })
 
   -- at the end all are there
-  pub facets_all : (i : ℕ) (fs : List FacetWitness) → IsConeOf n region bs c → length c.normals ≤ i → AreWitnessedBefore n region bs c i fs → AreWitnessedIn n region bs fs
+  pub facets_all : (i : ℕ) (fs : List FacetWitness) → IsConeOf n region bs c → length c.normals ≤ i → AreWitnessedBefore n region bs c i fs →
+      AreWitnessedIn n region bs fs
   facets_all i fs k l h = record {
     rises = h.rises;
     flippable = h.flippable;

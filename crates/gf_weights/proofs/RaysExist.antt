@@ -1,6 +1,7 @@
 -- A cone that is cut with the non-negative orthant has its rays, and a marked list its normals: one row after another.
 -- To cite: put_in, rays_exist, normals_exist. The rest are steps.
-use Rattle.std.proofs.Common.{◌≡◌, ◌⊎◌, ◌↔◌, ℕ, zero, suc, ◌<◌, List, [], ◌∷◌, ◌++◌, length, map, ℤ, pos, ◌+ℤ◌, ◌*ℤ◌, ◌<ℤ◌, ◌≤ℤ◌, arith, refl, sym, ap, ap₂, ◌∙◌, subst, inl, inr, Contains, get_or, append_assoc, append-nil}
+use Rattle.std.proofs.Common.{◌≡◌, ◌⊎◌, ◌↔◌, ℕ, zero, suc, ◌<◌, List, [], ◌∷◌, ◌++◌, length, map, ℤ, pos, ◌+ℤ◌, ◌*ℤ◌, ◌<ℤ◌, ◌≤ℤ◌, arith, refl, sym, ap, ap₂}
+use Rattle.std.proofs.Common.{◌∙◌, subst, inl, inr, Contains, get_or, append_assoc, append-nil}
 use Rattle.std.specs.Ordering.{int_cmp, MatchOrdering}
 use Rattle.std.specs.Cmp.Lexicographic.{slice_cmp}
 use Rattle.std.specs.declared.cmp.Ordering.{Ordering}
@@ -65,7 +66,13 @@ put_in (x ∷ xs) v p = elim (before_strict.total v x) [
     v ∷ x ∷ xs,
     record {
       rises = (λ y c. elim (in_cons x xs y c) [ inl e ↦ subst (IsBefore v) (sym e) b | inr k ↦ before_strict.transitive v x y b (p.0 y k) ], p);
-      has = λ a. (λ c. in_cons v (x ∷ xs) a c, λ k. elim k [ inl e ↦ subst (Contains (v ∷ x ∷ xs)) (sym e) (Contains-here v (x ∷ xs)) | inr c ↦ in_tail v (x ∷ xs) a c ]);
+      has = λ a. (
+        λ c. in_cons v (x ∷ xs) a c,
+        λ k. elim k [
+          | inl e ↦ subst (Contains (v ∷ x ∷ xs)) (sym e) (Contains-here v (x ∷ xs))
+          | inr c ↦ in_tail v (x ∷ xs) a c
+        ],
+      );
     },
   )
   | inr o ↦ elim o [
@@ -81,7 +88,10 @@ put_in (x ∷ xs) v p = elim (before_strict.total v x) [
           ],
           λ k. elim k [
             | inl e ↦ in_tail x r.0 a ((r.1.has a).1 (inl e))
-            | inr c ↦ elim (in_cons x xs a c) [ inl e ↦ subst (Contains (x ∷ r.0)) (sym e) (Contains-here x r.0) | inr m ↦ in_tail x r.0 a ((r.1.has a).1 (inr m)) ]
+            | inr c ↦ elim (in_cons x xs a c) [
+              | inl e ↦ subst (Contains (x ∷ r.0)) (sym e) (Contains-here x r.0)
+              | inr m ↦ in_tail x r.0 a ((r.1.has a).1 (inr m))
+            ]
           ],
         );
       },
@@ -121,13 +131,17 @@ normals_exist bs = let g = collected (rows_of_polynomials bs) in (g.0, record { 
 
 -- ---- the orthant
 
-fronted : (n : ℕ) (rays lin : List (List ℤ)) (v : List ℤ) → ((x : List ℤ) → Contains lin x → ⊥) → Made n rays lin v → Made (suc n) (map (λ x. pos 0 ∷ x) rays) [] (pos 0 ∷ v)
+fronted : (n : ℕ) (rays lin : List (List ℤ)) (v : List ℤ) → ((x : List ℤ) → Contains lin x → ⊥) → Made n rays lin v →
+    Made (suc n) (map (λ x. pos 0 ∷ x) rays) [] (pos 0 ∷ v)
 fronted n rays lin v z (nothing m rs ls) = nothing (suc m) (map (λ x. pos 0 ∷ x) rs) []
 fronted n rays lin v z (ray m rs ls w l c) = ray (suc m) (map (λ x. pos 0 ∷ x) rs) [] (pos 0 ∷ w) (ap suc l) (map_in (λ x. pos 0 ∷ x) rs w c)
 fronted n rays lin v z (line m rs ls a u w l c e) = absurd (z u c)
-fronted n rays lin v z (summed m rs ls x y w e p q) = summed (suc m) (map (λ x. pos 0 ∷ x) rs) [] (pos 0 ∷ x) (pos 0 ∷ y) (pos 0 ∷ w) (ap (λ t. pos 0 ∷ t) e) (fronted m rs ls x z p) (fronted m rs ls y z q)
-fronted n rays lin v z (multiplied m rs ls a x w k e p) = multiplied (suc m) (map (λ x. pos 0 ∷ x) rs) [] a (pos 0 ∷ x) (pos 0 ∷ w) k (ap (λ t. pos 0 ∷ t) e ∙ ap (λ (c : ℤ). c ∷ scaled a x) (omega (arith, ints))) (fronted m rs ls x z p)
-fronted n rays lin v z (divided m rs ls a x w k e p) = divided (suc m) (map (λ x. pos 0 ∷ x) rs) [] a (pos 0 ∷ x) (pos 0 ∷ w) k (ap (λ (c : ℤ). c ∷ scaled a x) (omega (arith, ints)) ∙ ap (λ t. pos 0 ∷ t) e) (fronted m rs ls w z p)
+fronted n rays lin v z (summed m rs ls x y w e p q) = summed (suc m) (map (λ x. pos 0 ∷ x) rs) [] (pos 0 ∷ x) (pos 0 ∷ y) (pos 0 ∷ w) (ap (λ t. pos 0 ∷ t) e)
+    (fronted m rs ls x z p) (fronted m rs ls y z q)
+fronted n rays lin v z (multiplied m rs ls a x w k e p) = multiplied (suc m) (map (λ x. pos 0 ∷ x) rs) [] a (pos 0 ∷ x) (pos 0 ∷ w) k
+    (ap (λ t. pos 0 ∷ t) e ∙ ap (λ (c : ℤ). c ∷ scaled a x) (omega (arith, ints))) (fronted m rs ls x z p)
+fronted n rays lin v z (divided m rs ls a x w k e p) = divided (suc m) (map (λ x. pos 0 ∷ x) rs) [] a (pos 0 ∷ x) (pos 0 ∷ w) k
+    (ap (λ (c : ℤ). c ∷ scaled a x) (omega (arith, ints)) ∙ ap (λ t. pos 0 ∷ t) e) (fronted m rs ls w z p)
 
 -- what has no entry below zero is made of the unit vectors
 made_of_units : (n : ℕ) (v : List ℤ) → length v ≡ n → ((i : ℕ) → i < n → pos 0 ≤ℤ get_or v i (pos 0)) → Made n (unit_vectors n) [] v
@@ -140,8 +154,10 @@ made_of_units (suc n) (x ∷ v) l up =
     let later : List (List ℤ) = map (λ u. pos 0 ∷ u) (unit_vectors n) in
     summed (suc n) (first ∷ later) [] (scaled x first) (pos 0 ∷ v) (x ∷ v)
     (ap₂ ◌∷◌ (let e : x ≡ x *ℤ pos 1 +ℤ pos 0 = omega (arith, ints) in e) (vsame (vv v lv) (dv x ⊡ vz n ⊞ vv v lv) (λ w. omega arith)))
-    (multiplied (suc n) (first ∷ later) [] x first (scaled x first) (up 0 (omega arith)) refl (ray (suc n) (first ∷ later) [] first (ap suc (length-zeros n)) (Contains-here first later)))
-    (Made-into (suc n) later [] (first ∷ later) [] (pos 0 ∷ v) (λ y i c. ray (suc n) (first ∷ later) [] y i (in_tail first later y c)) (λ a y i c. absurd (none_in y c))
+    (multiplied (suc n) (first ∷ later) [] x first (scaled x first) (up 0 (omega arith)) refl (ray (suc n) (first ∷ later) [] first (ap suc (length-zeros n))
+    (Contains-here first later)))
+    (Made-into (suc n) later [] (first ∷ later) [] (pos 0 ∷ v) (λ y i c. ray (suc n) (first ∷ later) [] y i (in_tail first later y c))
+    (λ a y i c. absurd (none_in y c))
     (fronted n (unit_vectors n) [] v (λ y c. none_in y c) (made_of_units n v lv (λ i k. up (suc i) (omega (arith, k))))))
 
 -- a unit vector has the entry 1, and no entry below zero
@@ -149,7 +165,8 @@ unit_has_one : (n : ℕ) (x : List ℤ) → Contains (unit_vectors n) x → (i :
 unit_has_one zero x c = absurd (none_in x c)
 unit_has_one (suc n) x c = elim (in_cons (pos 1 ∷ zeros n) (map (λ u. pos 0 ∷ u) (unit_vectors n)) x c) [
   | inl e ↦ (0, omega arith, ap (λ (t : List ℤ). get_or t 0 (pos 0)) e)
-  | inr d ↦ let t = in_map (λ u. pos 0 ∷ u) (unit_vectors n) x d in let r = unit_has_one n t.0 t.1.0 in (suc r.0, omega (arith, r.1), ap (λ (u : List ℤ). get_or u (suc r.0) (pos 0)) t.1.1 ∙ r.2)
+  | inr d ↦ let t = in_map (λ u. pos 0 ∷ u) (unit_vectors n) x d in let r =
+      unit_has_one n t.0 t.1.0 in (suc r.0, omega (arith, r.1), ap (λ (u : List ℤ). get_or u (suc r.0) (pos 0)) t.1.1 ∙ r.2)
 ]
 
 zeros_up : (n i : ℕ) → pos 0 ≤ℤ get_or (zeros n) i (pos 0)
@@ -169,7 +186,8 @@ unit_up : (n : ℕ) (x : List ℤ) (i : ℕ) → Contains (unit_vectors n) x →
 unit_up zero x i c = absurd (none_in x c)
 unit_up (suc n) x i c = elim (in_cons (pos 1 ∷ zeros n) (map (λ u. pos 0 ∷ u) (unit_vectors n)) x c) [
   | inl e ↦ subst (λ (t : List ℤ). pos 0 ≤ℤ get_or t i (pos 0)) (sym e) (first_up n i)
-  | inr d ↦ let t = in_map (λ u. pos 0 ∷ u) (unit_vectors n) x d in subst (λ (u : List ℤ). pos 0 ≤ℤ get_or u i (pos 0)) (sym t.1.1) (later_up t.0 i (λ k. unit_up n t.0 k t.1.0))
+  | inr d ↦ let t = in_map (λ u. pos 0 ∷ u) (unit_vectors n) x d in subst (λ (u : List ℤ). pos 0 ≤ℤ get_or u i (pos 0)) (sym t.1.1)
+      (later_up t.0 i (λ k. unit_up n t.0 k t.1.0))
 ]
 
 -- the cone of the unit vectors, with some rays that are primitive
@@ -183,13 +201,15 @@ orthant n = record {
     lin_width = λ x c. absurd (none_in x c);
     rays_width = units_width n;
     valid = record {
-      up = λ h x ch cx. let u = unit_of n n h ch in subst (λ (t : List ℤ). pos 0 ≤ℤ dot t x) (sym u.2) (subst (λ (z : ℤ). pos 0 ≤ℤ z) (sym (dot-unit n u.0 x u.1 (units_width n x cx))) (unit_up n x u.0 cx));
+      up = λ h x ch cx. let u = unit_of n n h ch in subst (λ (t : List ℤ). pos 0 ≤ℤ dot t x) (sym u.2)
+          (subst (λ (z : ℤ). pos 0 ≤ℤ z) (sym (dot-unit n u.0 x u.1 (units_width n x cx))) (unit_up n x u.0 cx));
       flat = λ h x ch cx. absurd (none_in x cx);
     };
     solves = λ e x ce cx. absurd (none_in e ce);
     lin_solves = λ e x ce cx. absurd (none_in e ce);
     complete = λ v lv up z. made_of_units n v lv (λ i k. subst (λ (z : ℤ). pos 0 ≤ℤ z) (dot-unit n i v k lv) (up (unit n i) (unit_there n n i k)));
-    pointed = λ x cx. let r = unit_has_one n x cx in let d : dot (unit n r.0) x ≡ pos 1 = dot-unit n r.0 x r.1 (units_width n x cx) ∙ r.2 in (unit n r.0, (unit_there n n r.0 r.1, omega (arith, ints, d)));
+    pointed = λ x cx. let r = unit_has_one n x cx in let d : dot (unit n r.0) x ≡ pos 1 =
+        dot-unit n r.0 x r.1 (units_width n x cx) ∙ r.2 in (unit n r.0, (unit_there n n r.0 r.1, omega (arith, ints, d)));
   };
   primitive = λ x cx.
       let r = unit_has_one n x cx in
@@ -214,7 +234,10 @@ kept_of h (x ∷ rays) =
         | inl e ↦ (subst (Contains (x ∷ rays)) (sym e) (Contains-here x rays), subst (λ (t : List ℤ). pos 0 ≤ℤ dot h t) (sym e) u)
         | inr d ↦ (in_tail x rays y (k.from y d).0, (k.from y d).1)
       ];
-      to = λ y c v. elim (in_cons x rays y c) [ inl e ↦ subst (Contains (x ∷ k.kept)) (sym e) (Contains-here x k.kept) | inr d ↦ in_tail x k.kept y (k.to y d v) ];
+      to = λ y c v. elim (in_cons x rays y c) [
+        | inl e ↦ subst (Contains (x ∷ k.kept)) (sym e) (Contains-here x k.kept)
+        | inr d ↦ in_tail x k.kept y (k.to y d v)
+      ];
     } in
     elim (sign_of (dot h x)) [
       | positive g ↦ with (omega (arith, ints, g))
@@ -222,7 +245,10 @@ kept_of h (x ∷ rays) =
       | negative g ↦ record {
         kept = k.kept;
         from = λ y c. (in_tail x rays y (k.from y c).0, (k.from y c).1);
-        to = λ y c v. elim (in_cons x rays y c) [ inl e ↦ (let w : pos 0 ≤ℤ dot h x = subst (λ (t : List ℤ). pos 0 ≤ℤ dot h t) e v in absurd (omega (arith, ints, g, w))) | inr d ↦ k.to y d v ];
+        to = λ y c v. elim (in_cons x rays y c) [
+          | inl e ↦ (let w : pos 0 ≤ℤ dot h x = subst (λ (t : List ℤ). pos 0 ≤ℤ dot h t) e v in absurd (omega (arith, ints, g, w)))
+          | inr d ↦ k.to y d v
+        ];
       }
     ]
 
@@ -264,7 +290,8 @@ mates_of h p (x ∷ rays) =
 record Pairs (h : List ℤ) (ps rays : List (List ℤ)) : Type 0 where
   pub pairs : List (List ℤ)
   pub from : (y : List ℤ) → Contains pairs y → (p : List ℤ) × Contains ps p × (pos 0 <ℤ dot h p) × IsMate h p rays y
-  pub to : (p q : List ℤ) → Contains ps p → Contains rays q → pos 0 <ℤ dot h p → dot h q <ℤ pos 0 → (y : List ℤ) × Contains pairs y × IsPrimitivePart (pair h p q) y
+  pub to : (p q : List ℤ) → Contains ps p → Contains rays q → pos 0 <ℤ dot h p → dot h q <ℤ pos 0 →
+      (y : List ℤ) × Contains pairs y × IsPrimitivePart (pair h p q) y
 
 pairs_of : (h : List ℤ) (ps rays : List (List ℤ)) → Pairs h ps rays
 pairs_of h [] rays = record { pairs = []; from = λ y c. absurd (none_in y c); to = λ p q c d u v. absurd (none_in p c) }
@@ -285,7 +312,12 @@ pairs_of h (x ∷ ps) rays =
           | inr i ↦ let t = k.from y i in (t.0, in_tail x ps t.0 t.1, t.2, t.3)
         ];
         to = λ p q c d u v. elim (in_cons x ps p c) [
-          | inl e ↦ let t = m.to q d v in (t.0, Contains-append_left m.mates k.pairs t.0 t.1, subst (λ (z : List ℤ). IsPrimitivePart (pair h z q) t.0) (sym e) t.2)
+          | inl e ↦ let t = m.to q d v in (
+            t.0,
+            Contains-append_left m.mates k.pairs t.0 t.1,
+            subst (λ (z : List ℤ). IsPrimitivePart (pair h z q) t.0) (sym e)
+                t.2,
+          )
           | inr i ↦ let t = k.to p q i d u v in (t.0, Contains-append_right m.mates k.pairs t.0 t.1, t.2)
         ];
       }
@@ -298,7 +330,16 @@ stepped n hs rays h s = (
     described = split_step n hs [] [] rays (k.kept ++ m.pairs) h s.described (λ x c. absurd (none_in x c)) (record {
       from = λ y c. elim (Contains-append_cases k.kept m.pairs y c) [
         | inl i ↦ inl (k.from y i)
-        | inr i ↦ let t = m.from y i in inr (record { p = t.0; q = t.3.0; in_p = t.1; in_q = t.3.1; up = t.2; down = t.3.2; divided = multiple_of (pair h t.0 t.3.0) y t.3.3 })
+        | inr i ↦ let t =
+            m.from y i in inr (record {
+              p = t.0;
+              q = t.3.0;
+              in_p = t.1;
+              in_q = t.3.1;
+              up = t.2;
+              down = t.3.2;
+              divided = multiple_of (pair h t.0 t.3.0) y t.3.3;
+            })
       ];
       kept = λ x c u. Contains-append_left k.kept m.pairs x (k.to x c u);
       paired = λ p q c d u v. let t = m.to p q c d u v in (t.0, (Contains-append_right k.kept m.pairs t.0 t.1, multiple_of (pair h p q) t.0 t.2));
@@ -338,7 +379,8 @@ zero_where (h ∷ hs) x y = elim (zero_where hs x y) [
   ]
 ]
 
-inside_one : (hs : List (List ℤ)) (x : List ℤ) (ys : List (List ℤ)) → ((j : ℕ) × (j < length ys) × ZeroWhere hs x (get_or ys j [])) ⊎ ((y : List ℤ) → Contains ys y → ZeroWhere hs x y → ⊥)
+inside_one : (hs : List (List ℤ)) (x : List ℤ) (ys : List (List ℤ)) → ((j : ℕ) × (j < length ys) × ZeroWhere hs x (get_or ys j [])) ⊎ ((y : List ℤ) →
+    Contains ys y → ZeroWhere hs x y → ⊥)
 inside_one hs x [] = inr (λ y c z. none_in y c)
 inside_one hs x (y ∷ ys) = elim (zero_where hs x y) [
   | inl w ↦ inl (0, omega arith, w)
@@ -357,7 +399,8 @@ record AreThin (n : ℕ) (hs rays : List (List ℤ)) : Type 0 where
   pub rises : Ascends rays
   pub apart : AreApart hs rays rays
 
-thin : (n : ℕ) (hs left out : List (List ℤ)) → HasRays n hs (left ++ out) → Ascends out → AreApart hs out (left ++ out) → (rays : List (List ℤ)) × AreThin n hs rays
+thin : (n : ℕ) (hs left out : List (List ℤ)) → HasRays n hs (left ++ out) → Ascends out → AreApart hs out (left ++ out) →
+    (rays : List (List ℤ)) × AreThin n hs rays
 thin n hs [] out s p a = (out, record { has = s; rises = p; apart = a })
 thin n hs (x ∷ left) out s p a = elim (inside_one hs x (left ++ out)) [
   | inl t ↦ thin n hs left out (record {
@@ -368,11 +411,17 @@ thin n hs (x ∷ left) out s p a = elim (inside_one hs x (left ++ out)) [
       let m = put_in out x p in
       let back : (y : List ℤ) → Contains (left ++ m.0) y → Contains (x ∷ (left ++ out)) y = λ y c. elim (Contains-append_cases left m.0 y c) [
         | inl i ↦ in_tail x (left ++ out) y (Contains-append_left left out y i)
-        | inr i ↦ elim ((m.1.has y).0 i) [ inl e ↦ subst (Contains (x ∷ (left ++ out))) (sym e) (Contains-here x (left ++ out)) | inr k ↦ in_tail x (left ++ out) y (Contains-append_right left out y k) ]
+        | inr i ↦ elim ((m.1.has y).0 i) [
+          | inl e ↦ subst (Contains (x ∷ (left ++ out))) (sym e) (Contains-here x (left ++ out))
+          | inr k ↦ in_tail x (left ++ out) y (Contains-append_right left out y k)
+        ]
       ] in
       let on : (y : List ℤ) → Contains (x ∷ (left ++ out)) y → Contains (left ++ m.0) y = λ y c. elim (in_cons x (left ++ out) y c) [
         | inl e ↦ Contains-append_right left m.0 y ((m.1.has y).1 (inl e))
-        | inr d ↦ elim (Contains-append_cases left out y d) [ inl i ↦ Contains-append_left left m.0 y i | inr i ↦ Contains-append_right left m.0 y ((m.1.has y).1 (inr i)) ]
+        | inr d ↦ elim (Contains-append_cases left out y d) [
+          | inl i ↦ Contains-append_left left m.0 y i
+          | inr i ↦ Contains-append_right left m.0 y ((m.1.has y).1 (inr i))
+        ]
       ] in
       thin n hs left m.0 (record {
         described = same_rays n hs [] [] (x ∷ (left ++ out)) (left ++ m.0) s.described on back;
@@ -408,26 +457,43 @@ different xs i j p hi hj ne e = elim (cases_lt i j) [
 
 rays_of_thin : (n : ℕ) (hs rays : List (List ℤ)) → AreThin n hs rays → IsRays n hs [] [] rays
 rays_of_thin n hs rays t =
-    finish n hs [] [] rays [] [] t.has.described (record { width = λ x c. absurd (none_in x c); to = λ x c. absurd (none_in x c); from = λ x c. absurd (none_in x c) })
+    finish n hs [] [] rays [] [] t.has.described (record {
+      width = λ x c. absurd (none_in x c);
+      to = λ x c. absurd (none_in x c);
+      from = λ x c. absurd (none_in x c);
+    })
     (record { rising = λ i j e h hj. absurd (omega (arith, hj)); leading = All-nil _; alone = λ x y p q cx. absurd (none_in x cx); primitive = All-nil _ })
     (basis n [] [] (λ x c. absurd (none_in x c)) start)
     (λ r y cr cy. absurd (none_in y cy))
     (all_by IsPrimitive rays t.has.primitive)
     (λ i j e h hj. let hi : i < length rays = omega (arith, h, hj) in
-    less_of (get_or rays i e) (get_or rays j e) (subst (λ (z : List ℤ). IsBefore z (get_or rays j e)) (get_or_default rays i [] e hi) (subst (IsBefore (get_or rays i [])) (get_or_default rays j [] e hj) (ascends_at rays i j t.rises h hj))))
-    (λ i j hi hj ne w. t.apart (get_or rays i []) (get_or rays j []) (i, hi, get_or_default rays i (get_or rays i []) [] hi) (j, hj, get_or_default rays j (get_or rays j []) [] hj) (different rays i j t.rises hi hj ne) w)
+    less_of (get_or rays i e) (get_or rays j e) (subst (λ (z : List ℤ). IsBefore z (get_or rays j e)) (get_or_default rays i [] e hi)
+    (subst (IsBefore (get_or rays i [])) (get_or_default rays j [] e hj) (ascends_at rays i j t.rises h hj))))
+    (λ i j hi hj ne w. t.apart (get_or rays i []) (get_or rays j []) (i, hi, get_or_default rays i (get_or rays i []) [] hi)
+    (j, hj, get_or_default rays j (get_or rays j []) [] hj) (different rays i j t.rises hi hj ne) w)
 
 -- the rays of these rows, cut with the orthant
 pub rays_exist : (n : ℕ) (ns : List (List ℤ)) → (rays : List (List ℤ)) × IsRays n (ns ++ units n n) [] [] rays
 rays_exist n ns =
     let s = rows_added n (units n n) ns (unit_vectors n) (orthant n) in
     let t = thin n (units n n ++ ns) s.0 [] (subst (HasRays n (units n n ++ ns)) (sym (append-nil s.0)) s.1) tt (λ x y cx cy ne w. none_in x cx) in
-    let swap : (xs ys : List (List ℤ)) (h : List ℤ) → Contains (xs ++ ys) h → Contains (ys ++ xs) h = λ xs ys h c. elim (Contains-append_cases xs ys h c) [ inl i ↦ Contains-append_right ys xs h i | inr i ↦ Contains-append_left ys xs h i ] in
+    let swap : (xs ys : List (List ℤ)) (h : List ℤ) → Contains (xs ++ ys) h → Contains (ys ++ xs) h = λ xs ys h c. elim (Contains-append_cases xs ys h c) [
+      | inl i ↦ Contains-append_right ys xs h i
+      | inr i ↦ Contains-append_left ys xs h i
+    ] in
     let old : Rows = record { inequalities = units n n ++ ns; equations = [] } in
     let new : Rows = record { inequalities = ns ++ units n n; equations = [] } in (
       t.0,
       same_rays_of n old new [] t.0 (λ v l. (
-        λ f. record { not_negative = all_by (λ h. pos 0 ≤ℤ dot h v) (ns ++ units n n) (λ h c. All-contains (λ k. pos 0 ≤ℤ dot k v) (units n n ++ ns) h f.not_negative (swap ns (units n n) h c)); zero = f.zero },
-        λ f. record { not_negative = all_by (λ h. pos 0 ≤ℤ dot h v) (units n n ++ ns) (λ h c. All-contains (λ k. pos 0 ≤ℤ dot k v) (ns ++ units n n) h f.not_negative (swap (units n n) ns h c)); zero = f.zero },
+        λ f. record {
+          not_negative = all_by (λ h. pos 0 ≤ℤ dot h v) (ns ++ units n n) (λ h c. All-contains (λ k. pos 0 ≤ℤ dot k v) (units n n ++ ns) h f.not_negative
+              (swap ns (units n n) h c));
+          zero = f.zero;
+        },
+        λ f. record {
+          not_negative = all_by (λ h. pos 0 ≤ℤ dot h v) (units n n ++ ns) (λ h c. All-contains (λ k. pos 0 ≤ℤ dot k v) (ns ++ units n n) h f.not_negative
+              (swap (units n n) ns h c));
+          zero = f.zero;
+        },
       )) (rays_of_thin n (units n n ++ ns) t.0 t.1),
     )

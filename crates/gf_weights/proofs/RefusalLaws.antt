@@ -23,8 +23,8 @@ use Rattle.gf_weights.specs.Refusals.{weight_of_gordan, of_vector, IsWeightCause
 use Rattle.gf_weights.proofs.CutLaws.{cut_rows, cut_rays, ambient_is}
 
 -- the rays of the cone aren't found
-pub cut_refused : (n m : ℕ) (j : Region) (bs : List MarkedPolynomial) (c : ConeRows) (given : List (List ℤ)) (none : List (List ℤ)) (e : GordanError) → IsConeOf n j bs c → m ≡ c.variables → given ≡ all_rows c → none ≡ [] →
-    Failed (IsRaysStep m given none) e → IsWeightCauseIn n j bs (weight_of_gordan e)
+pub cut_refused : (n m : ℕ) (j : Region) (bs : List MarkedPolynomial) (c : ConeRows) (given : List (List ℤ)) (none : List (List ℤ)) (e : GordanError) →
+    IsConeOf n j bs c → m ≡ c.variables → given ≡ all_rows c → none ≡ [] → Failed (IsRaysStep m given none) e → IsWeightCauseIn n j bs (weight_of_gordan e)
 cut_refused n m j bs c given none (gordan_errors.Cone s) k em eg en f =
     let a = subst (λ (z : ℕ). IsRaysStep z given none s) (em ∙ k.variables) f in
     let b = subst (λ (z : List (List ℤ)). IsRaysStep n z none s) eg a in
@@ -38,17 +38,21 @@ weight_first n j bs (Wide w) h = inl h
 weight_first n j bs Memory h = tt
 
 -- the sum of the rays isn't told
-pub weight_refused : (n : ℕ) (j : Region) (bs : List MarkedPolynomial) (c : ConeRows) (r : RowsAndRays) (e : VecError) → IsCutOf n j bs c r → IfWide (λ w. IsFirstWide w (adding_steps (zeros r.ambient) r.rays)) e → IsWeightCauseIn n j bs (of_vector e)
-weight_refused n j bs c r (vec_errors.Wide w) k h = (r.rays, cut_rays n j bs c r k, subst (λ (m : ℕ). IsFirstWide w (adding_steps (zeros m) r.rays)) (ambient_is n j bs c r k) h)
+pub weight_refused : (n : ℕ) (j : Region) (bs : List MarkedPolynomial) (c : ConeRows) (r : RowsAndRays) (e : VecError) → IsCutOf n j bs c r →
+    IfWide (λ w. IsFirstWide w (adding_steps (zeros r.ambient) r.rays)) e → IsWeightCauseIn n j bs (of_vector e)
+weight_refused n j bs c r (vec_errors.Wide w) k h =
+    (r.rays, cut_rays n j bs c r k, subst (λ (m : ℕ). IsFirstWide w (adding_steps (zeros m) r.rays)) (ambient_is n j bs c r k) h)
 weight_refused n j bs c r vec_errors.Memory k h = tt
 
 -- nor that of a facet's
-pub witness_refused : (n : ℕ) (j : Region) (bs : List MarkedPolynomial) (c : ConeRows) (r : RowsAndRays) (a : List ℤ) (e : VecError) → IsCutOf n j bs c r → IsFlippable n j bs a →
-    IfWide (λ w. IsFirstWide w (adding_steps (zeros r.ambient) (zeros_of a r.rays))) e → IsCertificateCauseIn n j bs (of_vector e)
-witness_refused n j bs c r a (vec_errors.Wide w) k f h = inr (a, f, (r.rays, cut_rays n j bs c r k, subst (λ (m : ℕ). IsFirstWide w (adding_steps (zeros m) (zeros_of a r.rays))) (ambient_is n j bs c r k) h))
+pub witness_refused : (n : ℕ) (j : Region) (bs : List MarkedPolynomial) (c : ConeRows) (r : RowsAndRays) (a : List ℤ) (e : VecError) → IsCutOf n j bs c r →
+    IsFlippable n j bs a → IfWide (λ w. IsFirstWide w (adding_steps (zeros r.ambient) (zeros_of a r.rays))) e → IsCertificateCauseIn n j bs (of_vector e)
+witness_refused n j bs c r a (vec_errors.Wide w) k f h =
+    inr (a, f, (r.rays, cut_rays n j bs c r k, subst (λ (m : ℕ). IsFirstWide w (adding_steps (zeros m) (zeros_of a r.rays))) (ambient_is n j bs c r k) h))
 witness_refused n j bs c r a vec_errors.Memory k f h = tt
 
 -- where nothing leaves the range, only memory may be wanting
-pub only_memory : {A : Type 0} (C : WeightError → Type 0) (r : Result A WeightError) → IfErr r C → ((e : WeightError) → C e → e ≡ Memory) → IfErr r (λ e. e ≡ Memory)
+pub only_memory : {A : Type 0} (C : WeightError → Type 0) (r : Result A WeightError) → IfErr r C → ((e : WeightError) → C e → e ≡ Memory) →
+    IfErr r (λ e. e ≡ Memory)
 only_memory C (Ok a) h w = h
 only_memory C (Err e) h w = w e h

@@ -17,7 +17,8 @@ use Rattle.gf_weights.specs.Roots.{IsSumOfRays, IsRegionOf, IsFirstPast, IsRegio
 -- there is one sum of rays
 one_root : (n : ℕ) (all : List (List ℤ)) (r s : List ℤ) → IsSumOfRays n all r → IsSumOfRays n all s → r ≡ s
 one_root n all r s p q =
-    let one : p.rays ≡ q.rays = (rays_determined n (record { inequalities = all; equations = [] }) (record { inequalities = all; equations = [] }) [] p.rays [] q.rays (λ v w. (λ i. i, λ i. i)) p.are_rays q.are_rays).1 in
+    let one : p.rays ≡ q.rays = (rays_determined n (record { inequalities = all; equations = [] }) (record { inequalities = all; equations = [] }) [] p.rays
+    [] q.rays (λ v w. (λ i. i, λ i. i)) p.are_rays q.are_rays).1 in
     p.sum ∙ ap (sum_of n) one ∙ sym q.sum
 
 one_region : (n : ℕ) (rows : List (List ℤ)) (k j : Region) → IsRegionOf n rows k → IsRegionOf n rows j → k ≡ j
@@ -29,7 +30,8 @@ pub solved : (n : ℕ) (rows : List (List ℤ)) (r v : List ℤ) → IsInRegion 
 solved n rows r v h = (v, record { width = h.width; positive = rows_of_region n (record { rows = rows; root = r }) v h; zero = All-nil _ })
 
 -- so there are no multipliers
-pub unrefuted : (n : ℕ) (rows : List (List ℤ)) (ms : List ℤ) → AreRows n rows → IsSolvable n (rows ++ units n n) [] → IsFarkas n (rows ++ units n n) [] ms [] → ⊥
+pub unrefuted : (n : ℕ) (rows : List (List ℤ)) (ms : List ℤ) → AreRows n rows → IsSolvable n (rows ++ units n n) [] → IsFarkas n (rows ++ units n n) [] ms [] →
+    ⊥
 unrefuted n rows ms w s f = alternative.not_both n (rows ++ units n n) [] (region_rows_wide n (record { rows = rows; root = [] }) w) (All-nil _) s (ms, [], f)
 
 not_empty : (n : ℕ) (rows : List (List ℤ)) (k : Region) (ms : List ℤ) → IsRegionOf n rows k → IsFarkas n (rows ++ units n n) [] ms [] → ⊥
@@ -59,7 +61,8 @@ same_place r i j p q = elim (cases_lt i j) [
   ]
 ]
 
-same_wide : (n : ℕ) (rows : List (List ℤ)) (i j : ℕ) (x y : ℤ) → IsRegionRefusal n rows (region_errors.WideRoot i x) → IsRegionRefusal n rows (region_errors.WideRoot j y) → (i ≡ j) × (x ≡ y)
+same_wide : (n : ℕ) (rows : List (List ℤ)) (i j : ℕ) (x y : ℤ) → IsRegionRefusal n rows (region_errors.WideRoot i x) →
+    IsRegionRefusal n rows (region_errors.WideRoot j y) → (i ≡ j) × (x ≡ y)
 same_wide n rows i j x y p q =
     let one : p.1.0 ≡ q.1.0 = one_root n (rows ++ units n n) p.1.0 q.1.0 p.1.1 q.1.1 in
     let place : i ≡ j = same_place q.1.0 i j (subst (λ (r : List ℤ). IsFirstPast r i) one p.1.2) q.1.2 in

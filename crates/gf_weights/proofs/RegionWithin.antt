@@ -1,6 +1,7 @@
 -- All positive weights of one variable: the region without rows, which stays within all limits.
 -- To cite: one_variable. The rest are steps.
-use Rattle.std.proofs.Common.{◌≡◌, ℕ, ◌+◌, ◌<◌, ◌≤◌, ◌^◌, List, [], ◌∷◌, length, get_or, ℤ, pos, ◌+ℤ◌, ◌*ℤ◌, ◌<ℤ◌, ◌≤ℤ◌, unsigned_abs, arith, refl, sym, ap, ◌∙◌, subst, inl, inr, All, Contains, Err}
+use Rattle.std.proofs.Common.{◌≡◌, ℕ, ◌+◌, ◌<◌, ◌≤◌, ◌^◌, List, [], ◌∷◌, length, get_or, ℤ, pos, ◌+ℤ◌, ◌*ℤ◌, ◌<ℤ◌, ◌≤ℤ◌, unsigned_abs, arith, refl, sym, ap}
+use Rattle.std.proofs.Common.{◌∙◌, subst, inl, inr, All, Contains, Err}
 use Rattle.std.specs.Ordering.{int_cmp}
 use Rattle.std.specs.Cmp.Lexicographic.{slice_cmp}
 use Rattle.std.specs.declared.cmp.Ordering.TheVariants.{Less}
@@ -66,21 +67,27 @@ module _ (rays : List (List ℤ)) (h : IsRays 1 the_row [] [] rays) where
 
 rays_are : (rays : List (List ℤ)) → IsRays 1 the_row [] [] rays → rays ≡ the_row
 rays_are [] h =
-    let g = (h.generates (pos 1 ∷ []) refl).0 (record { not_negative = All-from_recursion (λ t. pos 0 ≤ℤ dot t (pos 1 ∷ [])) the_row (omega (arith, ints), tt); zero = All-nil _ }) in
+    let g = (h.generates (pos 1 ∷ []) refl).0 (record {
+      not_negative = All-from_recursion (λ t. pos 0 ≤ℤ dot t (pos 1 ∷ [])) the_row (omega (arith, ints), tt);
+      zero = All-nil _;
+    }) in
     absurd (none_made g.factor g.rays_by g.lin_by g.rays_len g.lin_len g.positive g.is)
 rays_are (x ∷ []) h = ap (λ (z : List ℤ). z ∷ []) (each (x ∷ []) h x (Contains-here x []))
 rays_are (x ∷ (y ∷ ys)) h =
     let one : x ≡ pos 1 ∷ [] = each (x ∷ (y ∷ ys)) h x (Contains-here x (y ∷ ys)) in
     let two : y ≡ pos 1 ∷ [] = each (x ∷ (y ∷ ys)) h y (in_tail x (y ∷ ys) y (Contains-here y ys)) in
     let up : slice_cmp int_cmp x y ≡ Less = h.ascending 0 1 [] (omega arith) (omega arith) in
-    absurd (let same : slice_cmp int_cmp (pos 1 ∷ []) (pos 1 ∷ []) ≡ Less = subst (λ (z : List ℤ). slice_cmp int_cmp (pos 1 ∷ []) z ≡ Less) two (subst (λ (z : List ℤ). slice_cmp int_cmp z y ≡ Less) one up) in cc)
+    absurd (let same : slice_cmp int_cmp (pos 1 ∷ []) (pos 1 ∷ []) ≡ Less = subst (λ (z : List ℤ). slice_cmp int_cmp (pos 1 ∷ []) z ≡ Less) two
+    (subst (λ (z : List ℤ). slice_cmp int_cmp z y ≡ Less) one up) in cc)
 
 -- no operation leaves the range
 no_step : (s : ConeOverflow) → IsRegionRefusal 1 [] (region_errors.Cone s) → ⊥
-no_step s (inl h) = (let m = not_refused (Err (gordan_errors.Cone s)) (length the_row + 0) 1 the_row [] the_rows_wide (All-nil _) h (omega arith) (the_rows_small 500 (omega arith)) (All-nil _) in cc)
+no_step s (inl h) = (let m = not_refused (Err (gordan_errors.Cone s)) (length the_row + 0) 1 the_row [] the_rows_wide (All-nil _) h (omega arith)
+    (the_rows_small 500 (omega arith)) (All-nil _) in cc)
 no_step s (inr h) =
     systems_with_room_stay_within_limits 1 1 (record { inequalities = the_row; equations = [] }) (omega arith) (omega arith)
-    (record { inequalities_width = the_rows_wide; equations_width = All-nil _; inequalities = the_rows_small 1 (omega arith); equations = All-nil _ }) refl s h.1
+    (record { inequalities_width = the_rows_wide; equations_width = All-nil _; inequalities = the_rows_small 1 (omega arith); equations = All-nil _ })
+    refl s h.1
 
 pub one_variable : IsRegionWithinLimits 1 []
 one_variable (region_errors.Empty ms) h = absurd (unrefuted 1 [] ms (All-nil _) (solved 1 [] (pos 1 ∷ []) (pos 1 ∷ []) (all_positive-region 1).root) h)

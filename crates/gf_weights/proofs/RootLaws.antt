@@ -1,7 +1,8 @@
 -- The region of weights that rows cut out: its root is in it; why there is none.
 -- To cite: closed_wide, system_refused, solved_by, refuted_by, sum_is, rays_refused, sum_refused, root_long, root_inside, root_small, refused_sum,
 -- region_is, only_memory_left. The rest are steps.
-use Rattle.std.proofs.Common.{◌≡◌, ℕ, ◌+◌, ◌<◌, ◌^◌, List, [], ◌∷◌, ◌++◌, length, ℤ, pos, ◌<ℤ◌, arith, refl, sym, ap, ◌∙◌, subst, unsigned_abs, Contains, All, Result, Ok, Err, IfErr, inl, inr}
+use Rattle.std.proofs.Common.{◌≡◌, ℕ, ◌+◌, ◌<◌, ◌^◌, List, [], ◌∷◌, ◌++◌, length, ℤ, pos, ◌<ℤ◌, arith, refl, sym, ap, ◌∙◌, subst, unsigned_abs, Contains, All}
+use Rattle.std.proofs.Common.{Result, Ok, Err, IfErr, inl, inr}
 use Rattle.std.proofs.lemmas.Int.{ints}
 use Rattle.std.proofs.lemmas.List.Elements.{All-contains, Contains-append_left, Contains-append_right, Contains-append_cases}
 use Rattle.gf_int_theory.proofs.ListLaws.{all_by}
@@ -38,14 +39,16 @@ use Rattle.gf_weights.proofs.CutLaws.{pointed}
 
 -- the rows of the closed region have n entries
 pub closed_wide : (n : ℕ) (rows all : List (List ℤ)) → all ≡ rows ++ units n n → AreRows n rows → AreRows n all
-closed_wide n rows all e w = subst (AreRows n) (sym e) (all_by (λ t. length t ≡ n) (rows ++ units n n) (λ t m. elim (Contains-append_cases rows (units n n) t m) [
-  | inl h ↦ All-contains (λ z. length z ≡ n) rows t w h
-  | inr h ↦ units_wide n n t h
-]))
+closed_wide n rows all e w =
+    subst (AreRows n) (sym e) (all_by (λ t. length t ≡ n) (rows ++ units n n) (λ t m. elim (Contains-append_cases rows (units n n) t m) [
+      | inl h ↦ All-contains (λ z. length z ≡ n) rows t w h
+      | inr h ↦ units_wide n n t h
+    ]))
 
 -- ---- the system
 
-pub system_refused : (n : ℕ) (all : List (List ℤ)) (e : GordanError) → Failed (IsStepOn (length all + 0) n all []) e → IsSystemRefusal n all (weight_of_gordan e)
+pub system_refused : (n : ℕ) (all : List (List ℤ)) (e : GordanError) → Failed (IsStepOn (length all + 0) n all []) e →
+    IsSystemRefusal n all (weight_of_gordan e)
 system_refused n all (gordan_errors.Cone s) h = h
 system_refused n all gordan_errors.Memory h = tt
 
@@ -65,24 +68,30 @@ refuted_by n all a ms es e h =
 
 -- the cone of the closed region is pointed
 no_lines : (n : ℕ) (rows all lin rays : List (List ℤ)) → all ≡ rows ++ units n n → IsRays n all [] lin rays → IsRays n all [] [] rays
-no_lines n rows all lin rays e h = subst (λ (z : List (List ℤ)). IsRays n all [] z rays) (pointed n rows lin rays (subst (λ (z : List (List ℤ)). IsRays n z [] lin rays) e h)) h
+no_lines n rows all lin rays e h =
+    subst (λ (z : List (List ℤ)). IsRays n all [] z rays) (pointed n rows lin rays (subst (λ (z : List (List ℤ)). IsRays n z [] lin rays) e h)) h
 
-pub sum_is : (n : ℕ) (all none : List (List ℤ)) (c : RowsAndRays) (r : List ℤ) → ((rows : List (List ℤ)) × (all ≡ rows ++ units n n)) → none ≡ [] → c.ambient ≡ n → IsRays n all none c.lineality c.rays →
-    r ≡ sum_of c.ambient c.rays → IsSumOfRays n all r
+pub sum_is : (n : ℕ) (all none : List (List ℤ)) (c : RowsAndRays) (r : List ℤ) → ((rows : List (List ℤ)) × (all ≡ rows ++ units n n)) → none ≡ [] →
+    c.ambient ≡ n → IsRays n all none c.lineality c.rays → r ≡ sum_of c.ambient c.rays → IsSumOfRays n all r
 sum_is n all none c r p z a h s = record {
   rays = c.rays;
   are_rays = no_lines n p.0 all c.lineality c.rays p.1 (subst (λ (y : List (List ℤ)). IsRays n all y c.lineality c.rays) z h);
   sum = s ∙ ap (λ (m : ℕ). sum_of m c.rays) a;
 }
 
-pub rays_refused : (n : ℕ) (all none : List (List ℤ)) (e : GordanError) → none ≡ [] → Failed (IsRaysStep n all none) e → IsRaySumRefusal n all (weight_of_gordan e)
+pub rays_refused : (n : ℕ) (all none : List (List ℤ)) (e : GordanError) → none ≡ [] → Failed (IsRaysStep n all none) e →
+    IsRaySumRefusal n all (weight_of_gordan e)
 rays_refused n all none (gordan_errors.Cone s) z h = subst (λ (y : List (List ℤ)). IsRaysStep n all y s) z h
 rays_refused n all none gordan_errors.Memory z h = tt
 
-pub sum_refused : (n : ℕ) (all none : List (List ℤ)) (c : RowsAndRays) (e : VecError) → ((rows : List (List ℤ)) × (all ≡ rows ++ units n n)) → none ≡ [] → c.ambient ≡ n → IsRays n all none c.lineality c.rays →
-    IfWide (λ w. IsFirstWide w (adding_steps (zeros c.ambient) c.rays)) e → IsRaySumRefusal n all (of_vector e)
-sum_refused n all none c (vec_errors.Wide w) p z a h f =
-    (c.rays, no_lines n p.0 all c.lineality c.rays p.1 (subst (λ (y : List (List ℤ)). IsRays n all y c.lineality c.rays) z h), subst (λ (m : ℕ). IsFirstWide w (adding_steps (zeros m) c.rays)) a f)
+pub sum_refused : (n : ℕ) (all none : List (List ℤ)) (c : RowsAndRays) (e : VecError) → ((rows : List (List ℤ)) × (all ≡ rows ++ units n n)) → none ≡ [] →
+    c.ambient ≡ n → IsRays n all none c.lineality c.rays → IfWide (λ w. IsFirstWide w (adding_steps (zeros c.ambient) c.rays)) e →
+    IsRaySumRefusal n all (of_vector e)
+sum_refused n all none c (vec_errors.Wide w) p z a h f = (
+  c.rays,
+  no_lines n p.0 all c.lineality c.rays p.1 (subst (λ (y : List (List ℤ)). IsRays n all y c.lineality c.rays) z h),
+  subst (λ (m : ℕ). IsFirstWide w (adding_steps (zeros m) c.rays)) a f,
+)
 sum_refused n all none c vec_errors.Memory p z a h f = tt
 
 -- ---- the root
@@ -91,17 +100,20 @@ pub root_long : (n : ℕ) (all : List (List ℤ)) (r : List ℤ) → IsSumOfRays
 root_long n all r p = ap length p.sum ∙ sum_long n p.rays (described_of n all [] [] p.rays p.are_rays).rays_width
 
 -- it is in the region
-pub root_inside : (n : ℕ) (rows all : List (List ℤ)) (r : List ℤ) → all ≡ rows ++ units n n → AreRows n rows → IsSolvable n all [] → IsSumOfRays n all r → IsRegion n (record { rows = rows; root = r })
+pub root_inside : (n : ℕ) (rows all : List (List ℤ)) (r : List ℤ) → all ≡ rows ++ units n n → AreRows n rows → IsSolvable n all [] → IsSumOfRays n all r →
+    IsRegion n (record { rows = rows; root = r })
 root_inside n rows all r e w s p =
     let above : (t : List ℤ) → Contains all t → pos 0 <ℤ dot t s.0 = λ t c. All-contains (λ (k : List ℤ). pos 0 <ℤ dot k s.0) all t s.1.positive c in
-    let up : (t : List ℤ) → Contains all t → pos 0 <ℤ dot t r = λ t c. subst (λ (z : List ℤ). pos 0 <ℤ dot t z) (sym p.sum) (sum_positive n all [] p.rays s.0 t p.are_rays s.1.width above c) in
+    let up : (t : List ℤ) → Contains all t → pos 0 <ℤ dot t r =
+    λ t c. subst (λ (z : List ℤ). pos 0 <ℤ dot t z) (sym p.sum) (sum_positive n all [] p.rays s.0 t p.are_rays s.1.width above c) in
     let wide : length r ≡ n = ap length p.sum ∙ sum_long n p.rays (described_of n all [] [] p.rays p.are_rays).rays_width in
     record {
       widths = w;
       root = record {
         width = wide;
         positive = positive_by_units n r wide (λ t c. up t (subst (λ (z : List (List ℤ)). Contains z t) (sym e) (Contains-append_right rows (units n n) t c)));
-        rows = all_by (λ c. pos 0 <ℤ dot c r) rows (λ t c. up t (subst (λ (z : List (List ℤ)). Contains z t) (sym e) (Contains-append_left rows (units n n) t c)));
+        rows = all_by (λ c. pos 0 <ℤ dot c r) rows (λ t c. up t (subst (λ (z : List (List ℤ)). Contains z t) (sym e)
+            (Contains-append_left rows (units n n) t c)));
       };
     }
 
@@ -109,8 +121,8 @@ root_inside n rows all r e w s p =
 pub root_small : (n : ℕ) (k : Region) → IsRegion n k → All (λ x. x <ℤ pos (2 ^ 63)) k.root → All (λ x. unsigned_abs x < 2 ^ 63) k.root
 root_small n k g h i d m = (let p = g.root.positive i d m in let q = h i d m in omega (arith, ints, p, q))
 
-pub region_is : (n : ℕ) (rows all : List (List ℤ)) (r : List ℤ) (k : Region) → all ≡ rows ++ units n n → AreRows n rows → IsSolvable n all [] → IsSumOfRays n all r → All (λ x. x <ℤ pos (2 ^ 63)) r →
-    k ≡ record { rows = rows; root = r } → IsRegionOf n rows k
+pub region_is : (n : ℕ) (rows all : List (List ℤ)) (r : List ℤ) (k : Region) → all ≡ rows ++ units n n → AreRows n rows → IsSolvable n all [] →
+    IsSumOfRays n all r → All (λ x. x <ℤ pos (2 ^ 63)) r → k ≡ record { rows = rows; root = r } → IsRegionOf n rows k
 region_is n rows all r k e w s p l q = subst (IsRegionOf n rows) (sym q) (record {
   same = refl;
   region = root_inside n rows all r e w s p;
@@ -120,7 +132,8 @@ region_is n rows all r k e w s p l q = subst (IsRegionOf n rows) (sym q) (record
 
 -- ---- refusals of a region
 
-pub refused_sum : (n : ℕ) (rows all : List (List ℤ)) (e : WeightError) → all ≡ rows ++ units n n → IsSolvable n all [] → IsRaySumRefusal n all e → IsRegionRefusal n rows (region_of_weight e)
+pub refused_sum : (n : ℕ) (rows all : List (List ℤ)) (e : WeightError) → all ≡ rows ++ units n n → IsSolvable n all [] → IsRaySumRefusal n all e →
+    IsRegionRefusal n rows (region_of_weight e)
 refused_sum n rows all (weight_errors.Cone s) q v h =
     inr (subst (λ (z : List (List ℤ)). IsSolvable n z []) q v, subst (λ (z : List (List ℤ)). IsRaySumRefusal n z (weight_errors.Cone s)) q h)
 refused_sum n rows all (weight_errors.Wide w) q v h =
@@ -128,6 +141,7 @@ refused_sum n rows all (weight_errors.Wide w) q v h =
 refused_sum n rows all weight_errors.Memory q v h = tt
 
 -- where nothing leaves its limits, only memory may be wanting
-pub only_memory_left : (n : ℕ) (rows : List (List ℤ)) (r : Result Region RegionError) → IfErr r (IsRegionRefusal n rows) → ((e : RegionError) → IsRegionRefusal n rows e → e ≡ region_errors.Memory) → IfErr r (λ e. e ≡ region_errors.Memory)
+pub only_memory_left : (n : ℕ) (rows : List (List ℤ)) (r : Result Region RegionError) → IfErr r (IsRegionRefusal n rows) →
+    ((e : RegionError) → IsRegionRefusal n rows e → e ≡ region_errors.Memory) → IfErr r (λ e. e ≡ region_errors.Memory)
 only_memory_left n rows (Ok k) h w = h
 only_memory_left n rows (Err e) h w = w e h

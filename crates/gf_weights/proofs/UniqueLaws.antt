@@ -18,13 +18,15 @@ use Rattle.gf_weights.specs.Weights.{AreCutRows, AreCutRays, IsWeightIn, IsWitne
 
 one_rows : (n : ℕ) (j : Region) (bs : List MarkedPolynomial) (rows others : List (List ℤ)) → AreCutRows n j bs rows → AreCutRows n j bs others → rows ≡ others
 one_rows n j bs rows others k l =
-    let e : k.normals ≡ l.normals = same_ascending k.normals l.normals k.are_normals.rises l.are_normals.rises (λ x c. l.are_normals.all x (k.are_normals.only x c)) (λ x c. k.are_normals.all x (l.are_normals.only x c)) in
+    let e : k.normals ≡ l.normals = same_ascending k.normals l.normals k.are_normals.rises l.are_normals.rises
+    (λ x c. l.are_normals.all x (k.are_normals.only x c)) (λ x c. k.are_normals.all x (l.are_normals.only x c)) in
     k.all ∙ ap (λ (z : List (List ℤ)). z ++ (j.rows ++ units n n)) e ∙ sym l.all
 
 one_rays : (n : ℕ) (j : Region) (bs : List MarkedPolynomial) (rays others : List (List ℤ)) → AreCutRays n j bs rays → AreCutRays n j bs others → rays ≡ others
 one_rays n j bs rays others k l =
     let e : k.rows ≡ l.rows = one_rows n j bs k.rows l.rows k.are_rows l.are_rows in
-    (rays_determined n (record { inequalities = l.rows; equations = [] }) (record { inequalities = l.rows; equations = [] }) [] rays [] others (λ v w. (λ i. i, λ i. i)) (subst (λ (z : List (List ℤ)). IsRays n z [] [] rays) e k.are_rays) l.are_rays).1
+    (rays_determined n (record { inequalities = l.rows; equations = [] }) (record { inequalities = l.rows; equations = [] }) [] rays [] others
+    (λ v w. (λ i. i, λ i. i)) (subst (λ (z : List (List ℤ)). IsRays n z [] [] rays) e k.are_rays) l.are_rays).1
 
 pub one_weight : (n : ℕ) (j : Region) (bs : List MarkedPolynomial) (v w : List ℤ) → IsWeightIn n j bs v → IsWeightIn n j bs w → v ≡ w
 one_weight n j bs v w p q = p.sum ∙ ap (sum_of n) (one_rays n j bs p.rays q.rays p.cut q.cut) ∙ sym q.sum
@@ -35,14 +37,16 @@ one_witness n j bs a v w p q = p.sum ∙ ap (λ (z : List (List ℤ)). sum_of n 
 -- ---- lists of facets
 
 -- facets with the same normals have the same witnesses
-same_facets : (n : ℕ) (j : Region) (bs : List MarkedPolynomial) (fs gs : List FacetWitness) → ((f : FacetWitness) → Contains fs f → IsWitnessIn n j bs f.normal f.witness) →
+same_facets : (n : ℕ) (j : Region) (bs : List MarkedPolynomial) (fs gs : List FacetWitness) →
+    ((f : FacetWitness) → Contains fs f → IsWitnessIn n j bs f.normal f.witness) →
     ((f : FacetWitness) → Contains gs f → IsWitnessIn n j bs f.normal f.witness) → normals_of fs ≡ normals_of gs → fs ≡ gs
 same_facets n j bs [] [] p q e = refl
 same_facets n j bs [] (g ∷ gs) p q e = absurd (omega (arith, ap length e))
 same_facets n j bs (f ∷ fs) [] p q e = absurd (omega (arith, ap length e))
 same_facets n j bs (f ∷ fs) (g ∷ gs) p q e =
     let a : f.normal ≡ g.normal = ap (λ (z : List (List ℤ)). get_or z 0 []) e in
-    let w : f.witness ≡ g.witness = one_witness n j bs g.normal f.witness g.witness (subst (λ (z : List ℤ). IsWitnessIn n j bs z f.witness) a (p f (Contains-here f fs))) (q g (Contains-here g gs)) in
+    let w : f.witness ≡ g.witness = one_witness n j bs g.normal f.witness g.witness (subst (λ (z : List ℤ). IsWitnessIn n j bs z f.witness) a
+    (p f (Contains-here f fs))) (q g (Contains-here g gs)) in
     let rest : fs ≡ gs = same_facets n j bs fs gs (λ h c. p h (in_tail f fs h c)) (λ h c. q h (in_tail g gs h c)) (ap (λ (z : List (List ℤ)). drop 1 z) e) in
     ap₂ (λ (x : FacetWitness) (xs : List FacetWitness). x ∷ xs) (ap₂ (λ (x y : List ℤ). record { normal = x; witness = y }) a w) rest
 
@@ -60,5 +64,6 @@ one_facets n j bs fs gs p q =
     (λ a c. let r = normal_there fs a c in q.all a (subst (IsFlippable n j bs) r.1.1 (p.flippable r.0 r.1.0)))
     (λ a c. let r = normal_there gs a c in p.all a (subst (IsFlippable n j bs) r.1.1 (q.flippable r.0 r.1.0))))
 
-pub one_certificates : (n : ℕ) (j : Region) (bs : List MarkedPolynomial) (c d : Certificates) → AreCertificatesIn n j bs c → AreCertificatesIn n j bs d → (c.weight ≡ d.weight) × (c.facets.items ≡ d.facets.items)
+pub one_certificates : (n : ℕ) (j : Region) (bs : List MarkedPolynomial) (c d : Certificates) → AreCertificatesIn n j bs c → AreCertificatesIn n j bs d →
+    (c.weight ≡ d.weight) × (c.facets.items ≡ d.facets.items)
 one_certificates n j bs c d p q = (one_weight n j bs c.weight d.weight p.weight q.weight, one_facets n j bs c.facets.items d.facets.items p.facets q.facets)

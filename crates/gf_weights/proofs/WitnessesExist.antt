@@ -1,6 +1,7 @@
 -- A marked list has its printed weight, and the facets that a flip may cross, each with its printed witness.
 -- To cite: weight_exists, facets_exist. The rest are steps.
-use Rattle.std.proofs.Common.{◌≡◌, ◌⊎◌, ℕ, zero, suc, ◌+◌, ◌<◌, ◌≤◌, List, [], ◌∷◌, ◌++◌, length, ℤ, arith, refl, sym, ◌∙◌, subst, inl, inr, append_assoc, get_or}
+use Rattle.std.proofs.Common.{◌≡◌, ◌⊎◌, ℕ, zero, suc, ◌+◌, ◌<◌, ◌≤◌, List, [], ◌∷◌, ◌++◌, length, ℤ, arith, refl, sym, ◌∙◌, subst, inl, inr, append_assoc}
+use Rattle.std.proofs.Common.{get_or}
 use Rattle.std.proofs.lemmas.Bool.{cases_eq, cases_lt}
 use Rattle.gf_vec.specs.Vector.{dot}
 use Rattle.gf_poly.specs.Marking.{MarkedPolynomial}
@@ -47,7 +48,8 @@ off_or_not r i k (suc m) = elim (off_or_not r i k m) [
       ]
 ]
 
-others_or_one : (r : RowsAndRays) (i m : ℕ) → ((k : ℕ) → k < m → (k ≡ i → ⊥) → HasRayOff r i k) ⊎ ((k : ℕ) × (k < m) × (k ≡ i → ⊥) × AreZeroToo r i k (length r.rays))
+others_or_one : (r : RowsAndRays) (i m : ℕ) → ((k : ℕ) → k < m → (k ≡ i → ⊥) → HasRayOff r i k) ⊎ ((k : ℕ) × (k < m) × (k ≡ i → ⊥) × AreZeroToo r i k
+    (length r.rays))
 others_or_one r i zero = inl (λ k l ne. absurd (omega (arith, l)))
 others_or_one r i (suc m) = elim (others_or_one r i m) [
   | inr t ↦ inr (t.0, omega (arith, t.1), t.2, t.3)
@@ -72,7 +74,11 @@ module _ (n : ℕ) (region : Region) (bs : List MarkedPolynomial) (can : AreCano
   normals = normals_exist bs
 
   abbrev rays : (rs : List (List ℤ)) × IsRays n (normals.0 ++ (region.rows ++ units n n)) [] [] rs
-  rays = let r = rays_exist n (normals.0 ++ region.rows) in (r.0, subst (λ (z : List (List ℤ)). IsRays n z [] [] r.0) (append_assoc normals.0 region.rows (units n n)) r.1)
+  rays = let r = rays_exist n (normals.0 ++ region.rows) in (
+    r.0,
+    subst (λ (z : List (List ℤ)). IsRays n z [] [] r.0)
+        (append_assoc normals.0 region.rows (units n n)) r.1,
+  )
 
   abbrev cone : ConeRows
   cone = record { variables = n; normals = normals.0; beside = region.rows ++ units n n }
@@ -108,10 +114,12 @@ module _ (n : ℕ) (region : Region) (bs : List MarkedPolynomial) (can : AreCano
             let f : FacetWitness = record { normal = a; witness = sum_of n (zeros_of a rays.0) } in (
               h.0 ++ f ∷ [],
               subst (λ m. AreWitnessedBefore n region bs cone m (h.0 ++ f ∷ [])) one
-                  (facets_next n region bs cone i h.0 (h.0 ++ f ∷ []) f is_cut.cone (omega (arith, l)) refl flip (witness_is n region bs cone cut a (sum_of n (zeros_of a rays.0)) is_cut refl) refl h.1),
+                  (facets_next n region bs cone i h.0 (h.0 ++ f ∷ []) f is_cut.cone (omega (arith, l)) refl flip
+                  (witness_is n region bs cone cut a (sum_of n (zeros_of a rays.0)) is_cut refl) refl h.1),
             )
         | inr not ↦ (h.0, subst (λ m. AreWitnessedBefore n region bs cone m h.0) one (facets_passed n region bs cone i h.0 not h.1))
       ]
 
   pub facets_exist : (fs : List FacetWitness) × AreWitnessedIn n region bs fs
-  facets_exist = let h = facets_to (length cone.normals) (omega arith) in (h.0, facets_all n region bs cone (length cone.normals) h.0 is_cut.cone (omega arith) h.1)
+  facets_exist = let h = facets_to (length cone.normals) (omega arith) in
+      (h.0, facets_all n region bs cone (length cone.normals) h.0 is_cut.cone (omega arith) h.1)

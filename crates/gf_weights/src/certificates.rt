@@ -2,7 +2,8 @@
 ghost use Rattle.std.specs.Prelude.{◌≡◌, length, IfOk, IfErr};
 ghost use Rattle.gf_weights.specs.Weights.{IsPrintedWeight, AreBasisCertificates, IsWeightIn, AreWitnessedIn, AreCertificatesIn};
 ghost use Rattle.gf_weights.specs.Cuts.{IsCutOf};
-ghost use Rattle.gf_weights.specs.Refusals.{IsWeightCause, IsBasisCertificateCause, IsWeightWithinLimits, AreCertificatesWithinLimits, IsWeightCauseIn, IsCertificateCauseIn, AreCertificatesFittingIn};
+ghost use Rattle.gf_weights.specs.Refusals.{IsWeightCause, IsBasisCertificateCause, IsWeightWithinLimits, AreCertificatesWithinLimits, IsWeightCauseIn};
+ghost use Rattle.gf_weights.specs.Refusals.{IsCertificateCauseIn, AreCertificatesFittingIn};
 ghost use Rattle.gf_weights.specs.declared.error.WeightError.TheVariants.{Memory};
 
 use crate::cut::{Cut, cut_cone, is_flippable};

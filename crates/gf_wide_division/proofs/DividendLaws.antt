@@ -24,22 +24,28 @@ use Rattle.gf_wide_division.proofs.ValueLaws.{length-values, values_append, valu
 -- ---- the place
 
 -- what is before it is greater
-pub over_more : (x : Exponents) (f : List WideTerm) (i : ℕ) (t : WideTerm) → i < length f → t ≡ get_or f i t → deglex t.mono x ≡ Greater → AreOver x (take i (value_terms f)) → AreOver x (take (i + 1) (value_terms f))
+pub over_more : (x : Exponents) (f : List WideTerm) (i : ℕ) (t : WideTerm) → i < length f → t ≡ get_or f i t → deglex t.mono x ≡ Greater →
+    AreOver x (take i (value_terms f)) → AreOver x (take (i + 1) (value_terms f))
 over_more x f i t l is g o =
     subst (AreOver x) (sym (take_more (value_terms f) i (term_value t) (omega (arith, l, length-values f))))
-    (Each-++ (λ (s : Term). deglex s.mono x ≡ Greater) (take i (value_terms f)) (get_or (value_terms f) i (term_value t) ∷ []) o (subst (λ (s : Term). deglex s.mono x ≡ Greater) (value_at f i t is) g, tt))
+    (Each-++ (λ (s : Term). deglex s.mono x ≡ Greater) (take i (value_terms f)) (get_or (value_terms f) i (term_value t) ∷ []) o
+    (subst (λ (s : Term). deglex s.mono x ≡ Greater) (value_at f i t is) g, tt))
 
-descends_at : (x : Exponents) (f : Terms) (i : ℕ) (o : Ordering) → AreOver x (take i f) → FirstIs (drop i f) x o → (o ≡ Greater → ⊥) → Descends x (uncut f) (cut_at i f) o
+descends_at : (x : Exponents) (f : Terms) (i : ℕ) (o : Ordering) → AreOver x (take i f) → FirstIs (drop i f) x o → (o ≡ Greater → ⊥) →
+    Descends x (uncut f) (cut_at i f) o
 descends_at x f i o a h n = record { passed = take i f; above = refl; below = sym (take-append-drop i f); over = a; first = h; ends = n }
 
 term_first : (f : List WideTerm) (i : ℕ) (t : WideTerm) → i < length f → t ≡ get_or f i t → drop i (value_terms f) ≡ term_value t ∷ drop (i + 1) (value_terms f)
 term_first f i t l is = head_at (value_terms f) i (term_value t) (omega (arith, l, length-values f)) (value_at f i t is)
 
-pub descends_here : (x : Exponents) (f : List WideTerm) (i : ℕ) (t : WideTerm) (o : Ordering) → i < length f → t ≡ get_or f i t → o ≡ deglex t.mono x → (o ≡ Greater → ⊥) → AreOver x (take i (value_terms f)) → Descends x (uncut (value_terms f)) (cut_at i (value_terms f)) o
+pub descends_here : (x : Exponents) (f : List WideTerm) (i : ℕ) (t : WideTerm) (o : Ordering) → i < length f → t ≡ get_or f i t → o ≡ deglex t.mono x →
+    (o ≡ Greater → ⊥) → AreOver x (take i (value_terms f)) → Descends x (uncut (value_terms f)) (cut_at i (value_terms f)) o
 descends_here x f i t o l is q n a = descends_at x (value_terms f) i o a (subst (λ (z : Terms). FirstIs z x o) (sym (term_first f i t l is)) q) n
 
-pub descends_end : (x : Exponents) (f : List WideTerm) (i : ℕ) → length f ≤ i → AreOver x (take i (value_terms f)) → Descends x (uncut (value_terms f)) (cut_at i (value_terms f)) Less
-descends_end x f i l a = descends_at x (value_terms f) i Less a (subst (λ (z : Terms). FirstIs z x Less) (sym (drop_all i (value_terms f) (omega (arith, l, length-values f)))) refl) (λ z. absurd (cc))
+pub descends_end : (x : Exponents) (f : List WideTerm) (i : ℕ) → length f ≤ i → AreOver x (take i (value_terms f)) →
+    Descends x (uncut (value_terms f)) (cut_at i (value_terms f)) Less
+descends_end x f i l a = descends_at x (value_terms f) i Less a
+    (subst (λ (z : Terms). FirstIs z x Less) (sym (drop_all i (value_terms f) (omega (arith, l, length-values f)))) refl) (λ z. absurd (cc))
 
 -- a term of it
 pub cut_there : (f : List WideTerm) (i : ℕ) (t u : WideTerm) → i < length f → t ≡ get_or f i t → u ≡ t → IsCutBefore (value_terms f) (term_value u)
@@ -61,27 +67,31 @@ insert_removed [] i u l = absurd (omega arith)
 insert_removed (x ∷ f) zero u l = refl
 insert_removed (x ∷ f) (suc i) u l = ap (λ (z : List WideTerm). x ∷ z) (insert_removed f i u (omega arith))
 
-values_put : (f g h : List WideTerm) (i : ℕ) (u : WideTerm) → i < length f → g ≡ remove f i → h ≡ insert g i u → value_terms h ≡ take i (value_terms f) ++ term_value u ∷ drop (i + 1) (value_terms f)
+values_put : (f g h : List WideTerm) (i : ℕ) (u : WideTerm) → i < length f → g ≡ remove f i → h ≡ insert g i u →
+    value_terms h ≡ take i (value_terms f) ++ term_value u ∷ drop (i + 1) (value_terms f)
 values_put f g h i u l e p =
     ap value_terms (p ∙ ap (λ (z : List WideTerm). insert z i u) e ∙ insert_removed f i u l)
     ∙ values_append (take i f) (u ∷ drop (suc i) f) ∙ ap (λ (z : Terms). z ++ term_value u ∷ value_terms (drop (suc i) f)) (values_take f i)
     ∙ ap (λ (z : Terms). take i (value_terms f) ++ term_value u ∷ z) (values_drop f (suc i) ∙ ap (λ (n : ℕ). drop n (value_terms f)) (sym (add-one i)))
 
-pub taken_zero : (c : Fraction) (f g : List WideTerm) (i : ℕ) (t : WideTerm) (v : Fraction) → i < length f → t ≡ get_or f i t → g ≡ remove f i → v ≡ t.coef -ℚ c → v ≡ zero_ℚ → TakesAt c i (value_terms f) (value_terms g)
+pub taken_zero : (c : Fraction) (f g : List WideTerm) (i : ℕ) (t : WideTerm) (v : Fraction) → i < length f → t ≡ get_or f i t → g ≡ remove f i →
+    v ≡ t.coef -ℚ c → v ≡ zero_ℚ → TakesAt c i (value_terms f) (value_terms g)
 taken_zero c f g i t v l is e d z = record {
   left = record { above = take i (value_terms f); below = drop (i + 1) (value_terms f) };
   taken = record { term = term_value t; below = term_first f i t l is; above = inl (sym d ∙ z, refl) };
   same = values_removed f g i e;
 }
 
-pub taken_rest : (c : Fraction) (f g h : List WideTerm) (i : ℕ) (t u : WideTerm) (v : Fraction) → i < length f → t ≡ get_or f i t → g ≡ remove f i → h ≡ insert g i u → v ≡ t.coef -ℚ c → u.coef ≡ v → u.mono ≡ t.mono → (v ≡ zero_ℚ → ⊥) → TakesAt c i (value_terms f) (value_terms h)
+pub taken_rest : (c : Fraction) (f g h : List WideTerm) (i : ℕ) (t u : WideTerm) (v : Fraction) → i < length f → t ≡ get_or f i t → g ≡ remove f i →
+    h ≡ insert g i u → v ≡ t.coef -ℚ c → u.coef ≡ v → u.mono ≡ t.mono → (v ≡ zero_ℚ → ⊥) → TakesAt c i (value_terms f) (value_terms h)
 taken_rest c f g h i t u v l is e p d uc um n =
     let s : Term = record { coef = t.coef -ℚ c; mono = t.mono } in
     let q : term_value u ≡ s = λ r. record { coef = (uc ∙ d) r; mono = um r } in
     record {
       left = record { above = take i (value_terms f) ++ s ∷ []; below = drop (i + 1) (value_terms f) };
       taken = record { term = term_value t; below = term_first f i t l is; above = inr (λ z. n (d ∙ z), refl) };
-      same = values_put f g h i u l e p ∙ ap (λ (z : Term). take i (value_terms f) ++ z ∷ drop (i + 1) (value_terms f)) q ∙ sym (append_assoc (take i (value_terms f)) (s ∷ []) (drop (i + 1) (value_terms f)));
+      same = values_put f g h i u l e p ∙ ap (λ (z : Term). take i (value_terms f) ++ z ∷ drop (i + 1) (value_terms f)) q ∙
+          sym (append_assoc (take i (value_terms f)) (s ∷ []) (drop (i + 1) (value_terms f)));
     }
 
 -- ---- one term taken away
@@ -95,10 +105,13 @@ relay c x f g w e t = record {
   from = tt;
 }
 
-pub taken_there : (c : Fraction) (x : Exponents) (f g : Terms) (i : ℕ) (o : Ordering) → o ≡ Equal → IsSound (length x) (uncut f) → Descends x (uncut f) (cut_at i f) o → TakesAt c i f g → TakesAway c x (uncut f) (uncut g)
+pub taken_there : (c : Fraction) (x : Exponents) (f g : Terms) (i : ℕ) (o : Ordering) → o ≡ Equal → IsSound (length x) (uncut f) →
+    Descends x (uncut f) (cut_at i f) o → TakesAt c i f g → TakesAway c x (uncut f) (uncut g)
 taken_there c x f g i o q s d t = relay c x f g t.left t.same (taken_at {E = Unit {0}} c x (uncut f) (cut_at i f) t.left o (Ok tt) q s tt d t.taken)
 
-pub taken_new : (c : Fraction) (x : Exponents) (f g : List WideTerm) (i : ℕ) (o : Ordering) (u : WideTerm) → (o ≡ Equal → ⊥) → (c ≡ zero_ℚ → ⊥) → u.coef ≡ neg_ℚ c → u.mono ≡ x → g ≡ insert f i u → IsSound (length x) (uncut (value_terms f)) → Descends x (uncut (value_terms f)) (cut_at i (value_terms f)) o → TakesAway c x (uncut (value_terms f)) (uncut (value_terms g))
+pub taken_new : (c : Fraction) (x : Exponents) (f g : List WideTerm) (i : ℕ) (o : Ordering) (u : WideTerm) → (o ≡ Equal → ⊥) → (c ≡ zero_ℚ → ⊥) →
+    u.coef ≡ neg_ℚ c → u.mono ≡ x → g ≡ insert f i u → IsSound (length x) (uncut (value_terms f)) →
+    Descends x (uncut (value_terms f)) (cut_at i (value_terms f)) o → TakesAway c x (uncut (value_terms f)) (uncut (value_terms g))
 taken_new c x f g i o u n z uc um p s d =
     let t : Term = term_value u in
     let q : t ≡ record { coef = neg_ℚ c; mono = x } = λ r. record { coef = uc r; mono = um r } in

@@ -17,23 +17,30 @@ use Rattle.gf_wide_division.proofs.ValueLaws.{length-values, value_at}
 
 -- ---- the divisor
 
-pub nonzero_there : (f : List WideTerm) (g : Terms) (i : ℕ) (t : WideTerm) → value_terms f ≡ g → i < length g → t ≡ get_or f i t → IsDescending g → t.coef ≡ zero_ℚ → ⊥
-nonzero_there f g i t e l is d = nonzero_at (value_terms f) i (term_value t) (subst (λ (z : Terms). i < length z) (sym e) l) (value_at f i t is) (subst IsDescending (sym e) d)
+pub nonzero_there : (f : List WideTerm) (g : Terms) (i : ℕ) (t : WideTerm) → value_terms f ≡ g → i < length g → t ≡ get_or f i t → IsDescending g →
+    t.coef ≡ zero_ℚ → ⊥
+nonzero_there f g i t e l is d = nonzero_at (value_terms f) i (term_value t) (subst (λ (z : Terms). i < length z) (sym e) l) (value_at f i t is)
+    (subst IsDescending (sym e) d)
 
 products_of : (k : Fraction) (f h : Terms) → k ≢ zero_ℚ → h ≡ times (reciprocal_ℚ k) [] f → HasProducts (reciprocal_ℚ k) [] f h
 products_of k f h n e = record { nonzero = λ _. e; zero = λ z. absurd (nonzero_reciprocal k n z) }
 
 -- all quotients
-pub quotients_all : (c : Fraction) (f : List WideTerm) (out : Terms) (i : ℕ) → length f ≤ i → out ≡ times c [] (take i (value_terms f)) → out ≡ times c [] (value_terms f)
+pub quotients_all : (c : Fraction) (f : List WideTerm) (out : Terms) (i : ℕ) → length f ≤ i → out ≡ times c [] (take i (value_terms f)) →
+    out ≡ times c [] (value_terms f)
 quotients_all c f out i l e = e ∙ ap (times c []) (take_all i (value_terms f) (omega (arith, l, length-values f)))
 
-pub quotients_descend : (f : List WideTerm) (g h : Terms) (i : ℕ) (t : WideTerm) → value_terms f ≡ g → i < length g → t ≡ get_or f i t → IsDescending g → h ≡ times (reciprocal_ℚ t.coef) [] (value_terms f) → IsDescending h
-quotients_descend f g h i t e l is d q = IsDescending-scaled (reciprocal_ℚ t.coef) (value_terms f) h (subst IsDescending (sym e) d) (products_of t.coef (value_terms f) h (nonzero_there f g i t e l is d) q)
+pub quotients_descend : (f : List WideTerm) (g h : Terms) (i : ℕ) (t : WideTerm) → value_terms f ≡ g → i < length g → t ≡ get_or f i t → IsDescending g →
+    h ≡ times (reciprocal_ℚ t.coef) [] (value_terms f) → IsDescending h
+quotients_descend f g h i t e l is d q = IsDescending-scaled (reciprocal_ℚ t.coef) (value_terms f) h (subst IsDescending (sym e) d)
+    (products_of t.coef (value_terms f) h (nonzero_there f g i t e l is d) q)
 
-pub quotients_inside : (c : Fraction) (f : List WideTerm) (g h : Terms) (i : ℕ) → value_terms f ≡ g → i < length g → h ≡ times c [] (value_terms f) → i < length h
+pub quotients_inside : (c : Fraction) (f : List WideTerm) (g h : Terms) (i : ℕ) → value_terms f ≡ g → i < length g → h ≡ times c [] (value_terms f) →
+    i < length h
 quotients_inside c f g h i e l q = omega (arith, l, ap length e, ap length q, length-times c (value_terms f))
 
-monic_here : (f h : Terms) (i : ℕ) (t : Term) → i < length f → t ≡ get_or f i t → IsDescending f → h ≡ times (reciprocal_ℚ t.coef) [] f → IsMonicAt f i (record { poly = h; head = head_of h i })
+monic_here : (f h : Terms) (i : ℕ) (t : Term) → i < length f → t ≡ get_or f i t → IsDescending f → h ≡ times (reciprocal_ℚ t.coef) [] f →
+    IsMonicAt f i (record { poly = h; head = head_of h i })
 monic_here f h i t l is d e =
     let k : Fraction = t.coef in
     let n : k ≢ zero_ℚ = nonzero_at f i t l is d in
@@ -47,7 +54,9 @@ monic_here f h i t l is d e =
       variables = KeepsVariables-scaled (reciprocal_ℚ k) f h p;
     }
 
-pub monic_of_quotients : (f : List WideTerm) (g h : Terms) (i : ℕ) (t : WideTerm) (b : MarkedPolynomial) → value_terms f ≡ g → i < length g → t ≡ get_or f i t → IsDescending g → h ≡ times (reciprocal_ℚ t.coef) [] (value_terms f) → b ≡ record { poly = h; head = head_of h i } → IsMonicAt g i b
+pub monic_of_quotients : (f : List WideTerm) (g h : Terms) (i : ℕ) (t : WideTerm) (b : MarkedPolynomial) → value_terms f ≡ g → i < length g → t ≡ get_or f i t →
+    IsDescending g → h ≡ times (reciprocal_ℚ t.coef) [] (value_terms f) → b ≡ record { poly = h; head = head_of h i } → IsMonicAt g i b
 monic_of_quotients f g h i t b e l is d q m =
     let v : i < length (value_terms f) = subst (λ (z : Terms). i < length z) (sym e) l in
-    subst (IsMonicAt g i) (sym m) (subst (λ (z : Terms). IsMonicAt z i (record { poly = h; head = head_of h i })) e (monic_here (value_terms f) h i (term_value t) v (value_at f i t is) (subst IsDescending (sym e) d) q))
+    subst (IsMonicAt g i) (sym m) (subst (λ (z : Terms). IsMonicAt z i (record { poly = h; head = head_of h i })) e
+    (monic_here (value_terms f) h i (term_value t) v (value_at f i t is) (subst IsDescending (sym e) d) q))

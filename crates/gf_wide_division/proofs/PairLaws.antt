@@ -18,10 +18,12 @@ use Rattle.gf_wide_division.specs.Dividends.{uncut}
 pub nothing_sound : (n : ℕ) (s : Split) → s ≡ uncut [] → IsSound n s
 nothing_sound n s e = subst (IsSound n) (sym e) (record { descending = tt; variables = tt })
 
-pub second_sound : (b c : MarkedPolynomial) (u v : Exponents) (m : Fraction) (f : Terms) (s t : Split) → PairFacts b c u v → Subtracts m u f s t → IsSound (length v) t
+pub second_sound : (b c : MarkedPolynomial) (u v : Exponents) (m : Fraction) (f : Terms) (s t : Split) → PairFacts b c u v → Subtracts m u f s t →
+    IsSound (length v) t
 second_sound b c u v m f s t k d = subst (λ (n : ℕ). IsSound n t) (k.left ∙ sym k.right) d.sound
 
-pub pair_value : (b c : MarkedPolynomial) (u v : Exponents) (m o : Fraction) (f g : Terms) (r s t : Split) → f ≡ b.poly → g ≡ c.poly → o ≡ one_ℚ → m ≡ neg_ℚ o → PairFacts b c u v → r ≡ uncut [] → Subtracts m u f r s → Subtracts o v g s t → IsSPolynomial b c (joined_terms t)
+pub pair_value : (b c : MarkedPolynomial) (u v : Exponents) (m o : Fraction) (f g : Terms) (r s t : Split) → f ≡ b.poly → g ≡ c.poly → o ≡ one_ℚ → m ≡ neg_ℚ o →
+    PairFacts b c u v → r ≡ uncut [] → Subtracts m u f r s → Subtracts o v g s t → IsSPolynomial b c (joined_terms t)
 pair_value b c u v m o f g r s t ef eg eo em k er d h = record {
   left = u;
   right = v;
@@ -42,5 +44,6 @@ pair_value b c u v m o f g r s t ef eg eo em k er d h = record {
     second : times (neg_ℚ o) v g ≡ times (neg_ℚ one_ℚ) v c.poly
     second = ap (λ (a : Fraction). times (neg_ℚ a) v g) eo ∙ ap (times (neg_ℚ one_ℚ) v) eg
 
-pub pair_variables : (b c : MarkedPolynomial) (u v : Exponents) (o : Fraction) (g : Terms) (s t : Split) → o ≡ one_ℚ → PairFacts b c u v → HasMarkedTerm b → Subtracts o v g s t → KeepsPairVariables b c (joined_terms t)
+pub pair_variables : (b c : MarkedPolynomial) (u v : Exponents) (o : Fraction) (g : Terms) (s t : Split) → o ≡ one_ℚ → PairFacts b c u v → HasMarkedTerm b →
+    Subtracts o v g s t → KeepsPairVariables b c (joined_terms t)
 pair_variables b c u v o g s t eo k m h = s_variables b c u v g (joined_terms t) s t k m (subst (λ (a : Fraction). Subtracts a v g s t) eo h) refl

@@ -47,7 +47,8 @@ head_value (s ∷ f) zero t h is = ap (λ (z : WideTerm). z.mono) is
 head_value (s ∷ f) (suc i) t h is = head_value f i t (omega arith) is
 
 -- a term in wide numbers
-pub widened_term : (f : Terms) (out new : List WideTerm) (i : ℕ) (t : Term) (u : WideTerm) → i < length f → t ≡ get_or f i t → u.coef ≡ t.coef → u.mono ≡ t.mono → new ≡ out ++ u ∷ [] → value_terms out ≡ take i f → value_terms new ≡ take (i + 1) f
+pub widened_term : (f : Terms) (out new : List WideTerm) (i : ℕ) (t : Term) (u : WideTerm) → i < length f → t ≡ get_or f i t → u.coef ≡ t.coef →
+    u.mono ≡ t.mono → new ≡ out ++ u ∷ [] → value_terms out ≡ take i f → value_terms new ≡ take (i + 1) f
 widened_term f out new i t u h is ex em push inv =
     let e : term_value u ≡ t = λ q. record { coef = ex q; mono = em q } in
     ap value_terms push ∙ values_append out (u ∷ [])
@@ -55,7 +56,8 @@ widened_term f out new i t u h is ex em push inv =
     ∙ ap (λ (z : Term). take i f ++ z ∷ []) (e ∙ is) ∙ sym (take_more f i t h)
 
 -- the same term
-pub copied_term : (f out new : List WideTerm) (i : ℕ) (t u : WideTerm) → i < length f → t ≡ get_or f i t → u.coef ≡ t.coef → u.mono ≡ t.mono → new ≡ out ++ u ∷ [] → value_terms out ≡ take i (value_terms f) → value_terms new ≡ take (i + 1) (value_terms f)
+pub copied_term : (f out new : List WideTerm) (i : ℕ) (t u : WideTerm) → i < length f → t ≡ get_or f i t → u.coef ≡ t.coef → u.mono ≡ t.mono →
+    new ≡ out ++ u ∷ [] → value_terms out ≡ take i (value_terms f) → value_terms new ≡ take (i + 1) (value_terms f)
 copied_term f out new i t u h is ex em push inv =
     widened_term (value_terms f) out new i (term_value t) u (omega (arith, h, length-values f)) (value_at f i t is) ex em push inv
 
@@ -63,7 +65,8 @@ pub all_widened : (f : Terms) (out : List WideTerm) (i : ℕ) → length f ≤ i
 all_widened f out i l e = e ∙ take_all i f l
 
 -- a term in narrow numbers
-pub narrowed_term : (f : List WideTerm) (out new : Terms) (i : ℕ) (t : WideTerm) (x : Fraction) (m : Exponents) → i < length f → t ≡ get_or f i t → x ≡ t.coef → m ≡ t.mono → new ≡ out ++ record { coef = x; mono = m } ∷ [] → out ≡ take i (value_terms f) → new ≡ take (i + 1) (value_terms f)
+pub narrowed_term : (f : List WideTerm) (out new : Terms) (i : ℕ) (t : WideTerm) (x : Fraction) (m : Exponents) → i < length f → t ≡ get_or f i t → x ≡ t.coef →
+    m ≡ t.mono → new ≡ out ++ record { coef = x; mono = m } ∷ [] → out ≡ take i (value_terms f) → new ≡ take (i + 1) (value_terms f)
 narrowed_term f out new i t x m h is ex em push inv =
     let s : Term = record { coef = x; mono = m } in
     let e : s ≡ term_value t = λ q. record { coef = ex q; mono = em q } in
@@ -71,12 +74,16 @@ narrowed_term f out new i t x m h is ex em push inv =
     ∙ sym (take_more (value_terms f) i (term_value t) (omega (arith, h, length-values f)))
 
 -- a term times a fraction, in narrow numbers
-pub quotient_term : (by : Fraction) (f : List WideTerm) (out new : Terms) (i : ℕ) (t : WideTerm) (x : Fraction) (m : Exponents) → i < length f → t ≡ get_or f i t → x ≡ by *ℚ t.coef → m ≡ t.mono → new ≡ out ++ record { coef = x; mono = m } ∷ [] → out ≡ times by [] (take i (value_terms f)) → new ≡ times by [] (take (i + 1) (value_terms f))
+pub quotient_term : (by : Fraction) (f : List WideTerm) (out new : Terms) (i : ℕ) (t : WideTerm) (x : Fraction) (m : Exponents) → i < length f →
+    t ≡ get_or f i t → x ≡ by *ℚ t.coef → m ≡ t.mono → new ≡ out ++ record { coef = x; mono = m } ∷ [] → out ≡ times by [] (take i (value_terms f)) →
+    new ≡ times by [] (take (i + 1) (value_terms f))
 quotient_term by f out new i t x m h is ex em push inv =
     let s : Term = record { coef = x; mono = m } in
     let e : s ≡ times_term by [] (term_value t) = λ q. record { coef = ex q; mono = em q } in
-    push ∙ ap (λ (z : Terms). z ++ s ∷ []) inv ∙ ap (λ (z : Term). times by [] (take i (value_terms f)) ++ z ∷ []) (e ∙ ap (times_term by []) (value_at f i t is))
-    ∙ sym (ap (times by []) (take_more (value_terms f) i (term_value t) (omega (arith, h, length-values f))) ∙ map_push (times_term by []) (take i (value_terms f)) (get_or (value_terms f) i (term_value t)))
+    push ∙ ap (λ (z : Terms). z ++ s ∷ []) inv ∙ ap (λ (z : Term). times by [] (take i (value_terms f)) ++ z ∷ []) (e ∙
+    ap (times_term by []) (value_at f i t is))
+    ∙ sym (ap (times by []) (take_more (value_terms f) i (term_value t) (omega (arith, h, length-values f))) ∙
+    map_push (times_term by []) (take i (value_terms f)) (get_or (value_terms f) i (term_value t)))
 
 pub all_narrowed : (f : List WideTerm) (g out : Terms) (i : ℕ) → value_terms f ≡ g → length f ≤ i → out ≡ take i (value_terms f) → out ≡ g
 all_narrowed f g out i e l h = h ∙ take_all i (value_terms f) (omega (arith, l, length-values f)) ∙ e

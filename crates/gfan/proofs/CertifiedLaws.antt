@@ -25,8 +25,8 @@ use Rattle.gfan.specs.CertifiedBases.{HasCertificates, HasCertificatesIn, IsCert
 use Rattle.gfan_lists.proofs.BasesListLaws.{given_in_node}
 
 -- those of a basis in a region
-item_shows_in : (ring : List (List ℕ)) (j : Region) (fs : List Terms) (b : MarkedPolynomials) (text : List ℕ) → AreInVariables (length ring) fs → IsRegion (length ring) j → IsGivenIn (length ring) j fs b →
-    IsItemTextIn true ring j b text → HasCertificatesIn ring j fs b text
+item_shows_in : (ring : List (List ℕ)) (j : Region) (fs : List Terms) (b : MarkedPolynomials) (text : List ℕ) → AreInVariables (length ring) fs →
+    IsRegion (length ring) j → IsGivenIn (length ring) j fs b → IsItemTextIn true ring j b text → HasCertificatesIn ring j fs b text
 item_shows_in ring j fs b text v r g item = record {
   weight = told.weight;
   facets = told.facets;
@@ -60,19 +60,22 @@ item_shows_in ring j fs b text v r g item = record {
     flippable a c = let f = normal_there told.facets a c in subst (IsFlippable n j b.items) f.1.1 (witnessed.flippable f.0 f.1.0)
 
 -- those of a list
-items_show_in : (ring : List (List ℕ)) (j : Region) (fs : List Terms) (bs : List MarkedPolynomials) (ts : List (List ℕ)) → AreInVariables (length ring) fs → IsRegion (length ring) j →
-    ((b : MarkedPolynomials) → Among bs b → IsGivenIn (length ring) j fs b) → AreItemTextsIn true ring j bs ts → AllZip (HasCertificatesIn ring j fs) bs ts
+items_show_in : (ring : List (List ℕ)) (j : Region) (fs : List Terms) (bs : List MarkedPolynomials) (ts : List (List ℕ)) → AreInVariables (length ring) fs →
+    IsRegion (length ring) j → ((b : MarkedPolynomials) → Among bs b → IsGivenIn (length ring) j fs b) → AreItemTextsIn true ring j bs ts →
+    AllZip (HasCertificatesIn ring j fs) bs ts
 items_show_in ring j fs [] [] v r g a = tt
 items_show_in ring j fs [] (t ∷ ts) v r g a = absurd a
 items_show_in ring j fs (b ∷ bs) [] v r g a = absurd a
-items_show_in ring j fs (b ∷ bs) (t ∷ ts) v r g a = (item_shows_in ring j fs b t v r (g b (inl refl)) a.0, items_show_in ring j fs bs ts v r (λ c k. g c (inr k)) a.1)
+items_show_in ring j fs (b ∷ bs) (t ∷ ts) v r g a =
+    (item_shows_in ring j fs b t v r (g b (inl refl)) a.0, items_show_in ring j fs bs ts v r (λ c k. g c (inr k)) a.1)
 
-pub certified_list_in : (limit : Option ℕ) (ring : List (List ℕ)) (j : Region) (fs : List Terms) (text : List ℕ) → AreInVariables (length ring) fs → IsRegion (length ring) j → IsTextOfBasesIn true limit ring j fs text →
-    IsCertifiedListIn ring j fs text
+pub certified_list_in : (limit : Option ℕ) (ring : List (List ℕ)) (j : Region) (fs : List Terms) (text : List ℕ) → AreInVariables (length ring) fs →
+    IsRegion (length ring) j → IsTextOfBasesIn true limit ring j fs text → IsCertifiedListIn ring j fs text
 certified_list_in limit ring j fs text v r t = (t.list, t.are_all, (t.items, items_show_in ring j fs t.list t.items v r t.are_all.only t.are_items, t.is_text))
 
 -- where all positive weights are meant
-items_show : (ring : List (List ℕ)) (fs : List Terms) (bs : List MarkedPolynomials) (ts : List (List ℕ)) → AllZip (HasCertificatesIn ring (all_positive (length ring)) fs) bs ts → AllZip (HasCertificates ring fs) bs ts
+items_show : (ring : List (List ℕ)) (fs : List Terms) (bs : List MarkedPolynomials) (ts : List (List ℕ)) →
+    AllZip (HasCertificatesIn ring (all_positive (length ring)) fs) bs ts → AllZip (HasCertificates ring fs) bs ts
 items_show ring fs [] [] a = tt
 items_show ring fs [] (t ∷ ts) a = absurd a
 items_show ring fs (b ∷ bs) [] a = absurd a
@@ -91,6 +94,15 @@ items_show ring fs (b ∷ bs) (t ∷ ts) a = (
   items_show ring fs bs ts a.1,
 )
 
-pub certified_list : (limit : Option ℕ) (ring : List (List ℕ)) (fs : List Terms) (text : List ℕ) → AreInVariables (length ring) fs → IsTextOfBases true limit ring fs text → IsCertifiedList ring fs text
-certified_list limit ring fs text v t =
-    (t.list, t.are_all, (t.items, items_show ring fs t.list t.items (items_show_in ring (all_positive (length ring)) fs t.list t.items v (all_positive-region (length ring)) t.are_all.only t.are_items), t.is_text))
+pub certified_list : (limit : Option ℕ) (ring : List (List ℕ)) (fs : List Terms) (text : List ℕ) → AreInVariables (length ring) fs →
+    IsTextOfBases true limit ring fs text → IsCertifiedList ring fs text
+certified_list limit ring fs text v t = (
+  t.list,
+  t.are_all,
+  (
+    t.items,
+    items_show ring fs t.list t.items (items_show_in ring (all_positive (length ring)) fs t.list t.items v
+        (all_positive-region (length ring)) t.are_all.only t.are_items),
+    t.is_text,
+  ),
+)

@@ -40,7 +40,8 @@ use Rattle.gfan_fans.proofs.ToPolyhedralFanLaws.{to_polyhedral_fan_exact, to_pol
 use Rattle.gfan_fans.proofs.HomogeneitySpaceLaws.{homogeneity_space_exact, homogeneity_space_tested, no_space_not_listed}
 use Rattle.gfan_fans.proofs.TropicalLaws.{tropical_exact, tropical_tested, tropical_not_listed}
 use Rattle.gfan_fans.proofs.BasisTestLaws.{intersection_lawful, intersection_source}
-use Rattle.gfan_sets.proofs.ToolLaws.{mark_polynomial_set_exact, initial_forms_exact, homogenize_exact, polynomial_set_union_exact, stats_exact, homogenize_not_listed, homogenize_untested}
+use Rattle.gfan_sets.proofs.ToolLaws.{mark_polynomial_set_exact, initial_forms_exact, homogenize_exact, polynomial_set_union_exact, stats_exact}
+use Rattle.gfan_sets.proofs.ToolLaws.{homogenize_not_listed, homogenize_untested}
 use Rattle.gfan_common.proofs.CauseLaws.{gordan_not_listed, gordan_untested, basis_not_listed, basis_untested, memory_untested}
 use Rattle.gfan_sets.proofs.ExactLaws.{buchberger_exact, marked_exact, containment_exact, leading_lawful, leading_source, containment_tested}
 use Rattle.gfan_lists.proofs.ListExactLaws.{bases_exact, given_exact, list_untested, given_tested}
@@ -53,27 +54,38 @@ use Rattle.gfan_sets.proofs.SaturationLaws.{saturation_lawful}
 use Rattle.gfan_interactive.proofs.InteractiveLaws.{interactive_lawful}
 
 tropical_lawful : (which : TropicalFan) → IsLawful (tropical_command which)
-tropical_lawful which = sound_lawful (tropical_command which) (tropical_exact which) (tropical_tested which) (λ h. h) (λ t. t) (λ a m w. tropical_not_listed which (length a.0) (generators_of a.1.0) m w)
+tropical_lawful which = sound_lawful (tropical_command which) (tropical_exact which) (tropical_tested which) (λ h. h) (λ t. t)
+    (λ a m w. tropical_not_listed which (length a.0) (generators_of a.1.0) m w)
 
 plain_lawful : (k : PlainCommand) → IsLawful (plain_command k)
-plain_lawful plains.IsMarkedGroebnerBasis = sound_lawful marked_command marked_exact (untested marked_command (λ v r t h. test_cause_untested v.1 r t h)) (λ h. h) (λ t. t) (λ a m w. check_not_listed w.0 m w.1)
-plain_lawful plains.DoesIdealContain = sound_lawful containment_command containment_exact containment_tested (λ h. h) (λ t. t) (λ a m w. check_not_listed w.0 m w.1)
+plain_lawful plains.IsMarkedGroebnerBasis = sound_lawful marked_command marked_exact (untested marked_command (λ v r t h. test_cause_untested v.1 r t h))
+    (λ h. h) (λ t. t) (λ a m w. check_not_listed w.0 m w.1)
+plain_lawful plains.DoesIdealContain = sound_lawful containment_command containment_exact containment_tested (λ h. h) (λ t. t)
+    (λ a m w. check_not_listed w.0 m w.1)
 plain_lawful plains.MarkPolynomialSet =
-    sound_lawful mark_polynomial_set_command mark_polynomial_set_exact (untested mark_polynomial_set_command (λ v r t h. memory_untested r t h)) (λ h. h) (λ t. t) (λ a m w. cc)
-plain_lawful plains.InitialForms = sound_lawful initial_forms_command initial_forms_exact (untested initial_forms_command (λ v r t h. memory_untested r t h)) (λ h. h) (λ t. t) (λ a m w. cc)
+    sound_lawful mark_polynomial_set_command mark_polynomial_set_exact (untested mark_polynomial_set_command (λ v r t h. memory_untested r t h)) (λ h. h)
+    (λ t. t) (λ a m w. cc)
+plain_lawful plains.InitialForms = sound_lawful initial_forms_command initial_forms_exact (untested initial_forms_command (λ v r t h. memory_untested r t h))
+    (λ h. h) (λ t. t) (λ a m w. cc)
 plain_lawful plains.Homogenize =
-    sound_lawful homogenize_command homogenize_exact (untested homogenize_command (λ v r t h. homogenize_untested v.1.0 r t h)) (λ h. h) (λ t. t) (λ a m w. homogenize_not_listed a.1.0 m w)
+    sound_lawful homogenize_command homogenize_exact (untested homogenize_command (λ v r t h. homogenize_untested v.1.0 r t h)) (λ h. h) (λ t. t)
+    (λ a m w. homogenize_not_listed a.1.0 m w)
 plain_lawful plains.PolynomialSetUnion =
-    sound_lawful polynomial_set_union_command polynomial_set_union_exact (untested polynomial_set_union_command (λ v r t h. memory_untested r t h)) (λ h. h) (λ t. t) (λ a m w. cc)
-plain_lawful plains.Stats = sound_lawful stats_command stats_exact (untested stats_command (λ v r t h. gordan_untested h.0 (subst IsOfTest h.1 t))) (λ h. h) (λ t. t) (λ a m w. gordan_not_listed w.0 m w.1)
+    sound_lawful polynomial_set_union_command polynomial_set_union_exact (untested polynomial_set_union_command (λ v r t h. memory_untested r t h)) (λ h. h)
+    (λ t. t) (λ a m w. cc)
+plain_lawful plains.Stats = sound_lawful stats_command stats_exact (untested stats_command (λ v r t h. gordan_untested h.0 (subst IsOfTest h.1 t))) (λ h. h)
+    (λ t. t) (λ a m w. gordan_not_listed w.0 m w.1)
 plain_lawful plains.HomogeneitySpace =
-    sound_lawful homogeneity_space_command homogeneity_space_exact homogeneity_space_tested (λ h. h) (λ t. t) (λ a m w. no_space_not_listed (length a.0) (nonzero_of a.1.0) m w)
+    sound_lawful homogeneity_space_command homogeneity_space_exact homogeneity_space_tested (λ h. h) (λ t. t)
+    (λ a m w. no_space_not_listed (length a.0) (nonzero_of a.1.0) m w)
 plain_lawful plains.TropicalHypersurface = tropical_lawful fans.Hypersurface
 plain_lawful plains.MinkowskiSum = tropical_lawful fans.MinkowskiSum
-plain_lawful plains.MigrateFan = sound_lawful migrate_fan_command migrate_fan_exact migrate_fan_tested (λ h. h) (λ t. t) (λ source m w. migration_not_listed source m w)
+plain_lawful plains.MigrateFan = sound_lawful migrate_fan_command migrate_fan_exact migrate_fan_tested (λ h. h) (λ t. t)
+    (λ source m w. migration_not_listed source m w)
 
 list_lawful : (from_basis : Bool) (o : ListOptions) → IsLawful (list_command from_basis o)
-list_lawful false o = sound_lawful (bases_command o) (bases_exact o) (untested (bases_command o) (λ v r t h. list_untested o (length v.0) (generators_of v.1.0) r t h)) (λ h. h) (λ t. t) (λ a m w. tt)
+list_lawful false o = sound_lawful (bases_command o) (bases_exact o)
+    (untested (bases_command o) (λ v r t h. list_untested o (length v.0) (generators_of v.1.0) r t h)) (λ h. h) (λ t. t) (λ a m w. tt)
 list_lawful true o = sound_lawful (given_bases_command o) (given_exact o) (given_tested o) (λ h. h) (λ t. t) (λ a m w. tt)
 
 -- in a region, too
@@ -94,13 +106,15 @@ pub lawful : (job : Job) → IsLawful (command_of job)
 lawful (jobs.Plain k) = plain_lawful k
 lawful (jobs.Buchberger o) =
     let c = buchberger_command o in
-    sound_lawful c (buchberger_exact o) (untested c (λ v r t h. basis_untested h.0 (subst IsOfTest h.1 t))) (λ h. h) (λ t. t) (λ a m w. basis_not_listed w.0 m w.1)
+    sound_lawful c (buchberger_exact o) (untested c (λ v r t h. basis_untested h.0 (subst IsOfTest h.1 t))) (λ h. h) (λ t. t)
+    (λ a m w. basis_not_listed w.0 m w.1)
 lawful (jobs.Bases o) = listed_lawful o.after o.within o.from_basis (list_options o)
 lawful (jobs.LeadingTerms o) = leading_lawful o
 lawful (jobs.WeightVector o) = weight_lawful o
 lawful (jobs.GroebnerCone o) = cone_lawful o
 lawful (jobs.ToPolyhedralFan o) =
-    sound_lawful (to_polyhedral_fan_command o) (to_polyhedral_fan_exact o) (to_polyhedral_fan_tested o) (λ h. h) (λ t. t) (λ a m w. no_fan_not_listed o.restrict (length a.0) a.1 m w)
+    sound_lawful (to_polyhedral_fan_command o) (to_polyhedral_fan_exact o) (to_polyhedral_fan_tested o) (λ h. h) (λ t. t)
+    (λ a m w. no_fan_not_listed o.restrict (length a.0) a.1 m w)
 lawful (jobs.TropicalIntersection o) = intersection_lawful o
 lawful (jobs.FanCommonRefinement o) = refinement_lawful o.first o.second
 lawful (jobs.Generated o) = generated_lawful o
@@ -130,7 +144,8 @@ listed_not_once None within from_basis o w = bases_not_once within from_basis o 
 listed_not_once (Some after) within from_basis o w = w
 
 -- a job that writes once and isn't one on files, or that reads nothing, reads the input alone
-pub one_source : (job : Job) → WritesOnce (command_of job).writing → ((o : FanCommonRefinementOptions) → job ≡ jobs.FanCommonRefinement o → ⊥) → ((o : GeneratedOptions) → job ≡ jobs.Generated o → ⊥) → ReadsInputAlone job
+pub one_source : (job : Job) → WritesOnce (command_of job).writing → ((o : FanCommonRefinementOptions) → job ≡ jobs.FanCommonRefinement o → ⊥) →
+    ((o : GeneratedOptions) → job ≡ jobs.Generated o → ⊥) → ReadsInputAlone job
 one_source (jobs.FanCommonRefinement o) w n m = absurd (n o refl)
 one_source (jobs.Generated o) w n m = absurd (m o refl)
 one_source (jobs.Interactive o) w n m = absurd w

@@ -147,7 +147,8 @@ module _ (source : List ℕ) (b : BeginsPlainly source) where
       IsSetRead ring (from source behind) place ws → AreBinomials (generators_of ws)
   set_binomials behind ring place ws r h =
       subst AreBinomials (same_generators ws)
-      (plain_sets_are_binomials.meaning (length ring) h.said ws (said_plain behind ring h.said place r h.text) (record { sums = h.sums; exponents = h.exponents; fits = h.fits; written = h.written }))
+      (plain_sets_are_binomials.meaning (length ring) h.said ws (said_plain behind ring h.said place r h.text)
+      (record { sums = h.sums; exponents = h.exponents; fits = h.fits; written = h.written }))
 
   pub marked_binomials : (behind : ℕ) (ring : List (List ℕ)) (place : ℕ) (s : MarkedPolynomials) → IsRingRead (from source 0) behind ring →
       IsMarkedRead ring (from source behind) place s → IsBinomialSet s

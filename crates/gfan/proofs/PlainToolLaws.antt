@@ -84,7 +84,8 @@ use Rattle.gfan_fans.specs.ToldCones.{of_sections, IsConeFanCause, IsUntoldAs}
 use Rattle.gfan_fans.specs.Tropical.{of_tropical, IsNoTropicalText}
 use Rattle.gfan.specs.Commands.{plain_command}
 use Rattle.gfan.specs.PlainInputs.{IsPlainSource, BeginsPlainly, BeginsWithTwoPlainly, BeginsWithPlainSets, IsPlainToWeigh, IsPlainCone, AsksOfBinomials}
-use Rattle.gfan.proofs.PlainReadLaws.{tells_text, no_weight, basis_never, tree_never, check_never, members_marked, each_member, same_generators, sum_never, set_binomials, marked_binomials, set_text_never, marked_text_never}
+use Rattle.gfan.proofs.PlainReadLaws.{tells_text, no_weight, basis_never, tree_never, check_never, members_marked, each_member, same_generators, sum_never}
+use Rattle.gfan.proofs.PlainReadLaws.{set_binomials, marked_binomials, set_text_never, marked_text_never}
 
 -- ---- sets that were read
 
@@ -130,7 +131,8 @@ untold_never true certified n hs es x (IsConeFanCause.no_memory q) = cc
 
 module _ (source : List ℕ) (b : BeginsPlainly source) where
   saturated_never : (o : SaturationOptions) (x : Overflow) → IsRefusedOn (saturation_command o) (source ∷ []) (refusals.Overflow x) → ⊥
-  saturated_never o x (IsRefusedOn.in_text e h q) = set_text_never source b false x (subst (λ d. IsTextRefused (ring_set_vector false) source d) (tells_text e x q) h)
+  saturated_never o x (IsRefusedOn.in_text e h q) =
+      set_text_never source b false x (subst (λ d. IsTextRefused (ring_set_vector false) source d) (tells_text e x q) h)
   saturated_never o x (IsRefusedOn.behind_text v r (IsUnanswered.in_form f)) = f
   saturated_never o x (IsRefusedOn.behind_text v r (IsUnanswered.in_work f w)) = at w.0 w.1 w.2
     where
@@ -179,7 +181,8 @@ unweighed_never sets x b (IsUnweighed.no_memory q) = cc
 
 weight_never : (source : List ℕ) (b : BeginsPlainly source) (echoed : Bool) (x : Overflow) →
     IsRefusedOn (weights_command false echoed) (source ∷ []) (refusals.Overflow x) → ⊥
-weight_never source b echoed x (IsRefusedOn.in_text e h q) = marked_text_never source b x (subst (λ d. IsTextRefused ring_marked_set source d) (tells_text e x q) h)
+weight_never source b echoed x (IsRefusedOn.in_text e h q) =
+    marked_text_never source b x (subst (λ d. IsTextRefused ring_marked_set source d) (tells_text e x q) h)
 weight_never source b echoed x (IsRefusedOn.behind_text v r (IsUnanswered.in_form f)) = f
 weight_never source b echoed x (IsRefusedOn.behind_text v r (IsUnanswered.in_work f w)) =
     unweighed_never (v.1 ∷ []) x (marked_binomials source b r.read.behind v.0 r.end v.1 r.read.one r.read.two, tt) w
@@ -305,7 +308,8 @@ module _ (source : List ℕ) (b : BeginsWithTwoPlainly source) where
 
       fs : AreBinomials (generators_of v.1.1)
       fs = subst AreBinomials (same_generators v.1.1) (plain_sets_are_binomials.meaning (length v.0) r.read.two.two.said v.1.1
-          (second_plain r.read.behind r.read.two.behind v.0 r.read.two.one.read.said r.read.two.two.said r.end r.read.one r.read.two.one.read.text r.read.two.two.text)
+          (second_plain r.read.behind r.read.two.behind v.0 r.read.two.one.read.said r.read.two.two.said r.end r.read.one r.read.two.one.read.text
+          r.read.two.two.text)
           (record { sums = r.read.two.two.sums; exponents = r.read.two.two.exponents; fits = r.read.two.two.fits; written = r.read.two.two.written }))
 
       at : (e : CheckError) → refusals.Overflow x ≡ of_check e → IsContainmentRefusal v.1.0 (generators_of v.1.1) e → ⊥
@@ -419,7 +423,8 @@ module _ (n : ℕ) (fs : List Terms) (inside : AreInVariables n fs) (two : AreBi
 
 module _ (source : List ℕ) (b : BeginsPlainly source) where
   fan_source_never : (x : Overflow) → IsRefusedOn (intersection_by false) (source ∷ []) (refusals.Overflow x) → ⊥
-  fan_source_never x (IsRefusedOn.in_text e h q) = set_text_never source b false x (subst (λ d. IsTextRefused (ring_set_vector false) source d) (tells_text e x q) h)
+  fan_source_never x (IsRefusedOn.in_text e h q) =
+      set_text_never source b false x (subst (λ d. IsTextRefused (ring_set_vector false) source d) (tells_text e x q) h)
   fan_source_never x (IsRefusedOn.behind_text v r (IsUnanswered.in_form (inl f))) = f
   fan_source_never x (IsRefusedOn.behind_text v r (IsUnanswered.in_form (inr (k, inl f)))) = f
   fan_source_never x (IsRefusedOn.behind_text v r (IsUnanswered.in_form (inr (k, inr (l, f))))) = f
@@ -430,7 +435,8 @@ module _ (source : List ℕ) (b : BeginsPlainly source) where
   fan_source_never x (IsRefusedOn.no_memory m) = cc
 
   test_source_never : (x : Overflow) → IsRefusedOn (intersection_by true) (source ∷ []) (refusals.Overflow x) → ⊥
-  test_source_never x (IsRefusedOn.in_text e h q) = set_text_never source b false x (subst (λ d. IsTextRefused (ring_set_vector false) source d) (tells_text e x q) h)
+  test_source_never x (IsRefusedOn.in_text e h q) =
+      set_text_never source b false x (subst (λ d. IsTextRefused (ring_set_vector false) source d) (tells_text e x q) h)
   test_source_never x (IsRefusedOn.behind_text v r (IsUnanswered.in_form (inl f))) = f
   test_source_never x (IsRefusedOn.behind_text v r (IsUnanswered.in_form (inr (k, inl f)))) = f
   test_source_never x (IsRefusedOn.behind_text v r (IsUnanswered.in_form (inr (k, inr (l, f))))) = f

@@ -1,5 +1,6 @@
 -- How a run ends: with which names its refusal is told, and that a list comes to its limit where it goes on past it.
--- To cite: words_named, unloaded_named, unnamed_loaded, told_loaded, one_told, turns_done, turns_refused, turns_told, takes_turns; limit_not_done, limit_told, of_no_source.
+-- To cite: words_named, unloaded_named, unnamed_loaded, told_loaded, one_told, turns_done, turns_refused, turns_told, takes_turns; limit_not_done, limit_told,
+-- of_no_source.
 -- The rest are steps.
 use Rattle.std.specs.Prelude.{◌≡◌, ◌⊎◌, ℕ, List, [], ◌∷◌, Option, None, Some, IfSome}
 use Rattle.std.proofs.Common.{sym, ap, ◌∙◌, subst, inl, inr, ◌≡◌, List, ℕ, Option, None, Some}
@@ -42,7 +43,8 @@ outside_named _ h = λ lent is. tt
 pub unloaded_named : (os : List Origin) (p q : Seen) (r : Refusal) → AreUnloaded os p q r → IsNamedBy None r
 unloaded_named os p q r u = outside_named r (unloaded_outside os p q r u)
 
-unnamed_input : (words : List (List ℕ)) (bytes : List ℕ → Option (List ℕ)) (left leaves : Option (List ℕ)) (given gives : ℕ) (e : Refused) → IsUnnamed e → IsOfSources words bytes left leaves given gives e
+unnamed_input : (words : List (List ℕ)) (bytes : List ℕ → Option (List ℕ)) (left leaves : Option (List ℕ)) (given gives : ℕ) (e : Refused) → IsUnnamed e →
+    IsOfSources words bytes left leaves given gives e
 unnamed_input words bytes left leaves given gives e u = record {
   named = subst (λ ring. IsNamedBy ring e.refusal) (sym u.ring) u.named;
   ring = subst (λ ring. IfSome ring (λ names. IsRingOfInput left leaves given gives names ⊎ IsRingOfFile words bytes names)) (sym u.ring) tt;
@@ -77,9 +79,11 @@ module _ (words : List (List ℕ)) where
   of_input p m q source e l same h = record { named = h.named; ring = at e.ring h.ring }
     where
       whole : ReadWhole p.input.left q.input.left p.input.given q.input.given source
-      whole = subst (λ (x : Seen). ReadWhole p.input.left x.input.left p.input.given x.input.given source) (sym same) (record { took = l.took; end = l.end; short = l.short })
+      whole = subst (λ (x : Seen). ReadWhole p.input.left x.input.left p.input.given x.input.given source) (sym same)
+          (record { took = l.took; end = l.end; short = l.short })
 
-      at : (ring : Option (List (List ℕ))) → IfSome ring (IsRingOf source) → IfSome ring (λ names. IsRingOfInput p.input.left q.input.left p.input.given q.input.given names ⊎ IsRingOfFile words p.files.bytes names)
+      at : (ring : Option (List (List ℕ))) → IfSome ring (IsRingOf source) →
+          IfSome ring (λ names. IsRingOfInput p.input.left q.input.left p.input.given q.input.given names ⊎ IsRingOfFile words p.files.bytes names)
       at None x = tt
       at (Some names) x = inl (record { source = source; read = whole; ring = x })
 
@@ -87,22 +91,28 @@ module _ (words : List (List ℕ)) where
       IsOfSources words p.files.bytes p.input.left q.input.left p.input.given q.input.given e
   told_loaded [] p q texts e l h = unnamed_input words p.files.bytes p.input.left q.input.left p.input.given q.input.given e h
   told_loaded (Origin.a_file name ∷ []) p q texts e l h = unnamed_input words p.files.bytes p.input.left q.input.left p.input.given q.input.given e h
-  told_loaded (Origin.a_file name ∷ (Origin.a_file other ∷ [])) p q texts e l h = unnamed_input words p.files.bytes p.input.left q.input.left p.input.given q.input.given e h
-  told_loaded (Origin.a_file name ∷ (Origin.a_file other ∷ (Origin.a_file third ∷ os))) p q texts e l h = unnamed_input words p.files.bytes p.input.left q.input.left p.input.given q.input.given e h
-  told_loaded (Origin.a_file name ∷ (Origin.a_file other ∷ (Origin.the_input ∷ (o ∷ os)))) p q texts e l h = unnamed_input words p.files.bytes p.input.left q.input.left p.input.given q.input.given e h
+  told_loaded (Origin.a_file name ∷ (Origin.a_file other ∷ [])) p q texts e l h =
+      unnamed_input words p.files.bytes p.input.left q.input.left p.input.given q.input.given e h
+  told_loaded (Origin.a_file name ∷ (Origin.a_file other ∷ (Origin.a_file third ∷ os))) p q texts e l h =
+      unnamed_input words p.files.bytes p.input.left q.input.left p.input.given q.input.given e h
+  told_loaded (Origin.a_file name ∷ (Origin.a_file other ∷ (Origin.the_input ∷ (o ∷ os)))) p q texts e l h =
+      unnamed_input words p.files.bytes p.input.left q.input.left p.input.given q.input.given e h
   told_loaded (Origin.a_file name ∷ (Origin.a_file other ∷ (Origin.the_input ∷ []))) p q [] e l h = absurd l
   told_loaded (Origin.a_file name ∷ (Origin.a_file other ∷ (Origin.the_input ∷ []))) p q (file ∷ []) e l h = absurd l.2
   told_loaded (Origin.a_file name ∷ (Origin.a_file other ∷ (Origin.the_input ∷ []))) p q (file ∷ (second ∷ [])) e l h = absurd l.2.2
   told_loaded (Origin.a_file name ∷ (Origin.a_file other ∷ (Origin.the_input ∷ []))) p q (file ∷ (second ∷ (source ∷ []))) e l h =
       subst (λ (z : List ℕ → Option (List ℕ)). IsOfSources words z p.input.left q.input.left p.input.given q.input.given e) (l.2.1.kept ∙ l.1.kept)
-      (subst (λ (i : InputSeen). IsOfSources words l.2.0.files.bytes i.left q.input.left i.given q.input.given e) (l.2.1.input ∙ l.1.input) (of_input l.2.0 l.2.2.0 q source e l.2.2.1 l.2.2.2 h))
+      (subst (λ (i : InputSeen). IsOfSources words l.2.0.files.bytes i.left q.input.left i.given q.input.given e)
+      (l.2.1.input ∙ l.1.input) (of_input l.2.0 l.2.2.0 q source e l.2.2.1 l.2.2.2 h))
   told_loaded (Origin.a_file name ∷ (Origin.a_file other ∷ (Origin.the_input ∷ []))) p q (file ∷ (second ∷ (source ∷ (more ∷ others)))) e l h = absurd l.2.2.2
-  told_loaded (Origin.a_file name ∷ (Origin.the_input ∷ (o ∷ os))) p q texts e l h = unnamed_input words p.files.bytes p.input.left q.input.left p.input.given q.input.given e h
+  told_loaded (Origin.a_file name ∷ (Origin.the_input ∷ (o ∷ os))) p q texts e l h =
+      unnamed_input words p.files.bytes p.input.left q.input.left p.input.given q.input.given e h
   told_loaded (Origin.a_file name ∷ (Origin.the_input ∷ [])) p q [] e l h = absurd l
   told_loaded (Origin.a_file name ∷ (Origin.the_input ∷ [])) p q (file ∷ []) e l h = absurd l.2
   told_loaded (Origin.a_file name ∷ (Origin.the_input ∷ [])) p q (file ∷ (source ∷ [])) e l h =
       subst (λ (z : List ℕ → Option (List ℕ)). IsOfSources words z p.input.left q.input.left p.input.given q.input.given e) l.1.kept
-      (subst (λ (i : InputSeen). IsOfSources words l.0.files.bytes i.left q.input.left i.given q.input.given e) l.1.input (of_input l.0 l.2.0 q source e l.2.1 l.2.2 h))
+      (subst (λ (i : InputSeen). IsOfSources words l.0.files.bytes i.left q.input.left i.given q.input.given e) l.1.input
+      (of_input l.0 l.2.0 q source e l.2.1 l.2.2 h))
   told_loaded (Origin.a_file name ∷ (Origin.the_input ∷ [])) p q (file ∷ (source ∷ (other ∷ others))) e l h = absurd l.2.2
   told_loaded (Origin.the_input ∷ (o ∷ os)) p q texts e l h = unnamed_input words p.files.bytes p.input.left q.input.left p.input.given q.input.given e h
   told_loaded (Origin.the_input ∷ []) p q [] e l h = absurd l
@@ -110,27 +120,35 @@ module _ (words : List (List ℕ)) where
   told_loaded (Origin.the_input ∷ []) p q (source ∷ (other ∷ others)) e l h = absurd l.2
 
   -- the ring of the text is that of the one file that the job reads
-  told_of_file : (job : Job) (name : List ℕ) (p m q : Seen) (source : List ℕ) (e : Refused) → IsJobOf words job → (command_of job).reads ≡ Origin.a_file name ∷ [] →
-      AreLoaded (Origin.a_file name ∷ []) p m (source ∷ []) → IsOfSource source e → IsOfSources words p.files.bytes p.input.left q.input.left p.input.given q.input.given e
+  told_of_file : (job : Job) (name : List ℕ) (p m q : Seen) (source : List ℕ) (e : Refused) → IsJobOf words job →
+      (command_of job).reads ≡ Origin.a_file name ∷ [] → AreLoaded (Origin.a_file name ∷ []) p m (source ∷ []) → IsOfSource source e →
+      IsOfSources words p.files.bytes p.input.left q.input.left p.input.given q.input.given e
   told_of_file job name p m q source e asked reads l h = record { named = h.named; ring = at e.ring h.ring }
     where
-      at : (ring : Option (List (List ℕ))) → IfSome ring (IsRingOf source) → IfSome ring (λ names. IsRingOfInput p.input.left q.input.left p.input.given q.input.given names ⊎ IsRingOfFile words p.files.bytes names)
+      at : (ring : Option (List (List ℕ))) → IfSome ring (IsRingOf source) →
+          IfSome ring (λ names. IsRingOfInput p.input.left q.input.left p.input.given q.input.given names ⊎ IsRingOfFile words p.files.bytes names)
       at None x = tt
       at (Some names) x = inr (record { job = job; asked = asked; name = name; reads = reads; source = source; is = l.1.is; ring = x })
 
 -- ---- in turns
 
 -- a job that takes turns, from the text of its file on
-module _ (words : List (List ℕ)) (p m q : Seen) (o s : OutputSeen) (job : Job) (options : InteractiveOptions) (source : List ℕ) (texts : List (List ℕ)) (asked : IsJobOf words job) (is : job ≡ jobs.Interactive options)
+module _ (words : List (List ℕ)) (p m q : Seen) (o s : OutputSeen) (job : Job) (options : InteractiveOptions) (source : List ℕ) (texts : List (List ℕ))
+    (asked : IsJobOf words job) (is : job ≡ jobs.Interactive options)
     (loaded : AreLoaded (command_of job).reads p m texts) (alone : texts ≡ source ∷ []) (files : q.files ≡ m.files) where
   own_loaded : AreLoaded (Origin.a_file options.file ∷ []) p m (source ∷ [])
   own_loaded = subst (λ ts. AreLoaded (Origin.a_file options.file ∷ []) p m ts) alone (subst (λ j. AreLoaded (command_of j).reads p m texts) is loaded)
 
   pub turns_done : IsConversed source m.input q.input o s → IsRunDone command_of words p q o s
-  turns_done c = record { job = job; asked = asked; done = subst (λ j. IsDoneBy (command_of j) p q o s) (sym is) (conversed_done options.file options.pairs p q m o s source own_loaded files c) }
+  turns_done c = record {
+    job = job;
+    asked = asked;
+    done = subst (λ j. IsDoneBy (command_of j) p q o s) (sym is) (conversed_done options.file options.pairs p q m o s source own_loaded files c);
+  }
 
   pub turns_refused : (r : Refusal) → IsNotConversed options.file options.pairs source m.input q.input o s r → IsRunRefused command_of words p q o s r
-  turns_refused r c = IsRunRefused.of_job job asked (subst (λ j. IsStoppedBy (command_of j) p q o s r) (sym is) (conversed_stopped options.file options.pairs p q m o s source own_loaded files r c))
+  turns_refused r c = IsRunRefused.of_job job asked (subst (λ j. IsStoppedBy (command_of j) p q o s r) (sym is)
+      (conversed_stopped options.file options.pairs p q m o s source own_loaded files r c))
 
   pub turns_told : (e : Refused) → IsOfSource source e → IsOfSources words p.files.bytes p.input.left q.input.left p.input.given q.input.given e
   turns_told e h = told_of_file words job options.file p m q source e asked (ap (λ j. (command_of j).reads) is) own_loaded h
@@ -145,17 +163,20 @@ past_alone : (job : Job) (texts : List (List ℕ)) (most : ℕ) → IsPastReach 
 past_alone (jobs.Bases o) texts most p t = from_alone o.after o.within o.from_basis (list_options o) t
 past_alone _ texts most p t = p
 
-answered_done : (c : Command) (writing : Writing c.Value) (texts : List (List ℕ)) (m q : Seen) (o s : OutputSeen) → (TakesTurns writing → ⊥) → IsCarriedOut c writing texts m q o s → (text : List ℕ) × IsAnswered c texts text
+answered_done : (c : Command) (writing : Writing c.Value) (texts : List (List ℕ)) (m q : Seen) (o s : OutputSeen) → (TakesTurns writing → ⊥) →
+    IsCarriedOut c writing texts m q o s → (text : List ℕ) × IsAnswered c texts text
 answered_done c Writing.at_end texts m q o s n g = (g.1.0, g.1.1)
 answered_done c (Writing.as_it_goes whole begun) texts m q o s n g = (g.1.0, g.1.1)
 answered_done c (Writing.in_turns turns) texts m q o s n g = absurd (n tt)
 
-not_cut : {A : Type 0} (c : Command) (writing : Writing c.Value) (texts : List (List ℕ)) (m q : Seen) (o s : OutputSeen) (r : Refusal) → (TakesTurns writing → ⊥) → AreCut c writing texts m q o s r → A
+not_cut : {A : Type 0} (c : Command) (writing : Writing c.Value) (texts : List (List ℕ)) (m q : Seen) (o s : OutputSeen) (r : Refusal) →
+    (TakesTurns writing → ⊥) → AreCut c writing texts m q o s r → A
 not_cut c Writing.at_end texts m q o s r n k = absurd k
 not_cut c (Writing.as_it_goes whole begun) texts m q o s r n k = absurd k
 not_cut c (Writing.in_turns turns) texts m q o s r n k = absurd (n tt)
 
-module _ (words : List (List ℕ)) (p q : Seen) (o s : OutputSeen) (job : Job) (texts : List (List ℕ)) (most : ℕ) (asked : IsJobOf words job) (given : AreGivenTexts (command_of job) p q texts) (past : IsPastReach job texts most) where
+module _ (words : List (List ℕ)) (p q : Seen) (o s : OutputSeen) (job : Job) (texts : List (List ℕ)) (most : ℕ) (asked : IsJobOf words job)
+    (given : AreGivenTexts (command_of job) p q texts) (past : IsPastReach job texts most) where
   same_texts : (us : List (List ℕ)) (m : Seen) → AreLoaded (command_of job).reads p m us → us ≡ texts
   same_texts us m l = loaded_known (command_of job).reads p q m texts us (lawful job).input given.known l
 
@@ -177,7 +198,8 @@ module _ (words : List (List ℕ)) (p q : Seen) (o s : OutputSeen) (job : Job) (
   told d (inl e) = inl (ap (λ x. statuses.Refused x) e)
   told d (inr e) = inr (ap (λ x. statuses.Refused x) e)
 
-  pub limit_told : (d : Refusal) → (Rose o.faults s.faults → ⊥) → IsRunRefused command_of words p q o s d → IsRefusedWith (statuses.Refused d) (refusals.ListLimit most)
+  pub limit_told : (d : Refusal) → (Rose o.faults s.faults → ⊥) → IsRunRefused command_of words p q o s d →
+      IsRefusedWith (statuses.Refused d) (refusals.ListLimit most)
   limit_told d n h = elim (stopped_as command_of lawful words p q o s job d asked h) [
     | inl k ↦ told d (stopped d n k)
     | inr m ↦ told d (inr m.0)
@@ -185,5 +207,6 @@ module _ (words : List (List ℕ)) (p q : Seen) (o s : OutputSeen) (job : Job) (
 
 -- ---- a refusal that is told without a ring
 
-pub of_no_source : (words : List (List ℕ)) (bytes : List ℕ → Option (List ℕ)) (left leaves : Option (List ℕ)) (given gives : ℕ) (r : Refusal) → IsNamedBy None r → IsOfSources words bytes left leaves given gives (without_names r)
+pub of_no_source : (words : List (List ℕ)) (bytes : List ℕ → Option (List ℕ)) (left leaves : Option (List ℕ)) (given gives : ℕ) (r : Refusal) →
+    IsNamedBy None r → IsOfSources words bytes left leaves given gives (without_names r)
 of_no_source words bytes left leaves given gives r h = record { named = h; ring = tt }

@@ -40,6 +40,11 @@ pub certificates_hold : CertificatesHold
 certificates_hold = record {
   of_lists = certified_list;
   of_answers = λ from_basis o workers source text certified a.
-      let s = list_of_source from_basis o workers source text a in
-      (s.ring, s.ideal, s.read, certified_list o.limit s.ring s.ideal text s.inside (subst (λ c. IsTextOfBases c o.limit s.ring s.ideal text) certified s.is_list));
+      let s = list_of_source from_basis o workers source text a in (
+        s.ring,
+        s.ideal,
+        s.read,
+        certified_list o.limit s.ring s.ideal text s.inside (subst (λ c. IsTextOfBases c o.limit s.ring s.ideal text)
+            certified s.is_list),
+      );
 }

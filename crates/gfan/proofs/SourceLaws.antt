@@ -43,7 +43,8 @@ pub texts_length : (ts : List (Vec ℕ Global)) → length (texts_of ts) ≡ len
 texts_length [] = refl
 texts_length (t ∷ ts) = let e = texts_length ts in omega (arith, e)
 
-pub two_alone : (ts : List (Vec ℕ Global)) (x y : Vec ℕ Global) (a b : List ℕ) → length ts ≡ 2 → x ≡ get_or ts 0 x → y ≡ get_or ts 1 y → a ≡ x.items → b ≡ y.items → a ∷ (b ∷ []) ≡ texts_of ts
+pub two_alone : (ts : List (Vec ℕ Global)) (x y : Vec ℕ Global) (a b : List ℕ) → length ts ≡ 2 → x ≡ get_or ts 0 x → y ≡ get_or ts 1 y → a ≡ x.items →
+    b ≡ y.items → a ∷ (b ∷ []) ≡ texts_of ts
 two_alone [] x y a b e i j p q = absurd (omega (arith, e))
 two_alone (t ∷ []) x y a b e i j p q = absurd (omega (arith, e))
 two_alone (t ∷ (u ∷ [])) x y a b e i j p q =
@@ -51,7 +52,8 @@ two_alone (t ∷ (u ∷ [])) x y a b e i j p q =
     ∙ ap (λ (z : List ℕ). t.items ∷ (z ∷ [])) (q ∙ ap (λ (v : Vec ℕ Global). v.items) j)
 two_alone (t ∷ (u ∷ (v ∷ vs))) x y a b e i j p q = absurd (omega (arith, e))
 
-three_alone : (ts : List (Vec ℕ Global)) (x y z : Vec ℕ Global) (a b c : List ℕ) → length ts ≡ 3 → x ≡ get_or ts 0 x → y ≡ get_or ts 1 y → z ≡ get_or ts 2 z → a ≡ x.items → b ≡ y.items → c ≡ z.items → a ∷ (b ∷ (c ∷ [])) ≡ texts_of ts
+three_alone : (ts : List (Vec ℕ Global)) (x y z : Vec ℕ Global) (a b c : List ℕ) → length ts ≡ 3 → x ≡ get_or ts 0 x → y ≡ get_or ts 1 y → z ≡ get_or ts 2 z →
+    a ≡ x.items → b ≡ y.items → c ≡ z.items → a ∷ (b ∷ (c ∷ [])) ≡ texts_of ts
 three_alone [] x y z a b c e i j k p q r = absurd (omega (arith, e))
 three_alone (t ∷ []) x y z a b c e i j k p q r = absurd (omega (arith, e))
 three_alone (t ∷ (u ∷ [])) x y z a b c e i j k p q r = absurd (omega (arith, e))
@@ -70,10 +72,12 @@ pub one_as : (P : List (List ℕ) → Type 0) (job : Job) (ts : List (Vec ℕ Gl
 one_as P job ts x a r l i p h = subst P (one_alone ts x a (l ∙ ap length r) i p) h
 
 -- a list from its first basis on is that in its region
-whole_as : (P : Command → List (List ℕ) → Type 0) (o : BasesOptions) (texts : List (List ℕ)) → o.after ≡ None → P (bases_of o.within o.from_basis (list_options o)) texts → P (command_of (jobs.Bases o)) texts
+whole_as : (P : Command → List (List ℕ) → Type 0) (o : BasesOptions) (texts : List (List ℕ)) → o.after ≡ None →
+    P (bases_of o.within o.from_basis (list_options o)) texts → P (command_of (jobs.Bases o)) texts
 whole_as P o texts z h = subst (λ a. P (list_of a o.within o.from_basis (list_options o)) texts) (sym z) h
 
-whole_length : (o : BasesOptions) (ts : List (Vec ℕ Global)) → o.after ≡ None → length ts ≡ length (command_of (jobs.Bases o)).reads → length ts ≡ length (bases_of o.within o.from_basis (list_options o)).reads
+whole_length : (o : BasesOptions) (ts : List (Vec ℕ Global)) → o.after ≡ None → length ts ≡ length (command_of (jobs.Bases o)).reads →
+    length ts ≡ length (bases_of o.within o.from_basis (list_options o)).reads
 whole_length o ts z l = subst (λ a. length ts ≡ length (list_of a o.within o.from_basis (list_options o)).reads) z l
 
 -- the list for all positive weights has one
@@ -83,7 +87,8 @@ pub list_as : (P : Command → List (List ℕ) → Type 0) (o : BasesOptions) (f
 list_as P o from_basis ts x a z e f l i p h =
     let there : P (bases_of o.within o.from_basis (list_options o)) (a ∷ []) =
     subst (λ w. P (bases_of w o.from_basis (list_options o)) (a ∷ [])) (sym e) (subst (λ b. P (list_command b (list_options o)) (a ∷ [])) (sym f) h) in
-    let long : length ts ≡ 1 = subst (λ w. length ts ≡ length (bases_of w o.from_basis (list_options o)).reads) e (whole_length o ts z l) ∙ ap length (list_source o.from_basis (list_options o)) in
+    let long : length ts ≡ 1 = subst (λ w. length ts ≡ length (bases_of w o.from_basis (list_options o)).reads) e (whole_length o ts z l) ∙ ap length
+    (list_source o.from_basis (list_options o)) in
     whole_as P o (texts_of ts) z (subst (P (bases_of o.within o.from_basis (list_options o))) (one_alone ts x a long i p) there)
 
 within_sources : (name : List ℕ) (from_basis : Bool) (o : ListOptions) → (within_command name from_basis o).reads ≡ Origin.a_file name ∷ (Origin.the_input ∷ [])
@@ -91,40 +96,54 @@ within_sources name false o = refl
 within_sources name true o = refl
 
 -- that in a region has two
-pub within_as : (P : Command → List (List ℕ) → Type 0) (o : BasesOptions) (name : List ℕ) (from_basis : Bool) (ts : List (Vec ℕ Global)) (x y : Vec ℕ Global) (a b : List ℕ)
-    → o.after ≡ None → o.within ≡ Some name → o.from_basis ≡ from_basis → length ts ≡ length (command_of (jobs.Bases o)).reads → x ≡ get_or ts 0 x → y ≡ get_or ts 1 y → a ≡ x.items → b ≡ y.items
+pub within_as : (P : Command → List (List ℕ) → Type 0) (o : BasesOptions) (name : List ℕ) (from_basis : Bool) (ts : List (Vec ℕ Global)) (x y : Vec ℕ Global)
+    (a b : List ℕ)
+    → o.after ≡ None → o.within ≡ Some name → o.from_basis ≡ from_basis → length ts ≡ length (command_of (jobs.Bases o)).reads → x ≡ get_or ts 0 x →
+    y ≡ get_or ts 1 y → a ≡ x.items → b ≡ y.items
     → P (within_command name from_basis (list_options o)) (a ∷ (b ∷ [])) → P (command_of (jobs.Bases o)) (texts_of ts)
 within_as P o name from_basis ts x y a b z e f l i j p q h =
     let there : P (bases_of o.within o.from_basis (list_options o)) (a ∷ (b ∷ [])) =
-    subst (λ w. P (bases_of w o.from_basis (list_options o)) (a ∷ (b ∷ []))) (sym e) (subst (λ z. P (within_command name z (list_options o)) (a ∷ (b ∷ []))) (sym f) h) in
-    let long : length ts ≡ 2 = subst (λ w. length ts ≡ length (bases_of w o.from_basis (list_options o)).reads) e (whole_length o ts z l) ∙ ap length (within_sources name o.from_basis (list_options o)) in
+    subst (λ w. P (bases_of w o.from_basis (list_options o)) (a ∷ (b ∷ []))) (sym e)
+    (subst (λ z. P (within_command name z (list_options o)) (a ∷ (b ∷ []))) (sym f) h) in
+    let long : length ts ≡ 2 = subst (λ w. length ts ≡ length (bases_of w o.from_basis (list_options o)).reads) e (whole_length o ts z l) ∙ ap length
+    (within_sources name o.from_basis (list_options o)) in
     whole_as P o (texts_of ts) z (subst (P (bases_of o.within o.from_basis (list_options o))) (two_alone ts x y a b long i j p q) there)
 
 -- the list behind the basis of a file
-behind_as : (P : Command → List (List ℕ) → Type 0) (o : BasesOptions) (name : List ℕ) (within : Option (List ℕ)) (from_basis : Bool) (texts : List (List ℕ)) → o.after ≡ Some name → o.within ≡ within → o.from_basis ≡ from_basis →
-    P (list_of (Some name) within from_basis (list_options o)) texts → P (command_of (jobs.Bases o)) texts
+behind_as : (P : Command → List (List ℕ) → Type 0) (o : BasesOptions) (name : List ℕ) (within : Option (List ℕ)) (from_basis : Bool) (texts : List (List ℕ)) →
+    o.after ≡ Some name → o.within ≡ within → o.from_basis ≡ from_basis → P (list_of (Some name) within from_basis (list_options o)) texts →
+    P (command_of (jobs.Bases o)) texts
 behind_as P o name within from_basis texts z e f h =
     subst (λ a. P (list_of a o.within o.from_basis (list_options o)) texts) (sym z)
-    (subst (λ w. P (list_of (Some name) w o.from_basis (list_options o)) texts) (sym e) (subst (λ b. P (list_of (Some name) within b (list_options o)) texts) (sym f) h))
+    (subst (λ w. P (list_of (Some name) w o.from_basis (list_options o)) texts) (sym e) (subst (λ b. P (list_of (Some name) within b (list_options o)) texts)
+    (sym f) h))
 
-behind_length : (o : BasesOptions) (name : List ℕ) (within : Option (List ℕ)) (ts : List (Vec ℕ Global)) → o.after ≡ Some name → o.within ≡ within → length ts ≡ length (command_of (jobs.Bases o)).reads → length ts ≡ length (after_sources within name)
+behind_length : (o : BasesOptions) (name : List ℕ) (within : Option (List ℕ)) (ts : List (Vec ℕ Global)) → o.after ≡ Some name → o.within ≡ within →
+    length ts ≡ length (command_of (jobs.Bases o)).reads → length ts ≡ length (after_sources within name)
 behind_length o name within ts z e l =
-    subst (λ w. length ts ≡ length (list_of (Some name) w o.from_basis (list_options o)).reads) e (subst (λ a. length ts ≡ length (list_of a o.within o.from_basis (list_options o)).reads) z l)
+    subst (λ w. length ts ≡ length (list_of (Some name) w o.from_basis (list_options o)).reads) e
+    (subst (λ a. length ts ≡ length (list_of a o.within o.from_basis (list_options o)).reads) z l)
 
 -- has two, for all positive weights
-pub after_as : (P : Command → List (List ℕ) → Type 0) (o : BasesOptions) (name : List ℕ) (from_basis : Bool) (ts : List (Vec ℕ Global)) (x y : Vec ℕ Global) (a b : List ℕ)
-    → o.after ≡ Some name → o.within ≡ None → o.from_basis ≡ from_basis → length ts ≡ length (command_of (jobs.Bases o)).reads → x ≡ get_or ts 0 x → y ≡ get_or ts 1 y → a ≡ x.items → b ≡ y.items
+pub after_as : (P : Command → List (List ℕ) → Type 0) (o : BasesOptions) (name : List ℕ) (from_basis : Bool) (ts : List (Vec ℕ Global)) (x y : Vec ℕ Global)
+    (a b : List ℕ)
+    → o.after ≡ Some name → o.within ≡ None → o.from_basis ≡ from_basis → length ts ≡ length (command_of (jobs.Bases o)).reads → x ≡ get_or ts 0 x →
+    y ≡ get_or ts 1 y → a ≡ x.items → b ≡ y.items
     → P (after_command from_basis false (after_sources None name) (list_options o)) (a ∷ (b ∷ [])) → P (command_of (jobs.Bases o)) (texts_of ts)
 after_as P o name from_basis ts x y a b z e f l i j p q h =
-    subst (P (command_of (jobs.Bases o))) (two_alone ts x y a b (behind_length o name None ts z e l) i j p q) (behind_as P o name None from_basis (a ∷ (b ∷ [])) z e f h)
+    subst (P (command_of (jobs.Bases o))) (two_alone ts x y a b (behind_length o name None ts z e l) i j p q)
+    (behind_as P o name None from_basis (a ∷ (b ∷ [])) z e f h)
 
 -- and three in a region
-pub after_within_as : (P : Command → List (List ℕ) → Type 0) (o : BasesOptions) (name within : List ℕ) (from_basis : Bool) (ts : List (Vec ℕ Global)) (x y w : Vec ℕ Global) (a b c : List ℕ)
-    → o.after ≡ Some name → o.within ≡ Some within → o.from_basis ≡ from_basis → length ts ≡ length (command_of (jobs.Bases o)).reads → x ≡ get_or ts 0 x → y ≡ get_or ts 1 y → w ≡ get_or ts 2 w
+pub after_within_as : (P : Command → List (List ℕ) → Type 0) (o : BasesOptions) (name within : List ℕ) (from_basis : Bool) (ts : List (Vec ℕ Global))
+    (x y w : Vec ℕ Global) (a b c : List ℕ)
+    → o.after ≡ Some name → o.within ≡ Some within → o.from_basis ≡ from_basis → length ts ≡ length (command_of (jobs.Bases o)).reads → x ≡ get_or ts 0 x →
+    y ≡ get_or ts 1 y → w ≡ get_or ts 2 w
     → a ≡ x.items → b ≡ y.items → c ≡ w.items
     → P (after_command from_basis true (after_sources (Some within) name) (list_options o)) (a ∷ (b ∷ (c ∷ []))) → P (command_of (jobs.Bases o)) (texts_of ts)
 after_within_as P o name within from_basis ts x y w a b c z e f l i j k p q r h =
-    subst (P (command_of (jobs.Bases o))) (three_alone ts x y w a b c (behind_length o name (Some within) ts z e l) i j k p q r) (behind_as P o name (Some within) from_basis (a ∷ (b ∷ (c ∷ []))) z e f h)
+    subst (P (command_of (jobs.Bases o))) (three_alone ts x y w a b c (behind_length o name (Some within) ts z e l) i j k p q r)
+    (behind_as P o name (Some within) from_basis (a ∷ (b ∷ (c ∷ []))) z e f h)
 
 -- a job on two files has two
 pub two_as : (P : Command → List (List ℕ) → Type 0) (job : Job) (o : FanCommonRefinementOptions) (ts : List (Vec ℕ Global)) (x y : Vec ℕ Global) (a b : List ℕ)
@@ -139,7 +158,8 @@ none_alone : (ts : List (Vec ℕ Global)) → length ts ≡ 0 → [] ≡ texts_o
 none_alone [] e = refl
 none_alone (t ∷ ts) e = absurd (omega (arith, e))
 
-pub none_as : (P : Command → List (List ℕ) → Type 0) (job : Job) (o : GeneratedOptions) (ts : List (Vec ℕ Global)) → job ≡ jobs.Generated o → length ts ≡ length (command_of job).reads
+pub none_as : (P : Command → List (List ℕ) → Type 0) (job : Job) (o : GeneratedOptions) (ts : List (Vec ℕ Global)) → job ≡ jobs.Generated o →
+    length ts ≡ length (command_of job).reads
     → P (generated_command o) [] → P (command_of job) (texts_of ts)
 none_as P job o ts e l h =
     subst (P (command_of job)) (none_alone ts (subst (λ k. length ts ≡ length (command_of k).reads) e l))

@@ -32,7 +32,8 @@ pub record HasCertificates (ring : List (List ℕ)) (fs : List Terms) (b : Marke
   pub reduced : IsReducedBasis (length ring) fs (gains weight) b.items
   pub rises : Ascends (normals_of facets)
   pub exactly : (a : List ℤ) → Contains (normals_of facets) a ↔ IsFlippable (length ring) (all_positive (length ring)) b.items a
-  pub inside : (f : FacetWitness) → Contains facets f → IsInRegion (length ring) (all_positive (length ring)) f.witness × IsInsideFacet b.items f.normal f.witness
+  pub inside : (f : FacetWitness) → Contains facets f → IsInRegion (length ring) (all_positive (length ring)) f.witness × IsInsideFacet b.items f.normal
+      f.witness
 
 -- the text is that of the basis b of the ideal of fs, followed by certificates in the region k. The weight is in the region, and b is the
 -- reduced basis of the ideal for it. The facets are exactly those that a flip may cross in the region, in ascending order of their normals.
@@ -49,20 +50,25 @@ pub record HasCertificatesIn (ring : List (List ℕ)) (k : Region) (fs : List Te
 
 -- the text is that of the list of all bases of the ideal of fs in a region, each followed by certificates in the region
 abbrev pub IsCertifiedListIn : List (List ℕ) → Region → List Terms → List ℕ → Type 0
-IsCertifiedListIn ring k fs text = (list : List MarkedPolynomials) × AreAllBasesIn (length ring) k fs list × ((items : List (List ℕ)) × AllZip (HasCertificatesIn ring k fs) list items × (text ≡ list_text ring items))
+IsCertifiedListIn ring k fs text = (list : List MarkedPolynomials) × AreAllBasesIn (length ring) k fs list ×
+    ((items : List (List ℕ)) × AllZip (HasCertificatesIn ring k fs) list items × (text ≡ list_text ring items))
 
 -- the text is that of the list of all bases of the ideal of fs, each followed by certificates
 abbrev pub IsCertifiedList : List (List ℕ) → List Terms → List ℕ → Type 0
-IsCertifiedList ring fs text = (list : List MarkedPolynomials) × AreAllBases (length ring) fs list × ((items : List (List ℕ)) × AllZip (HasCertificates ring fs) list items × (text ≡ list_text ring items))
+IsCertifiedList ring fs text = (list : List MarkedPolynomials) × AreAllBases (length ring) fs list × ((items : List (List ℕ)) × AllZip (HasCertificates ring fs)
+    list items × (text ≡ list_text ring items))
 
 -- each list that is written with certificates, of polynomials in the variables of the ring, has certificates in this sense; so has the
 -- output of `_bases --certificates` for each source
 pub record CertificatesHold : Type 0 where
-  pub of_lists : (limit : Option ℕ) (ring : List (List ℕ)) (fs : List Terms) (text : List ℕ) → AreInVariables (length ring) fs → IsTextOfBases true limit ring fs text → IsCertifiedList ring fs text
-  pub of_answers : (from_basis : Bool) (o : ListOptions) (workers : ℕ) (source text : List ℕ) → o.certified ≡ true → IsAnswerTo (list_job from_basis o workers) source text →
-      (ring : List (List ℕ)) × (fs : List Terms) × HasPolynomials from_basis source ring fs × IsCertifiedList ring fs text
+  pub of_lists : (limit : Option ℕ) (ring : List (List ℕ)) (fs : List Terms) (text : List ℕ) → AreInVariables (length ring) fs →
+      IsTextOfBases true limit ring fs text → IsCertifiedList ring fs text
+  pub of_answers : (from_basis : Bool) (o : ListOptions) (workers : ℕ) (source text : List ℕ) → o.certified ≡ true →
+      IsAnswerTo (list_job from_basis o workers) source text → (ring : List (List ℕ)) × (fs : List Terms) × HasPolynomials from_basis source ring fs ×
+      IsCertifiedList ring fs text
 
 -- each list in a region that is written with certificates, of polynomials in the variables of the ring, has certificates in this sense
 abbrev pub RegionCertificatesHold : Type 0
-RegionCertificatesHold = (limit : Option ℕ) (ring : List (List ℕ)) (k : Region) (fs : List Terms) (text : List ℕ) → AreInVariables (length ring) fs → IsRegion (length ring) k →
+RegionCertificatesHold = (limit : Option ℕ) (ring : List (List ℕ)) (k : Region) (fs : List Terms) (text : List ℕ) → AreInVariables (length ring) fs →
+    IsRegion (length ring) k →
     IsTextOfBasesIn true limit ring k fs text → IsCertifiedListIn ring k fs text

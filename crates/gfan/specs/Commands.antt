@@ -129,7 +129,8 @@ AreTextsPast true o texts most =
 abbrev pub AreTextsPastWithin : Bool → ListOptions → List (List ℕ) → ℕ → Type 0
 AreTextsPastWithin from_basis o [] most = ⊥
 AreTextsPastWithin false o (file ∷ texts) most =
-    (rows : List (List ℤ)) × (v : List (List ℕ) × (List Written × Option (List ℤ))) × IsTextOf vectors_alone file rows × IsReadOfOne (ring_set_vector false) texts v
+    (rows : List (List ℤ)) × (v : List (List ℕ) × (List Written × Option (List ℤ))) × IsTextOf vectors_alone file rows × IsReadOfOne (ring_set_vector false)
+    texts v
     × IsPastWithin o (length v.0) rows (generators_of v.1.0) most
 AreTextsPastWithin true o (file ∷ texts) most =
     (rows : List (List ℤ)) × (v : List (List ℕ) × MarkedPolynomials) × IsTextOf vectors_alone file rows × IsReadOfOne ring_marked_set texts v

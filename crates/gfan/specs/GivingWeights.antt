@@ -24,4 +24,5 @@ pub record HasGivingWeights (listed echoed : Bool) (source text : List ℕ) : Ty
 
 -- each output of `_weightvector` is such a text
 abbrev pub WrittenWeightsGiveBases : Type 0
-WrittenWeightsGiveBases = (listed echoed : Bool) (source text : List ℕ) → IsAnswerTo (jobs.WeightVector (record { listed = listed; echoed = echoed })) source text → HasGivingWeights listed echoed source text
+WrittenWeightsGiveBases = (listed echoed : Bool) (source text : List ℕ) → IsAnswerTo (jobs.WeightVector (record { listed = listed; echoed = echoed }))
+    source text → HasGivingWeights listed echoed source text

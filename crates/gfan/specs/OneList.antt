@@ -16,21 +16,25 @@ ListsExist = (n : ℕ) (fs : List Terms) → AreInVariables n fs → (list : Lis
 
 -- an ideal has at most one list of all its bases
 abbrev pub ListsAreOne : Type 0
-ListsAreOne = (n : ℕ) (fs : List Terms) (list other : List MarkedPolynomials) → AreInVariables n fs → AreAllBases n fs list → AreAllBases n fs other → list ≡ other
+ListsAreOne = (n : ℕ) (fs : List Terms) (list other : List MarkedPolynomials) → AreInVariables n fs → AreAllBases n fs list → AreAllBases n fs other →
+    list ≡ other
 
 -- two runs of `_bases`, both with `-g` or both without it, and both with certificates or both without, that write the whole list for the
 -- same source have written the same text. The numbers of their workers, their limits and their budgets may differ
 abbrev pub TextsAreOne : Type 0
-TextsAreOne = (from_basis : Bool) (o u : ListOptions) (workers others : ℕ) (source text same : List ℕ) → u.certified ≡ o.certified → IsAnswerTo (list_job from_basis o workers) source text →
+TextsAreOne = (from_basis : Bool) (o u : ListOptions) (workers others : ℕ) (source text same : List ℕ) → u.certified ≡ o.certified →
+    IsAnswerTo (list_job from_basis o workers) source text →
     IsAnswerTo (list_job from_basis u others) source same → text ≡ same
 
 -- an ideal has at most one list of its bases in a region
 abbrev pub RegionListsAreOne : Type 0
-RegionListsAreOne = (n : ℕ) (k : Region) (fs : List Terms) (list other : List MarkedPolynomials) → AreInVariables n fs → IsRegion n k → AreAllBasesIn n k fs list → AreAllBasesIn n k fs other → list ≡ other
+RegionListsAreOne = (n : ℕ) (k : Region) (fs : List Terms) (list other : List MarkedPolynomials) → AreInVariables n fs → IsRegion n k →
+    AreAllBasesIn n k fs list → AreAllBasesIn n k fs other → list ≡ other
 
 -- two runs of `_bases --within`, both with `-g` or both without it, and both with certificates or both without, that write the whole list
 -- for the same source and the same vectors have written the same text. The names of the file of the vectors, the limits and the budgets may
 -- differ
 abbrev pub RegionTextsAreOne : Type 0
-RegionTextsAreOne = (name other : List ℕ) (from_basis : Bool) (o u : ListOptions) (file source text same : List ℕ) → u.certified ≡ o.certified → IsAnswered (within_command name from_basis o) (file ∷ (source ∷ [])) text →
+RegionTextsAreOne = (name other : List ℕ) (from_basis : Bool) (o u : ListOptions) (file source text same : List ℕ) → u.certified ≡ o.certified →
+    IsAnswered (within_command name from_basis o) (file ∷ (source ∷ [])) text →
     IsAnswered (within_command other from_basis u) (file ∷ (source ∷ [])) same → text ≡ same

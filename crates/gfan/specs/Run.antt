@@ -36,7 +36,8 @@ pub record IsRingOfFile (words : List (List ℕ)) (bytes : List ℕ → Option (
   pub ring : IsRingOf source names
 
 -- the refusal has a message, and its ring is that of the input or of the only file that the job reads
-pub record IsOfSources (words : List (List ℕ)) (bytes : List ℕ → Option (List ℕ)) (left leaves : Option (List ℕ)) (given gives : ℕ) (refused : Refused) : Type 0 where
+pub record IsOfSources (words : List (List ℕ)) (bytes : List ℕ → Option (List ℕ)) (left leaves : Option (List ℕ)) (given gives : ℕ) (refused : Refused) :
+    Type 0 where
   pub named : IsNamedBy refused.ring refused.refusal
   pub ring : IfSome refused.ring (λ names. IsRingOfInput left leaves given gives names ⊎ IsRingOfFile words bytes names)
 
@@ -50,7 +51,8 @@ IsOfLoaded origins texts refused = IsUnnamed refused
 
 -- A prefix of the line of the refusal was appended to the sink of faults, and the whole line unless its count of faults rose. Monomials are
 -- printed with the names of the ring with which the input begins, or the only file that the job reads.
-pub record IsTold (words : List (List ℕ)) (refusal : Refusal) (bytes : List ℕ → Option (List ℕ)) (left leaves : Option (List ℕ)) (given gives : ℕ) (held holds : Option (List ℕ)) (before now : ℕ) : Type 0 where
+pub record IsTold (words : List (List ℕ)) (refusal : Refusal) (bytes : List ℕ → Option (List ℕ)) (left leaves : Option (List ℕ)) (given gives : ℕ)
+    (held holds : Option (List ℕ)) (before now : ℕ) : Type 0 where
   pub ring : Option (List (List ℕ))
   pub of_sources : IsOfSources words bytes left leaves given gives (record { refusal = refusal; ring = ring })
   pub written : WrittenAsFar held holds before now (line (names_of ring) refusal)

@@ -271,7 +271,8 @@ fn perform_list<R: Threads + Sync, K: Sink, G: Gate>(
     requires all { length texts.now ≡ length (command_of (Job.Bases given.now)).reads }
     ensures done { OnOk result (IsDoneOn (command_of (Job.Bases given.now)) (texts_of texts.now) (output_seen (K.held output.old) (K.faults output.old))
         (output_seen (K.held output.new) (K.faults output.new))) }
-    ensures stopped { IfErr result (λ e. IsStoppedOn (command_of (Job.Bases given.now)) (texts_of texts.now) (output_seen (K.held output.old) (K.faults output.old))
+    ensures stopped { IfErr result (λ e. IsStoppedOn (command_of (Job.Bases given.now)) (texts_of texts.now)
+        (output_seen (K.held output.old) (K.faults output.old))
         (output_seen (K.held output.new) (K.faults output.new)) e.refusal) }
     ensures told { IfErr result (IsOfLoaded (command_of (Job.Bases given.now)).reads (texts_of texts.now)) }
 {
@@ -314,7 +315,8 @@ fn perform_after<R: Threads + Sync, K: Sink, G: Gate>(
     requires all { length texts.now ≡ length (command_of (Job.Bases given.now)).reads }
     ensures done { OnOk result (IsDoneOn (command_of (Job.Bases given.now)) (texts_of texts.now) (output_seen (K.held output.old) (K.faults output.old))
         (output_seen (K.held output.new) (K.faults output.new))) }
-    ensures stopped { IfErr result (λ e. IsStoppedOn (command_of (Job.Bases given.now)) (texts_of texts.now) (output_seen (K.held output.old) (K.faults output.old))
+    ensures stopped { IfErr result (λ e. IsStoppedOn (command_of (Job.Bases given.now)) (texts_of texts.now)
+        (output_seen (K.held output.old) (K.faults output.old))
         (output_seen (K.held output.new) (K.faults output.new)) e.refusal) }
     ensures told { IfErr result (IsOfLoaded (command_of (Job.Bases given.now)).reads (texts_of texts.now)) }
 {

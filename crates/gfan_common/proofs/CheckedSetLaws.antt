@@ -46,14 +46,17 @@ use Rattle.gfan_common.proofs.WrittenSetLaws.{lent_names}
 -- ---- the names of the ring
 
 -- a refusal that is told with the ring of the source
-pub of_this_ring : (k : ItemKind) (ks : List ItemKind) (source : List ℕ) (ring : List (List ℕ)) (v : ItemValues k ks) (e : Refused) (r : Refusal) → IsTextOf (ring_and k ks) source (ring, v) → e.refusal ≡ r → e.ring ≡ Some ring → IsNamedBy (Some ring) r → IsOfSource source e
+pub of_this_ring : (k : ItemKind) (ks : List ItemKind) (source : List ℕ) (ring : List (List ℕ)) (v : ItemValues k ks) (e : Refused) (r : Refusal) →
+    IsTextOf (ring_and k ks) source (ring, v) → e.refusal ≡ r → e.ring ≡ Some ring → IsNamedBy (Some ring) r → IsOfSource source e
 of_this_ring k ks source ring v e r read p q h =
     let told : IsOfSource source (record { refusal = r; ring = Some ring }) = record { named = h; ring = (read.read.behind, read.read.one) } in
     subst (IsOfSource source) (λ i. record { refusal = sym p i; ring = sym q i }) told
 
-pub lent_terms : (ring : List (List ℕ)) (f : Terms) (lent : Option (Bor (List (List ℕ)))) → option_copied lent ≡ Some ring → HasVariables (length ring) f → AreNamed lent f
+pub lent_terms : (ring : List (List ℕ)) (f : Terms) (lent : Option (Bor (List (List ℕ)))) → option_copied lent ≡ Some ring → HasVariables (length ring) f →
+    AreNamed lent f
 lent_terms ring f None e h = let p : None ≡ Some ring = e in cc
-lent_terms ring f (Some b) e h = let p : Some b.now ≡ Some ring = e in let q : b.now ≡ ring = cc in subst (λ (names : List (List ℕ)). HasVariables (length names) f) (sym q) h
+lent_terms ring f (Some b) e h = let p : Some b.now ≡ Some ring = e in let q : b.now ≡ ring =
+    cc in subst (λ (names : List (List ℕ)). HasVariables (length names) f) (sym q) h
 
 -- the test names no polynomial
 pub named_test : (ring : List (List ℕ)) (s : MarkedPolynomials) (e : CheckError) → IsTestRefusal s e → IsNamedBy (Some ring) (of_check e)
@@ -66,7 +69,8 @@ named_test ring s (check_errors.Cone o) h = λ lent is. tt
 named_test ring s check_errors.Memory h = λ lent is. tt
 
 -- a check names a remainder that has the variables of the ring
-pub named_check : (P : Type 0) (k : ℕ) (ring : List (List ℕ)) (s : MarkedPolynomials) (e : CheckError) → s.variables ≡ length ring → HaveVariables s.variables s.items → IsPairedRefusal P k s e → IsNamedBy (Some ring) (of_check e)
+pub named_check : (P : Type 0) (k : ℕ) (ring : List (List ℕ)) (s : MarkedPolynomials) (e : CheckError) → s.variables ≡ length ring →
+    HaveVariables s.variables s.items → IsPairedRefusal P k s e → IsNamedBy (Some ring) (of_check e)
 named_check P k ring s (check_errors.Overflow o) q v h = λ lent is. tt
 named_check P k ring s (check_errors.Exponent o) q v h = λ lent is. tt
 named_check P k ring s (check_errors.NotReduced set i x) q v h = absurd h
@@ -135,16 +139,19 @@ s_polynomial_once b c s t p q = λ e.
     ∙ sym (coefficient-++ (times one_ℚ q.left b.poly) (times (neg_ℚ one_ℚ) q.right c.poly) e) ∙ sym (q.equal e)
   where
     left : same p.left q.left ≡ true
-    left = cancel b.head p.left q.left (same_trans (plus p.left b.head) (join b.head c.head) (plus q.left b.head) p.of_left (same_flip (plus q.left b.head) (join b.head c.head) q.of_left))
+    left = cancel b.head p.left q.left (same_trans (plus p.left b.head) (join b.head c.head) (plus q.left b.head) p.of_left
+        (same_flip (plus q.left b.head) (join b.head c.head) q.of_left))
 
     right : same p.right q.right ≡ true
-    right = cancel c.head p.right q.right (same_trans (plus p.right c.head) (join b.head c.head) (plus q.right c.head) p.of_right (same_flip (plus q.right c.head) (join b.head c.head) q.of_right))
+    right = cancel c.head p.right q.right (same_trans (plus p.right c.head) (join b.head c.head) (plus q.right c.head) p.of_right
+        (same_flip (plus q.right c.head) (join b.head c.head) q.of_right))
 
 module _ (n : ℕ) (bs : List MarkedPolynomial) (v : HaveVariables n bs) where
   remainder_once : (i j : ℕ) (r t : Terms) → IsRemainderAt bs i j r → IsRemainderAt bs i j t → r ≡ t
   remainder_once i j r t p q =
       descending_unique n r t (p.variables n v) (q.variables n v) p.descending q.descending
-      (normal_form-unique bs p.s q.s r t (s_polynomial_once p.first p.second p.s q.s p.is_s (s_at bs i j p.first p.second t q p.at_first p.at_second)) p.normal_form q.normal_form)
+      (normal_form-unique bs p.s q.s r t (s_polynomial_once p.first p.second p.s q.s p.is_s (s_at bs i j p.first p.second t q p.at_first p.at_second))
+      p.normal_form q.normal_form)
 
   vanish_apart : (i j : ℕ) (r : Terms) → IsRemainderAt bs i j r → r ≢ [] → Vanishes bs i j → ⊥
   vanish_apart i j r p z w = z (remainder_once i j r [] p w)
@@ -173,7 +180,8 @@ module _ (n : ℕ) (bs : List MarkedPolynomial) (v : HaveVariables n bs) where
       (first, second, sym (remainder_once i j r t p.first.remainder (subst (λ z. IsRemainderAt bs i z t) second other.remainder)))
 
 -- what is refused where no positive weight gives the marking, or where a pair fails, is refused so, unless numbers of the work don't fit
-pub paired_once : (P Q : Type 0) (k : ℕ) (s : MarkedPolynomials) (e d : CheckError) → HaveVariables s.variables s.items → IsOfTest (of_check e) → IsPairedRefusal P k s e → IsPairedRefusal Q k s d → TellsSame (of_check e) (of_check d) ⊎ IsOfNumbers (of_check d)
+pub paired_once : (P Q : Type 0) (k : ℕ) (s : MarkedPolynomials) (e d : CheckError) → HaveVariables s.variables s.items → IsOfTest (of_check e) →
+    IsPairedRefusal P k s e → IsPairedRefusal Q k s d → TellsSame (of_check e) (of_check d) ⊎ IsOfNumbers (of_check d)
 paired_once P Q k s (check_errors.Overflow o) d v t h g = absurd t
 paired_once P Q k s (check_errors.Exponent o) d v t h g = absurd t
 paired_once P Q k s (check_errors.NotReduced set i x) d v t h g = absurd h
@@ -198,7 +206,8 @@ paired_once P Q k s (check_errors.Cone o) d v t h g = absurd t
 paired_once P Q k s check_errors.Memory d v t h g = absurd t
 
 -- a set that isn't a basis isn't one
-pub paired_refutes : (P : Type 0) (k : ℕ) (s : MarkedPolynomials) (e : CheckError) → HaveVariables s.variables s.items → IsOfTest (of_check e) → IsPairedRefusal P k s e → IsMarkedGroebnerBasis s.variables s.items → ⊥
+pub paired_refutes : (P : Type 0) (k : ℕ) (s : MarkedPolynomials) (e : CheckError) → HaveVariables s.variables s.items → IsOfTest (of_check e) →
+    IsPairedRefusal P k s e → IsMarkedGroebnerBasis s.variables s.items → ⊥
 paired_refutes P k s (check_errors.Overflow o) v t h g = t
 paired_refutes P k s (check_errors.Exponent o) v t h g = t
 paired_refutes P k s (check_errors.NotReduced set i x) v t h g = h
@@ -215,17 +224,20 @@ each_middle P [] back x h = h.0
 each_middle P (y ∷ front) back x h = each_middle P front back x h.1
 
 -- the first of a list that offends is one monomial
-same_offending : (bs : List MarkedPolynomial) (i : ℕ) (b : MarkedPolynomial) (x y : Exponents) (front back others rest : List Exponents) → front ++ x ∷ back ≡ others ++ y ∷ rest → NoneOffends bs i b front → NoneOffends bs i b others → IsOffending bs i b x → IsOffending bs i b y → y ≡ x
+same_offending : (bs : List MarkedPolynomial) (i : ℕ) (b : MarkedPolynomial) (x y : Exponents) (front back others rest : List Exponents) →
+    front ++ x ∷ back ≡ others ++ y ∷ rest → NoneOffends bs i b front → NoneOffends bs i b others → IsOffending bs i b x → IsOffending bs i b y → y ≡ x
 same_offending bs i b x y [] back [] rest e n m o p = cc
 same_offending bs i b x y [] back (z ∷ others) rest e n m o p = let q : x ≡ z = cc in absurd (m.0 (subst (IsOffending bs i b) q o))
 same_offending bs i b x y (z ∷ front) back [] rest e n m o p = let q : y ≡ z = cc in absurd (n.0 (subst (IsOffending bs i b) q p))
-same_offending bs i b x y (z ∷ front) back (w ∷ others) rest e n m o p = let q : front ++ x ∷ back ≡ others ++ y ∷ rest = cc in same_offending bs i b x y front back others rest q n.1 m.1 o p
+same_offending bs i b x y (z ∷ front) back (w ∷ others) rest e n m o p = let q : front ++ x ∷ back ≡ others ++ y ∷ rest =
+    cc in same_offending bs i b x y front back others rest q n.1 m.1 o p
 
 offending_first : (bs : List MarkedPolynomial) (i k : ℕ) (x y : Exponents) → IsFirstOffending bs i x → IsFirstOffending bs k y → k ≡ i
 offending_first bs i k x y p q = at (cases_lt i k) (cases_lt k i)
   where
     before : (i k : ℕ) (x y : Exponents) → IsFirstOffending bs i x → IsFirstOffending bs k y → i < k → ⊥
-    before i k x y p q l = not_excluded bs i p.first.member x p.first.earlier p.first.later (printed_monomials p.first.member) p.first.printed (q.before i l p.first.member p.first.at) p.first.offends
+    before i k x y p q l = not_excluded bs i p.first.member x p.first.earlier p.first.later (printed_monomials p.first.member) p.first.printed
+        (q.before i l p.first.member p.first.at) p.first.offends
 
     at : (i < k) ⊎ (k ≤ i) → (k < i) ⊎ (i ≤ k) → k ≡ i
     at (inl m) z = absurd (before i k x y p q m)
@@ -246,10 +258,12 @@ offending_once bs i k x y p q = (e, along p.first other)
         let b : q.member ≡ p.member = members_equal bs i q.member p.member q.at p.at in
         let printed : printed_monomials p.member ≡ q.earlier ++ y ∷ q.later = ap printed_monomials (sym b) ∙ q.printed in
         same_offending bs i p.member x y p.earlier p.later q.earlier q.later (sym p.printed ∙ printed) p.none_earlier
-        (subst (λ (c : MarkedPolynomial). NoneOffends bs i c q.earlier) b q.none_earlier) p.offends (subst (λ (c : MarkedPolynomial). IsOffending bs i c y) b q.offends)
+        (subst (λ (c : MarkedPolynomial). NoneOffends bs i c q.earlier) b q.none_earlier) p.offends (subst (λ (c : MarkedPolynomial). IsOffending bs i c y)
+        b q.offends)
 
 -- a set that is refused isn't a reduced basis
-pub reduced_refutes : (k : ℕ) (s : MarkedPolynomials) (e : CheckError) → HaveVariables s.variables s.items → IsOfTest (of_check e) → IsReducedRefusal k s e → AreReduced s.items → IsMarkedGroebnerBasis s.variables s.items → ⊥
+pub reduced_refutes : (k : ℕ) (s : MarkedPolynomials) (e : CheckError) → HaveVariables s.variables s.items → IsOfTest (of_check e) → IsReducedRefusal k s e →
+    AreReduced s.items → IsMarkedGroebnerBasis s.variables s.items → ⊥
 reduced_refutes k s (check_errors.Overflow o) v t h a g = t
 reduced_refutes k s (check_errors.Exponent o) v t h a g = t
 reduced_refutes k s (check_errors.NotReduced set i x) v t h a g = no_first s.items i x a h.2
@@ -259,7 +273,8 @@ reduced_refutes k s (check_errors.Cone o) v t h a g = t
 reduced_refutes k s check_errors.Memory v t h a g = t
 
 -- and it is refused in one way, unless numbers of the work don't fit
-pub reduced_once : (k : ℕ) (s : MarkedPolynomials) (e d : CheckError) → HaveVariables s.variables s.items → IsOfTest (of_check e) → IsReducedRefusal k s e → IsReducedRefusal k s d → TellsSame (of_check e) (of_check d) ⊎ IsOfNumbers (of_check d)
+pub reduced_once : (k : ℕ) (s : MarkedPolynomials) (e d : CheckError) → HaveVariables s.variables s.items → IsOfTest (of_check e) → IsReducedRefusal k s e →
+    IsReducedRefusal k s d → TellsSame (of_check e) (of_check d) ⊎ IsOfNumbers (of_check d)
 reduced_once k s (check_errors.Overflow o) d v t h g = absurd t
 reduced_once k s (check_errors.Exponent o) d v t h g = absurd t
 reduced_once k s (check_errors.NotReduced set i x) (check_errors.Overflow o) v t h g = inr tt
@@ -275,7 +290,8 @@ reduced_once k s (check_errors.NotReduced set i x) check_errors.Memory v t h g =
 reduced_once k s (check_errors.NotBasis set i j r) (check_errors.NotReduced other l y) v t h g = absurd (no_first s.items l y h.2 g.2)
 reduced_once k s (check_errors.NotBasis set i j r) (check_errors.Overflow o) v t h g = inr tt
 reduced_once k s (check_errors.NotBasis set i j r) (check_errors.Exponent o) v t h g = inr tt
-reduced_once k s (check_errors.NotBasis set i j r) (check_errors.NotBasis other l m z) v t h g = paired_once (AreReduced s.items) (AreReduced s.items) k s (check_errors.NotBasis set i j r) (check_errors.NotBasis other l m z) v t h g
+reduced_once k s (check_errors.NotBasis set i j r) (check_errors.NotBasis other l m z) v t h g =
+    paired_once (AreReduced s.items) (AreReduced s.items) k s (check_errors.NotBasis set i j r) (check_errors.NotBasis other l m z) v t h g
 reduced_once k s (check_errors.NotBasis set i j r) (check_errors.Inconsistent other ms) v t h g = absurd (g.1.none h.1)
 reduced_once k s (check_errors.NotBasis set i j r) (check_errors.Cone o) v t h g = inr tt
 reduced_once k s (check_errors.NotBasis set i j r) check_errors.Memory v t h g = inr tt
@@ -294,21 +310,27 @@ other_lengths : (n : ℕ) (h : Exponents) (f : Terms) → HasVariables n f → E
 other_lengths n h [] v = tt
 other_lengths n h (t ∷ f) v = at (same t.mono h) (other_lengths n h f v.1)
   where
-    at : (b : Bool) → Each (λ (x : Exponents). length x ≡ n) (all_but h f) → Each (λ (x : Exponents). length x ≡ n) (if b then all_but h f else (t.mono ∷ all_but h f))
+    at : (b : Bool) → Each (λ (x : Exponents). length x ≡ n) (all_but h f) →
+        Each (λ (x : Exponents). length x ≡ n) (if b then all_but h f else (t.mono ∷ all_but h f))
     at true r = r
     at false r = (v.0, r)
 
-pub printed_length : (n : ℕ) (b : MarkedPolynomial) (earlier later : List Exponents) (x : Exponents) → IsKeptMember n b → printed_monomials b ≡ earlier ++ x ∷ later → length x ≡ n
-printed_length n b earlier later x v e = each_middle (λ (y : Exponents). length y ≡ n) earlier later x (subst (Each (λ (y : Exponents). length y ≡ n)) e (v.1, other_lengths n b.head b.poly v.0))
+pub printed_length : (n : ℕ) (b : MarkedPolynomial) (earlier later : List Exponents) (x : Exponents) → IsKeptMember n b →
+    printed_monomials b ≡ earlier ++ x ∷ later → length x ≡ n
+printed_length n b earlier later x v e = each_middle (λ (y : Exponents). length y ≡ n) earlier later x
+    (subst (Each (λ (y : Exponents). length y ≡ n)) e (v.1, other_lengths n b.head b.poly v.0))
 
 -- a check names a term, or a remainder, that has them
-pub named_reduced : (k : ℕ) (ring : List (List ℕ)) (s : MarkedPolynomials) (e : CheckError) → IsSetKept (length ring) s → IsReducedRefusal k s e → IsNamedBy (Some ring) (of_check e)
+pub named_reduced : (k : ℕ) (ring : List (List ℕ)) (s : MarkedPolynomials) (e : CheckError) → IsSetKept (length ring) s → IsReducedRefusal k s e →
+    IsNamedBy (Some ring) (of_check e)
 named_reduced k ring s (check_errors.NotReduced set i x) v h = λ lent is.
     let f = h.2.first in
-    lent_names ring x lent is (printed_length (length ring) f.member f.earlier f.later x (contained_each (IsKeptMember (length ring)) s.items v.1 f.member (member_contained s.items i f.member f.at)) f.printed)
+    lent_names ring x lent is (printed_length (length ring) f.member f.earlier f.later x (contained_each (IsKeptMember (length ring)) s.items v.1 f.member
+    (member_contained s.items i f.member f.at)) f.printed)
 named_reduced k ring s (check_errors.Overflow o) v h = λ lent is. tt
 named_reduced k ring s (check_errors.Exponent o) v h = λ lent is. tt
-named_reduced k ring s (check_errors.NotBasis set i j r) v h = named_check (AreReduced s.items) k ring s (check_errors.NotBasis set i j r) v.0 (set_variables (length ring) s v) h
+named_reduced k ring s (check_errors.NotBasis set i j r) v h =
+    named_check (AreReduced s.items) k ring s (check_errors.NotBasis set i j r) v.0 (set_variables (length ring) s v) h
 named_reduced k ring s (check_errors.Inconsistent set ms) v h = λ lent is. tt
 named_reduced k ring s (check_errors.Cone o) v h = λ lent is. tt
 named_reduced k ring s check_errors.Memory v h = λ lent is. tt

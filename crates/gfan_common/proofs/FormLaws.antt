@@ -17,7 +17,8 @@ use Rattle.gf_front.specs.declared.refusal.Refusal.{Refusal}
 use Rattle.gf_front.specs.declared.refusal.Refusal.TheVariants as refusals
 use Rattle.gf_items.specs.Refusals.{IsExactRefusal}
 use Rattle.gf_items.proofs.CheckLaws.{IsCheckedOnce, AreCheckedOnce}
-use Rattle.gfan_common.specs.Forms.{FitsVariables, least_entry, IsTermWeight, AreTaken, HasOtherLength, IsFirstSmall, IsFirstNotTaken, IsLengthRefusal, IsDegreeRefusal, IsWeightRefusal, form}
+use Rattle.gfan_common.specs.Forms.{FitsVariables, least_entry, IsTermWeight, AreTaken, HasOtherLength, IsFirstSmall, IsFirstNotTaken, IsLengthRefusal}
+use Rattle.gfan_common.specs.Forms.{IsDegreeRefusal, IsWeightRefusal, form}
 
 -- ---- the length of a weight
 
@@ -25,7 +26,8 @@ other_length_apart : (n left right : ℕ) (weight : Option (List ℤ)) → FitsV
 other_length_apart n left right None a h = h
 other_length_apart n left right (Some w) a h = h.2 (h.0 ∙ a ∙ sym h.1)
 
-other_length_once : (n left right other last : ℕ) (weight : Option (List ℤ)) → HasOtherLength n weight left right → HasOtherLength n weight other last → (other ≡ left) × (last ≡ right)
+other_length_once : (n left right other last : ℕ) (weight : Option (List ℤ)) → HasOtherLength n weight left right → HasOtherLength n weight other last →
+    (other ≡ left) × (last ≡ right)
 other_length_once n left right other last None h k = absurd h
 other_length_once n left right other last (Some w) h k = (k.0 ∙ sym h.0, k.1 ∙ sym h.1)
 
@@ -73,7 +75,8 @@ inhomogeneous_before fs e d h k l = of_one_degree_apart k.poly k.place (h.before
 inhomogeneous_place : (fs : List Terms) (e d : NotHomogeneous) → IsFirstInhomogeneous fs e → IsFirstInhomogeneous fs d → d.polynomial ≡ e.polynomial
 inhomogeneous_place fs e d h k = at (cases_lt e.polynomial d.polynomial) (cases_lt d.polynomial e.polynomial)
   where
-    at : (e.polynomial < d.polynomial) ⊎ (d.polynomial ≤ e.polynomial) → (d.polynomial < e.polynomial) ⊎ (e.polynomial ≤ d.polynomial) → d.polynomial ≡ e.polynomial
+    at : (e.polynomial < d.polynomial) ⊎ (d.polynomial ≤ e.polynomial) → (d.polynomial < e.polynomial) ⊎ (e.polynomial ≤ d.polynomial) →
+        d.polynomial ≡ e.polynomial
     at (inl l) b = absurd (inhomogeneous_before fs d e k h l)
     at (inr l) (inl m) = absurd (inhomogeneous_before fs e d h k m)
     at (inr l) (inr m) = omega arith
@@ -84,8 +87,11 @@ named_once f g i j a b e =
     let c : IsFirstOther f j = subst (λ (h : Terms). IsFirstOther h j) e b in
     let place : j ≡ i = first_other_once f i j a c in
     let firsts : slice_index_or f 0 b.first ≡ b.first = subst (λ (h : Terms). slice_index_or h 0 b.first ≡ b.first) e b.is_first in
-    let others : slice_index_or f i b.other ≡ b.other = subst (λ k. slice_index_or f k b.other ≡ b.other) place (subst (λ (h : Terms). slice_index_or h j b.other ≡ b.other) e b.is_other) in
-    (ap (λ (t : Term). t.mono) (one_element f 0 b.first a.first (omega (arith, a.inside)) firsts a.is_first), ap (λ (t : Term). t.mono) (one_element f i b.other a.other a.inside others a.is_other))
+    let others : slice_index_or f i b.other ≡ b.other =
+    subst (λ k. slice_index_or f k b.other ≡ b.other) place (subst (λ (h : Terms). slice_index_or h j b.other ≡ b.other) e b.is_other) in (
+      ap (λ (t : Term). t.mono) (one_element f 0 b.first a.first (omega (arith, a.inside)) firsts a.is_first),
+      ap (λ (t : Term). t.mono) (one_element f i b.other a.other a.inside others a.is_other),
+    )
 
 inhomogeneous_once : (fs : List Terms) (e d : NotHomogeneous) → IsFirstInhomogeneous fs e → IsFirstInhomogeneous fs d → d ≡ e
 inhomogeneous_once fs e d h k =
@@ -97,7 +103,8 @@ inhomogeneous_once fs e d h k =
     let second : d.second ≡ e.second = k.second ∙ named.1 ∙ sym h.second in
     λ i. record { polynomial = place i; first = first i; second = second i }
 
-not_taken_once : (revlex : Bool) (weight : Option (List ℤ)) (fs : List Terms) (e d : NotHomogeneous) → IsFirstNotTaken revlex weight fs e → IsFirstNotTaken revlex weight fs d → d ≡ e
+not_taken_once : (revlex : Bool) (weight : Option (List ℤ)) (fs : List Terms) (e d : NotHomogeneous) → IsFirstNotTaken revlex weight fs e →
+    IsFirstNotTaken revlex weight fs d → d ≡ e
 not_taken_once false weight fs e d h k = absurd h
 not_taken_once true None fs e d h k = inhomogeneous_once fs e d h k
 not_taken_once true (Some w) fs e d h k = absurd h
@@ -112,7 +119,8 @@ first_there n f i a k = term_there n f a.first k.0 k.1 (0, omega (arith, a.insid
 other_there : (n : ℕ) (f : Terms) (i : ℕ) (a : IsFirstOther f i) → HasVariables n f × IsDescending f → HasMonomial f a.other.mono
 other_there n f i a k = term_there n f a.other k.0 k.1 (i, a.inside, a.is_other)
 
-not_taken_apart : (n : ℕ) (revlex : Bool) (weight : Option (List ℤ)) (fs : List Terms) (e : NotHomogeneous) → AreKept n fs → AreTaken revlex weight fs → IsFirstNotTaken revlex weight fs e → ⊥
+not_taken_apart : (n : ℕ) (revlex : Bool) (weight : Option (List ℤ)) (fs : List Terms) (e : NotHomogeneous) → AreKept n fs → AreTaken revlex weight fs →
+    IsFirstNotTaken revlex weight fs e → ⊥
 not_taken_apart n false weight fs e kept a h = h
 not_taken_apart n true None fs e kept a h =
     let here : Contains fs h.poly = (e.polynomial, h.inside, h.is) in
@@ -142,7 +150,8 @@ length_check n weight = record { once = once; apart = apart; kind = kind }
     kind (refusals.Dimensions left right) h = inr tt
     kind _ h = absurd h
 
-pub degree_check : (n : ℕ) (revlex : Bool) (weight : Option (List ℤ)) (fs : List Terms) → AreKept n fs → IsCheckedOnce (record { Holds = AreTaken revlex weight fs; Fails = IsDegreeRefusal revlex weight fs })
+pub degree_check : (n : ℕ) (revlex : Bool) (weight : Option (List ℤ)) (fs : List Terms) → AreKept n fs →
+    IsCheckedOnce (record { Holds = AreTaken revlex weight fs; Fails = IsDegreeRefusal revlex weight fs })
 degree_check n revlex weight fs kept = record { once = once; apart = apart; kind = kind }
   where
     once : (r d : Refusal) → IsDegreeRefusal revlex weight fs r → IsDegreeRefusal revlex weight fs d → d ≡ r

@@ -31,7 +31,8 @@ pub ok_with : {T E : Type 0} (r : Result T E) (P Q A : Type 0) (B : E → Type 0
 ok_with (Ok x) P Q A B f h m = f h m
 ok_with (Err e) P Q A B f h m = tt
 
-pub err_with : {T E : Type 0} (r : Result T E) (P Q B : E → Type 0) (A : Type 0) → ((e : E) → P e → B e → Q e) → IfErr r P → MatchResult r (λ x. A) B → IfErr r Q
+pub err_with : {T E : Type 0} (r : Result T E) (P Q B : E → Type 0) (A : Type 0) → ((e : E) → P e → B e → Q e) → IfErr r P → MatchResult r (λ x. A) B →
+    IfErr r Q
 err_with (Ok x) P Q B A f h m = tt
 err_with (Err e) P Q B A f h m = f e h m
 
@@ -41,7 +42,8 @@ abbrev IsFault : Refusal → Type 0
 IsFault refusals.WriteFault = Unit {0}
 IsFault _ = ⊥
 
-module _ (c : Command) (texts : List (List ℕ)) (a : c.Value) (read : c.reading.IsRead texts a) (formed : AllHold (c.checks a)) (held holds : Option (List ℕ)) (n m : ℕ) where
+module _ (c : Command) (texts : List (List ℕ)) (a : c.Value) (read : c.reading.IsRead texts a) (formed : AllHold (c.checks a)) (held holds : Option (List ℕ))
+    (n m : ℕ) where
   pub performed_on : (TakesTurns c.writing → ⊥) → IsPerformedFor c a held holds → m ≡ n → IsDoneOn c texts (output_seen held n) (output_seen holds m)
   performed_on alone p calm = record {
     text = p.0;
@@ -58,22 +60,26 @@ module _ (c : Command) (texts : List (List ℕ)) (a : c.Value) (read : c.reading
   begun_on : (r : Refusal) → IsBegunAs c a held holds r → (text : List ℕ) × IsBegunFor c texts text r × Appends held holds text
   begun_on r b = (b.0, record { value = a; read = read; formed = formed; begun = b.1 }, b.2)
 
-  left_on : (r : Refusal) → Keeps held holds ⊎ IsBegunAs c a held holds r → Keeps held holds ⊎ ((text : List ℕ) × IsBegunFor c texts text r × Appends held holds text)
+  left_on : (r : Refusal) → Keeps held holds ⊎ IsBegunAs c a held holds r →
+      Keeps held holds ⊎ ((text : List ℕ) × IsBegunFor c texts text r × Appends held holds text)
   left_on r (inl k) = inl k
   left_on r (inr b) = inr (begun_on r b)
 
   stopped_as : (r : Refusal) → IsStoppedFor c a held holds n m r → ((IsFault r → ⊥) → m ≡ n) → IsStoppedOn c texts (output_seen held n) (output_seen holds m) r
   stopped_as refusals.WriteFault s calm = IsStoppedOn.in_writing s.1.0 (record { value = a; read = read; formed = formed; is_whole = s.1.1 }) refl s.0 s.1.2
-  stopped_as (refusals.ListLimit most) s calm = IsStoppedOn.in_work (refused_on (refusals.ListLimit most) (inl s.0)) (begun_on (refusals.ListLimit most) s.1) (calm (λ f. f))
+  stopped_as (refusals.ListLimit most) s calm = IsStoppedOn.in_work (refused_on (refusals.ListLimit most) (inl s.0)) (begun_on (refusals.ListLimit most) s.1)
+      (calm (λ f. f))
   stopped_as r s calm = IsStoppedOn.in_work (refused_on r s.0) (left_on r s.1) (calm (λ f. f))
 
-  pub stopped_on : (r : Refusal) → IsStoppedFor c a held holds n m r → ((r ≡ refusals.WriteFault → ⊥) → m ≡ n) → IsStoppedOn c texts (output_seen held n) (output_seen holds m) r
+  pub stopped_on : (r : Refusal) → IsStoppedFor c a held holds n m r → ((r ≡ refusals.WriteFault → ⊥) → m ≡ n) →
+      IsStoppedOn c texts (output_seen held n) (output_seen holds m) r
   stopped_on r s calm = stopped_as r s (λ f. calm (λ e. f (subst IsFault (sym e) tt)))
 
 -- ---- `_bases`
 
 -- no vector is read
-pub without_vector : (source : List ℕ) (ring : List (List ℕ)) (set : List Written) (vector : Option (List ℤ)) → IsTextOf (ring_set_vector false) source (ring, (set, vector)) → IsTextOf (ring_set_vector false) source (ring, (set, None))
+pub without_vector : (source : List ℕ) (ring : List (List ℕ)) (set : List Written) (vector : Option (List ℤ)) →
+    IsTextOf (ring_set_vector false) source (ring, (set, vector)) → IsTextOf (ring_set_vector false) source (ring, (set, None))
 without_vector source ring set None r = r
 without_vector source ring set (Some v) r = absurd r.read.two.two
 

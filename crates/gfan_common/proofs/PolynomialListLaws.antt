@@ -18,12 +18,15 @@ each_at P [] i x h l e = absurd (omega arith)
 each_at P (y ∷ xs) zero x h l e = subst P (sym e) h.0
 each_at P (y ∷ xs) (suc i) x h l e = each_at P xs i x h.1 (omega arith) e
 
-pub polynomials-more : (n : ℕ) (bs : List MarkedPolynomial) (found next : List Terms) (i : ℕ) (b : MarkedPolynomial) (f : Terms) → HaveVariables n bs → i < length bs → b ≡ get_or bs i b → f ≡ b.poly → 0 < length f → next ≡ found ++ f ∷ []
+pub polynomials-more : (n : ℕ) (bs : List MarkedPolynomial) (found next : List Terms) (i : ℕ) (b : MarkedPolynomial) (f : Terms) → HaveVariables n bs →
+    i < length bs → b ≡ get_or bs i b → f ≡ b.poly → 0 < length f → next ≡ found ++ f ∷ []
     → PolynomialsSoFar n bs found i → PolynomialsSoFar n bs next (i + 1)
 polynomials-more n bs found next i b f v l e p m q h = record {
-  value = q ∙ ap (λ z. z ++ f ∷ []) h.value ∙ ap (λ z. polys (take i bs) ++ z ∷ []) p ∙ sym (map-append poly_of (take i bs) (b ∷ [])) ∙ ap polys (sym (take_more bs i b l ∙ ap (λ (z : MarkedPolynomial). take i bs ++ z ∷ []) (sym e)));
+  value = q ∙ ap (λ z. z ++ f ∷ []) h.value ∙ ap (λ z. polys (take i bs) ++ z ∷ []) p ∙ sym (map-append poly_of (take i bs) (b ∷ [])) ∙ ap polys
+      (sym (take_more bs i b l ∙ ap (λ (z : MarkedPolynomial). take i bs ++ z ∷ []) (sym e)));
   some = subst (All (λ (g : Terms). g ≢ [])) (sym q) (All-push (λ (g : Terms). g ≢ []) found f h.some (λ z. omega (arith, m, ap length z)));
-  variables = subst (All (HasVariables n)) (sym q) (All-push (HasVariables n) found f h.variables (subst (HasVariables n) (sym p) (each_at (λ (c : MarkedPolynomial). HasVariables n c.poly) bs i b v l e)));
+  variables = subst (All (HasVariables n)) (sym q) (All-push (HasVariables n) found f h.variables
+      (subst (HasVariables n) (sym p) (each_at (λ (c : MarkedPolynomial). HasVariables n c.poly) bs i b v l e)));
 }
   where
     poly_of : MarkedPolynomial → Terms

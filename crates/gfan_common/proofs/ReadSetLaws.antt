@@ -33,7 +33,8 @@ written_kept n (f ∷ fs) (written.Nonzero m ∷ ws) v a = ((a.0.variables.at n 
 
 pub set_kept : (ring : List (List ℕ)) (p : Position) (end : ℕ) (ws : List Written) → IsSetRead ring p end ws → AreKept (length ring) (generators_of ws)
 set_kept ring p end ws s f c =
-    contained_each (IsKept (length ring)) (generators_of ws) (written_kept (length ring) s.sums ws (sums_variables (length ring) s.said s.sums s.exponents) s.written) f c
+    contained_each (IsKept (length ring)) (generators_of ws) (written_kept (length ring) s.sums ws (sums_variables (length ring) s.said s.sums s.exponents)
+    s.written) f c
 
 -- of a marked set, each polynomial has the variables of the ring
 nonzero_variables : (n : ℕ) (bs : List MarkedPolynomial) → Each (IsKept n) (generators_of (map (λ m. written.Nonzero m) bs)) → HaveVariables n bs
@@ -44,7 +45,8 @@ pub marked_kept : (ring : List (List ℕ)) (p : Position) (end : ℕ) (s : Marke
 marked_kept ring p end s h =
     let r = h.read in
     let kept = written_kept (length ring) r.sums h.written (sums_variables (length ring) r.said r.sums r.exponents) r.written in
-    subst (λ n. HaveVariables n s.items) (sym h.variables) (nonzero_variables (length ring) s.items (subst (λ (ws : List Written). Each (IsKept (length ring)) (generators_of ws)) h.items kept))
+    subst (λ n. HaveVariables n s.items) (sym h.variables) (nonzero_variables (length ring) s.items
+    (subst (λ (ws : List Written). Each (IsKept (length ring)) (generators_of ws)) h.items kept))
 
 -- ---- marked sets with their marks
 
@@ -69,7 +71,8 @@ mono_length n [] at t v e = cc
 mono_length n (u ∷ f) zero t v e = let q : u ≡ t = cc in subst (λ (z : Term). length z.mono ≡ n) q v.0
 mono_length n (u ∷ f) (suc at) t v e = mono_length n f at t v.1 e
 
-members_kept : (n : ℕ) (fs : List Terms) (bs : List MarkedPolynomial) → SumsHaveVariables n fs → AreWritten fs (map (λ b. written.Nonzero b) bs) → Each (IsKeptMember n) bs
+members_kept : (n : ℕ) (fs : List Terms) (bs : List MarkedPolynomial) → SumsHaveVariables n fs → AreWritten fs (map (λ b. written.Nonzero b) bs) →
+    Each (IsKeptMember n) bs
 members_kept n [] [] v a = tt
 members_kept n [] (b ∷ bs) v a = absurd a
 members_kept n (f ∷ fs) [] v a = absurd a
@@ -79,19 +82,26 @@ members_kept n (f ∷ fs) (b ∷ bs) v a =
 
 pub one_kept : (ring : List (List ℕ)) (p : Position) (end : ℕ) (s : MarkedPolynomials) → IsMarkedRead ring p end s → IsSetKept (length ring) s
 one_kept ring p end s h =
-    let r = h.read in
-    (h.variables, members_kept (length ring) r.sums s.items (sums_variables (length ring) r.said r.sums r.exponents) (subst (λ (ws : List Written). AreWritten r.sums ws) h.items r.written))
+    let r = h.read in (
+      h.variables,
+      members_kept (length ring) r.sums s.items (sums_variables (length ring) r.said r.sums r.exponents)
+          (subst (λ (ws : List Written). AreWritten r.sums ws) h.items r.written),
+    )
 
-each_kept : (n : ℕ) (said : List (List (List WrittenTerm))) (sets : List (List Written)) (ss : List MarkedPolynomials) → AreWhatRemain n said sets → AreMarkedSets n sets ss → Each (IsSetKept n) ss
+each_kept : (n : ℕ) (said : List (List (List WrittenTerm))) (sets : List (List Written)) (ss : List MarkedPolynomials) → AreWhatRemain n said sets →
+    AreMarkedSets n sets ss → Each (IsSetKept n) ss
 each_kept n said [] [] h m = tt
 each_kept n said [] (s ∷ ss) h m = absurd m
 each_kept n said (ws ∷ sets) [] h m = absurd m
 each_kept n [] (ws ∷ sets) (s ∷ ss) h m = absurd h
 each_kept n (q ∷ said) (ws ∷ sets) (s ∷ ss) h m =
-    let r = h.0 in
-    ((m.1, members_kept n r.sums s.items (sums_variables n q r.sums r.exponents) (subst (λ (vs : List Written). AreWritten r.sums vs) m.0 r.written)), each_kept n said sets ss h.1 m.2)
+    let r = h.0 in (
+      (m.1, members_kept n r.sums s.items (sums_variables n q r.sums r.exponents) (subst (λ (vs : List Written). AreWritten r.sums vs) m.0 r.written)),
+      each_kept n said sets ss h.1 m.2,
+    )
 
-pub list_kept : (ring : List (List ℕ)) (p : Position) (end : ℕ) (ss : List MarkedPolynomials) → AreMarkedSetsRead ring p end ss → Each (IsSetKept (length ring)) ss
+pub list_kept : (ring : List (List ℕ)) (p : Position) (end : ℕ) (ss : List MarkedPolynomials) → AreMarkedSetsRead ring p end ss →
+    Each (IsSetKept (length ring)) ss
 list_kept ring p end ss h = each_kept (length ring) h.read.said h.written ss h.read.remain h.marked
 
 -- the set of a source has its variables

@@ -21,7 +21,8 @@ use Rattle.gfan_common.proofs.CheckedSetLaws.{reduced_refutes, reduced_once, nam
 use Rattle.gfan_common.proofs.ZipLaws.{zip_there}
 
 -- the sets before a place are taken, and the one there isn't
-refused_at : (k i : ℕ) (sets bases : List MarkedPolynomials) (s : MarkedPolynomials) (e : CheckError) → i < length sets → s ≡ get_or sets i s → AllZip IsReducedAsRead (take i sets) bases → IsReducedRefusal (k + i) s e → IsRefusedFrom k sets e
+refused_at : (k i : ℕ) (sets bases : List MarkedPolynomials) (s : MarkedPolynomials) (e : CheckError) → i < length sets → s ≡ get_or sets i s →
+    AllZip IsReducedAsRead (take i sets) bases → IsReducedRefusal (k + i) s e → IsRefusedFrom k sets e
 refused_at k i [] bases s e l q z h = absurd (omega arith)
 refused_at k zero (r ∷ sets) bases s e l q z h =
     let there : k + zero ≡ k = omega arith in
@@ -32,8 +33,10 @@ refused_at k (suc i) (r ∷ sets) (t ∷ bases) s e l q z h =
     inr ((t, z.0), refused_at (k + 1) i sets bases s e (omega arith) q z.1 (subst (λ (n : ℕ). IsReducedRefusal n s e) there h))
 
 -- the same counted from the first
-pub first_refused : (i : ℕ) (sets bases : List MarkedPolynomials) (s : MarkedPolynomials) (e : CheckError) → i < length sets → s ≡ get_or sets i s → AllZip IsReducedAsRead (take i sets) bases → IsReducedRefusal i s e → IsRefusedFrom 0 sets e
-first_refused i sets bases s e l q z h = let there : i ≡ 0 + i = omega arith in refused_at 0 i sets bases s e l q z (subst (λ (n : ℕ). IsReducedRefusal n s e) there h)
+pub first_refused : (i : ℕ) (sets bases : List MarkedPolynomials) (s : MarkedPolynomials) (e : CheckError) → i < length sets → s ≡ get_or sets i s →
+    AllZip IsReducedAsRead (take i sets) bases → IsReducedRefusal i s e → IsRefusedFrom 0 sets e
+first_refused i sets bases s e l q z h = let there : i ≡ 0 + i =
+    omega arith in refused_at 0 i sets bases s e l q z (subst (λ (n : ℕ). IsReducedRefusal n s e) there h)
 
 -- all are taken
 pub all_reduced : (sets bases : List MarkedPolynomials) → AllZip IsReducedAsRead sets bases → AreReducedAsRead sets
@@ -41,7 +44,8 @@ all_reduced sets bases a = λ s c. (let t = zip_there IsReducedAsRead sets bases
 
 -- ---- the names in lines
 
-pub refused_named : (k : ℕ) (ring : List (List ℕ)) (sets : List MarkedPolynomials) (e : CheckError) → Each (IsSetKept (length ring)) sets → IsRefusedFrom k sets e → IsNamedBy (Some ring) (of_check e)
+pub refused_named : (k : ℕ) (ring : List (List ℕ)) (sets : List MarkedPolynomials) (e : CheckError) → Each (IsSetKept (length ring)) sets →
+    IsRefusedFrom k sets e → IsNamedBy (Some ring) (of_check e)
 refused_named k ring [] e v h = absurd h
 refused_named k ring (s ∷ sets) e v (inl h) = named_reduced k ring s e v.0 h
 refused_named k ring (s ∷ sets) e v (inr h) = refused_named (k + 1) ring sets e v.1 h.1
@@ -52,7 +56,8 @@ list_read source v read = list_kept v.0 (from source read.read.behind) read.end 
 
 -- ---- within limits
 
-pub refused_within : (k : ℕ) (sets : List MarkedPolynomials) (e : CheckError) → ((s : MarkedPolynomials) → Contains sets s → IsCheckedWithin s) → IsRefusedFrom k sets e → e ≡ check_errors.Memory
+pub refused_within : (k : ℕ) (sets : List MarkedPolynomials) (e : CheckError) → ((s : MarkedPolynomials) → Contains sets s → IsCheckedWithin s) →
+    IsRefusedFrom k sets e → e ≡ check_errors.Memory
 refused_within k [] e w h = absurd h
 refused_within k (s ∷ sets) e w (inl h) = let l = w s (Contains-here s sets) in reduced_memory k s e l.variables l.checks l.basis l.terms h
 refused_within k (s ∷ sets) e w (inr h) = refused_within (k + 1) sets e (λ r c. w r (Contains-there s r sets c)) h.1
@@ -73,7 +78,8 @@ check_kind check_errors.Memory = inr tt
 taken_apart : (n k : ℕ) (s t : MarkedPolynomials) (e : CheckError) → IsSetKept n s → IsOfTest (of_check e) → IsReducedRefusal k s e → IsReducedAsRead s t → ⊥
 taken_apart n k s t e v o h a = reduced_refutes k s e (set_variables n s v) o h a.terms a.basis.basis.marked
 
-pub refused_once : (n k : ℕ) (sets : List MarkedPolynomials) (e d : CheckError) → Each (IsSetKept n) sets → IsOfTest (of_check e) → IsRefusedFrom k sets e → IsRefusedFrom k sets d → TellsSame (of_check e) (of_check d) ⊎ IsOfNumbers (of_check d)
+pub refused_once : (n k : ℕ) (sets : List MarkedPolynomials) (e d : CheckError) → Each (IsSetKept n) sets → IsOfTest (of_check e) → IsRefusedFrom k sets e →
+    IsRefusedFrom k sets d → TellsSame (of_check e) (of_check d) ⊎ IsOfNumbers (of_check d)
 refused_once n k [] e d v t h g = absurd h
 refused_once n k (s ∷ sets) e d v t (inl h) (inl g) = reduced_once k s e d (set_variables n s v.0) t h g
 refused_once n k (s ∷ sets) e d v t (inl h) (inr g) = absurd (taken_apart n k s g.0.0 e v.0 t h g.0.1)
@@ -83,7 +89,8 @@ refused_once n k (s ∷ sets) e d v t (inr h) (inl g) = elim (check_kind d) [
 ]
 refused_once n k (s ∷ sets) e d v t (inr h) (inr g) = refused_once n (k + 1) sets e d v.1 t h.1 g.1
 
-pub refused_refutes : (n k : ℕ) (sets : List MarkedPolynomials) (e : CheckError) → Each (IsSetKept n) sets → IsOfTest (of_check e) → IsRefusedFrom k sets e → AreReducedAsRead sets → ⊥
+pub refused_refutes : (n k : ℕ) (sets : List MarkedPolynomials) (e : CheckError) → Each (IsSetKept n) sets → IsOfTest (of_check e) → IsRefusedFrom k sets e →
+    AreReducedAsRead sets → ⊥
 refused_refutes n k [] e v t h a = h
 refused_refutes n k (s ∷ sets) e v t (inl h) a = let b = a s (Contains-here s sets) in taken_apart n k s b.0 e v.0 t h b.1
 refused_refutes n k (s ∷ sets) e v t (inr h) a = refused_refutes n (k + 1) sets e v.1 t h.1 (λ r c. a r (Contains-there s r sets c))

@@ -52,7 +52,8 @@ unless (Err e) P Q p q n = absurd (n q)
 
 -- ---- the line
 
-pub written_as_far : {T E : Type 0} (a b : Option (List ℕ)) (m n : ℕ) (result : Result T E) (lent : Option (Bor (List (List ℕ)))) (ring : Option (List (List ℕ))) (r : Refusal)
+pub written_as_far : {T E : Type 0} (a b : Option (List ℕ)) (m n : ℕ) (result : Result T E) (lent : Option (Bor (List (List ℕ)))) (ring : Option
+    (List (List ℕ))) (r : Refusal)
     → option_copied lent ≡ ring → AppendsPrefix a b (line (names_in lent) r) → OnOk result (Appends a b (line (names_in lent) r)) → OnErr result (Rose m n)
     → WrittenAsFar a b m n (line (names_of ring) r)
 written_as_far a b m n result lent ring r e part all fault =

@@ -67,7 +67,8 @@ pub space_check : (n : ℕ) → IsCheckedOnce (for_space n)
 space_check n = record { once = once; apart = apart; kind = kind }
   where
     once : (r d : Refusal) → IsSpaceRefusal n r → IsSpaceRefusal n d → d ≡ r
-    once (refusals.Dimensions l m) (refusals.Dimensions i j) h k = ap (λ z. refusals.Dimensions z j) (k.0 ∙ sym h.0) ∙ ap (λ z. refusals.Dimensions l z) (k.1 ∙ sym h.1)
+    once (refusals.Dimensions l m) (refusals.Dimensions i j) h k =
+        ap (λ z. refusals.Dimensions z j) (k.0 ∙ sym h.0) ∙ ap (λ z. refusals.Dimensions l z) (k.1 ∙ sym h.1)
     once (refusals.Dimensions l m) _ h k = absurd k
     once _ d h k = absurd h
 
@@ -97,12 +98,14 @@ first_in_front n [] back r h = absurd h
 first_in_front n (w ∷ ws) back r (inl h) = inl h
 first_in_front n (w ∷ ws) back r (inr h) = inr (h.0, first_in_front n ws back r h.1)
 
-pub first_behind : (n : ℕ) (front back : List (List ℤ)) (r : Refusal) → AreRows n front → FirstFails (for_each n back) r → FirstFails (for_each n (front ++ back)) r
+pub first_behind : (n : ℕ) (front back : List (List ℤ)) (r : Refusal) → AreRows n front → FirstFails (for_each n back) r →
+    FirstFails (for_each n (front ++ back)) r
 first_behind n [] back r f h = h
 first_behind n (w ∷ ws) back r f h = inr (All-head (λ t. length t ≡ n) w ws f, first_behind n ws back r (All-tail (λ t. length t ≡ n) w ws f) h)
 
 -- or at a place
-pub first_at : (n : ℕ) (ws : List (List ℤ)) (i : ℕ) (w : List ℤ) (r : Refusal) → i < length ws → w ≡ slice_index_or ws i w → AreRows n (take i ws) → IsLengthRefusal n (Some w) r → FirstFails (for_each n ws) r
+pub first_at : (n : ℕ) (ws : List (List ℤ)) (i : ℕ) (w : List ℤ) (r : Refusal) → i < length ws → w ≡ slice_index_or ws i w → AreRows n (take i ws) →
+    IsLengthRefusal n (Some w) r → FirstFails (for_each n ws) r
 first_at n [] i w r l e f h = absurd (omega (arith, l))
 first_at n (v ∷ ws) zero w r l e f h = inl (subst (λ z. IsLengthRefusal n (Some z) r) e h)
 first_at n (v ∷ ws) (suc i) w r l e f h =

@@ -20,7 +20,8 @@ use Rattle.gfan_common.specs.Forms.{polynomial_of, generators_of}
 
 -- ---- polynomials
 
-pub polynomials_next : (ws : List Written) (i : ℕ) (w : Written) (fs : List Terms) (f : Terms) → i < length ws → w ≡ slice_index_or ws i w → fs ≡ generators_of (take i ws) → f ≡ polynomial_of w → fs ++ f ∷ [] ≡ generators_of (take (i + 1) ws)
+pub polynomials_next : (ws : List Written) (i : ℕ) (w : Written) (fs : List Terms) (f : Terms) → i < length ws → w ≡ slice_index_or ws i w →
+    fs ≡ generators_of (take i ws) → f ≡ polynomial_of w → fs ++ f ∷ [] ≡ generators_of (take (i + 1) ws)
 polynomials_next [] i w fs f l e p q = absurd (omega arith)
 polynomials_next (v ∷ ws) zero w fs f l e p q =
     let one : f ∷ [] ≡ polynomial_of v ∷ [] = ap (λ (g : Terms). g ∷ []) (q ∙ ap polynomial_of e) in
@@ -40,12 +41,16 @@ in_ring n ws fs h e = subst (HaveRingVariables n) (sym e) (record { each = λ f 
 
 -- ---- the names of monomials
 
-pub lent_names : (ring : List (List ℕ)) (x : Exponents) (lent : Option (Bor (List (List ℕ)))) → option_copied lent ≡ Some ring → length x ≡ length ring → IsNamed lent x
+pub lent_names : (ring : List (List ℕ)) (x : Exponents) (lent : Option (Bor (List (List ℕ)))) → option_copied lent ≡ Some ring → length x ≡ length ring →
+    IsNamed lent x
 lent_names ring x None e h = let p : None ≡ Some ring = e in cc
 lent_names ring x (Some b) e h = let p : Some b.now ≡ Some ring = e in let q : b.now ≡ ring = cc in h ∙ ap length (sym q)
 
-pub first_variables : (n : ℕ) (fs : List Terms) (e : NotHomogeneous) → HaveRingVariables n fs → IsFirstInhomogeneous fs e → (length e.first ≡ n) × (length e.second ≡ n)
+pub first_variables : (n : ℕ) (fs : List Terms) (e : NotHomogeneous) → HaveRingVariables n fs → IsFirstInhomogeneous fs e →
+    (length e.first ≡ n) × (length e.second ≡ n)
 first_variables n fs e v h =
     let variables = v.each h.poly (e.polynomial, h.inside, h.is) in
-    let o = h.other in
-    (ap length h.first ∙ term_length n h.poly o.first variables (0, omega (arith, o.inside), o.is_first), ap length h.second ∙ term_length n h.poly o.other variables (h.place, o.inside, o.is_other))
+    let o = h.other in (
+      ap length h.first ∙ term_length n h.poly o.first variables (0, omega (arith, o.inside), o.is_first),
+      ap length h.second ∙ term_length n h.poly o.other variables (h.place, o.inside, o.is_other),
+    )

@@ -9,7 +9,8 @@ use Rattle.gf_int_theory.proofs.ListLaws.{Contains-here}
 use Rattle.gf_ideal_theory.proofs.ListLaws.{Contains-cases, Contains-there}
 
 -- one further of each
-pub zip_more : {A B : Type 0} (R : A → B → Type 0) (xs : List A) (ys next : List B) (i : ℕ) (x : A) (y : B) → i < length xs → x ≡ get_or xs i x → R x y → next ≡ ys ++ y ∷ [] → AllZip R (take i xs) ys → AllZip R (take (i + 1) xs) next
+pub zip_more : {A B : Type 0} (R : A → B → Type 0) (xs : List A) (ys next : List B) (i : ℕ) (x : A) (y : B) → i < length xs → x ≡ get_or xs i x → R x y →
+    next ≡ ys ++ y ∷ [] → AllZip R (take i xs) ys → AllZip R (take (i + 1) xs) next
 zip_more {A} {B} R xs ys next i x y l e r q a =
     let more : take (i + 1) xs ≡ take i xs ++ x ∷ [] = take_more xs i x l ∙ ap (λ (z : A). take i xs ++ z ∷ []) (sym e) in
     subst (λ (zs : List A). AllZip R zs next) (sym more) (subst (AllZip R (take i xs ++ x ∷ [])) (sym q) (all_zipped_more R (take i xs) ys x y a r))

@@ -19,6 +19,8 @@ IsBegunAs c a held holds refusal = (text : List ℕ) × IsBegunBy c.writing a te
 -- why the command isn't performed, and what it leaves. If a write failed: a prefix of its whole text. If a list came to its limit: what it
 -- wrote until then. In other cases: nothing, or what it may have written until then
 abbrev pub IsStoppedFor : (c : Command) → c.Value → Option (List ℕ) → Option (List ℕ) → ℕ → ℕ → Refusal → Type 0
-IsStoppedFor c a held holds written writes refusals.WriteFault = Rose written writes × ((text : List ℕ) × IsWholeBy c.writing c.IsAnswer a text × AppendsPrefix held holds text)
-IsStoppedFor c a held holds written writes (refusals.ListLimit most) = c.IsCause a (refusals.ListLimit most) × IsBegunAs c a held holds (refusals.ListLimit most)
+IsStoppedFor c a held holds written writes refusals.WriteFault =
+    Rose written writes × ((text : List ℕ) × IsWholeBy c.writing c.IsAnswer a text × AppendsPrefix held holds text)
+IsStoppedFor c a held holds written writes (refusals.ListLimit most) =
+    c.IsCause a (refusals.ListLimit most) × IsBegunAs c a held holds (refusals.ListLimit most)
 IsStoppedFor c a held holds written writes refusal = (c.IsCause a refusal ⊎ (refusal ≡ refusals.Memory)) × (Keeps held holds ⊎ IsBegunAs c a held holds refusal)

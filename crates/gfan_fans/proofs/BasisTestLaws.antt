@@ -56,8 +56,9 @@ use Rattle.gfan_fans.proofs.TropicalLaws.{no_first_zero, tropical_exact, tropica
 pub ring_of_all : (n : ℕ) (fs : List Terms) → All (HasVariables n) fs → HaveRingVariables n fs
 ring_of_all n fs a = record { each = λ f c. All-contains (HasVariables n) fs f a c }
 
-pub verdict_answered : (n : ℕ) (ring : List (List ℕ)) (ws : List Written) (fs : List Terms) (v : Verdict) (text : List ℕ) → n ≡ length ring → fs ≡ generators_of ws → HasNoZero ws → HaveOneDegree fs →
-    IsVerdict n fs v → IsFirstVerdict n fs v → text ≡ basis_test_text v → IsAnswerFor basis_test_command (ring, (ws, None)) text
+pub verdict_answered : (n : ℕ) (ring : List (List ℕ)) (ws : List Written) (fs : List Terms) (v : Verdict) (text : List ℕ) → n ≡ length ring →
+    fs ≡ generators_of ws → HasNoZero ws → HaveOneDegree fs → IsVerdict n fs v → IsFirstVerdict n fs v → text ≡ basis_test_text v →
+    IsAnswerFor basis_test_command (ring, (ws, None)) text
 verdict_answered n ring ws fs v text p q z d r f t = record {
   formed = (z, (subst HaveOneDegree q d, tt));
   is_answer = record {
@@ -68,8 +69,8 @@ verdict_answered n ring ws fs v text p q z d r f t = record {
   };
 }
 
-pub test_unanswered : (n : ℕ) (ring : List (List ℕ)) (ws : List Written) (fs : List Terms) (e : BasisTestError) → n ≡ length ring → fs ≡ generators_of ws → HasNoZero ws → HaveOneDegree fs → NoneIsZero fs →
-    IsVerdictRefusal n fs usual_pairs e → IsUnanswered basis_test_command (ring, (ws, None)) (of_basis_test e)
+pub test_unanswered : (n : ℕ) (ring : List (List ℕ)) (ws : List Written) (fs : List Terms) (e : BasisTestError) → n ≡ length ring → fs ≡ generators_of ws →
+    HasNoZero ws → HaveOneDegree fs → NoneIsZero fs → IsVerdictRefusal n fs usual_pairs e → IsUnanswered basis_test_command (ring, (ws, None)) (of_basis_test e)
 test_unanswered n ring ws fs e p q z d s h = IsUnanswered.in_work (z, (subst HaveOneDegree q d, tt)) (record {
   error = e;
   told = refl;
@@ -77,15 +78,16 @@ test_unanswered n ring ws fs e p q z d s h = IsUnanswered.in_work (z, (subst Hav
   refused = subst (λ k. IsVerdictRefusal k (generators_of ws) usual_pairs e) p (subst (λ (gs : List Terms). IsVerdictRefusal n gs usual_pairs e) q h);
 })
 
-pub degree_unanswered : (ring : List (List ℕ)) (ws : List Written) (fs : List Terms) (r : Refusal) → fs ≡ generators_of ws → HasNoZero ws → IsDegreeRefusal true None fs r ⊎ (r ≡ refusals.Memory) →
-    IsUnanswered basis_test_command (ring, (ws, None)) r
+pub degree_unanswered : (ring : List (List ℕ)) (ws : List Written) (fs : List Terms) (r : Refusal) → fs ≡ generators_of ws → HasNoZero ws →
+    IsDegreeRefusal true None fs r ⊎ (r ≡ refusals.Memory) → IsUnanswered basis_test_command (ring, (ws, None)) r
 degree_unanswered ring ws fs r q z (inl h) = IsUnanswered.in_form (inr (z, inl (subst (λ (gs : List Terms). IsDegreeRefusal true None gs r) q h)))
 degree_unanswered ring ws fs r q z (inr m) = IsUnanswered.no_memory m
 
 -- ---- refusals
 
 -- none is told of a zero polynomial
-not_zero : (n : ℕ) (fs : List Terms) (set index : ℕ) → NoneIsZero fs → IsVerdictRefusal n fs usual_pairs (test_errors.Prevariety (tropical_errors.ZeroPolynomial set index)) → ⊥
+not_zero : (n : ℕ) (fs : List Terms) (set index : ℕ) → NoneIsZero fs →
+    IsVerdictRefusal n fs usual_pairs (test_errors.Prevariety (tropical_errors.ZeroPolynomial set index)) → ⊥
 not_zero n fs set index some (IsVerdictRefusal.at_prevariety r h q) =
     let e : r ≡ tropical_errors.ZeroPolynomial set index = cc in
     no_first_zero fs index some (subst (IsTropicalRefusal IsPairSystem n fs) e h).1
@@ -189,21 +191,24 @@ zero_named : (names : Option (List (List ℕ))) (ws : List Written) (r : Refusal
 zero_named names ws (refusals.ZeroPolynomial set index) h = λ lent is. tt
 zero_named names ws _ h = absurd h
 
-degree_named : (ring : List (List ℕ)) (fs : List Terms) (r : Refusal) → HaveRingVariables (length ring) fs → IsDegreeRefusal true None fs r → IsNamedBy (Some ring) r
+degree_named : (ring : List (List ℕ)) (fs : List Terms) (r : Refusal) → HaveRingVariables (length ring) fs → IsDegreeRefusal true None fs r →
+    IsNamedBy (Some ring) r
 degree_named ring fs (refusals.NotHomogeneous p x y) v h = λ lent is.
     let k : NotHomogeneous = record { polynomial = p; first = x; second = y } in
     let variables = first_variables (length ring) fs k v h in
     (lent_names ring x lent is variables.0, lent_names ring y lent is variables.1)
 degree_named ring fs _ v h = absurd h
 
-pub named_unanswered : (ring : List (List ℕ)) (ws : List Written) (r : Refusal) → HaveRingVariables (length ring) (generators_of ws) → IsUnanswered basis_test_command (ring, (ws, None)) r → IsNamedBy (Some ring) r
+pub named_unanswered : (ring : List (List ℕ)) (ws : List Written) (r : Refusal) → HaveRingVariables (length ring) (generators_of ws) →
+    IsUnanswered basis_test_command (ring, (ws, None)) r → IsNamedBy (Some ring) r
 named_unanswered ring ws r v (IsUnanswered.in_form (inl h)) = zero_named (Some ring) ws r h
 named_unanswered ring ws r v (IsUnanswered.in_form (inr (z, inl h))) = degree_named ring (generators_of ws) r v h
 named_unanswered ring ws r v (IsUnanswered.in_form (inr (z, inr (d, h)))) = absurd h
 named_unanswered ring ws r v (IsUnanswered.in_work g w) = subst (IsNamedBy (Some ring)) (sym w.told) (test_named_by (Some ring) w.error)
 named_unanswered ring ws r v (IsUnanswered.no_memory q) = subst (IsNamedBy (Some ring)) (sym q) (λ lent is. tt)
 
-pub of_test_ring : (source : List ℕ) (ring : List (List ℕ)) (set : List Written) (w : Option (List ℤ)) → IsTextOf (ring_set_vector false) source (ring, (set, w)) → (e : Refusal) → IsNamedBy (Some ring) e →
+pub of_test_ring : (source : List ℕ) (ring : List (List ℕ)) (set : List Written) (w : Option (List ℤ)) →
+    IsTextOf (ring_set_vector false) source (ring, (set, w)) → (e : Refusal) → IsNamedBy (Some ring) e →
     IsOfSource source (record { refusal = e; ring = Some ring })
 of_test_ring source ring set w r e h = record { named = h; ring = (r.read.behind, r.read.one) }
 
@@ -212,8 +217,14 @@ of_test_ring source ring set w r e h = record { named = h; ring = (r.read.behind
 basis_test_exact : IsExactCommand basis_test_command
 basis_test_exact = record {
   reading = one_once _ (ring_and_once a_set (vector_where false ∷ []));
-  checks = λ texts v h. of_one_text (ring_set_vector false) _ texts v h (λ source r.
-      (zero_check v.1.0, (degree_check (length v.0) true None (generators_of v.1.0) (set_kept v.0 (from source r.read.behind) r.read.two.behind v.1.0 r.read.two.one), tt)));
+  checks = λ texts v h. of_one_text (ring_set_vector false) _ texts v h (λ source r. (
+    zero_check v.1.0,
+    (
+      degree_check (length v.0) true None (generators_of v.1.0)
+          (set_kept v.0 (from source r.read.behind) r.read.two.behind v.1.0 r.read.two.one),
+      tt,
+    ),
+  ));
   work = λ v r h. subst IsOfWork (sym h.told) (test_work (length v.0) (generators_of v.1.0) h.error h.nonzero h.refused);
   within = λ v r w h. h.told ∙ no_memory h.error (test_memory (length v.0) (generators_of v.1.0) usual_pairs h.error w h.refused);
 }
@@ -221,9 +232,11 @@ basis_test_exact = record {
 -- each of the two
 lawful_by : (basis_test : Bool) → IsLawful (intersection_by basis_test)
 lawful_by false =
-    sound_lawful (intersection_by false) (tropical_exact fans.Intersection) (tropical_tested fans.Intersection) (λ h. h) (λ t. t) (λ a m w. tropical_not_listed fans.Intersection (length a.0) (generators_of a.1.0) m w)
+    sound_lawful (intersection_by false) (tropical_exact fans.Intersection) (tropical_tested fans.Intersection) (λ h. h) (λ t. t)
+    (λ a m w. tropical_not_listed fans.Intersection (length a.0) (generators_of a.1.0) m w)
 lawful_by true =
-    sound_lawful basis_test_command basis_test_exact (untested basis_test_command (λ v r t h. test_untested h.error (subst IsOfTest h.told t))) (λ h. h) (λ t. t) (λ a m w. test_not_listed w.error m w.told)
+    sound_lawful basis_test_command basis_test_exact (untested basis_test_command (λ v r t h. test_untested h.error (subst IsOfTest h.told t))) (λ h. h)
+    (λ t. t) (λ a m w. test_not_listed w.error m w.told)
 
 source_by : (basis_test : Bool) → (intersection_by basis_test).reads ≡ Origin.the_input ∷ []
 source_by false = refl

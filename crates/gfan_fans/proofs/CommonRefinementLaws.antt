@@ -28,7 +28,8 @@ use Rattle.gf_vec.specs.Steps.{IfWide}
 use Rattle.gf_fan_files.specs.FanTexts.{IsWritingStep}
 use Rattle.gfan_fans.specs.FanTexts.{of_writing}
 use Rattle.gfan_common.specs.Refused.{IsNamedBy}
-use Rattle.gfan_fans.specs.CommonRefinement.{of_fan_file, of_refine, IsRefinementText, IsRefinementRefused, IsOfWords, IsRefusedInWords, IsRefinementWithin, in_words, refinement_command}
+use Rattle.gfan_fans.specs.CommonRefinement.{of_fan_file, of_refine, IsRefinementText, IsRefinementRefused, IsOfWords, IsRefusedInWords, IsRefinementWithin}
+use Rattle.gfan_fans.specs.CommonRefinement.{in_words, refinement_command}
 use Rattle.gf_fan_files.proofs.FanOnceLaws.{refusals_once, refusal_refutes}
 use Rattle.gfan_fans.proofs.FanFileLaws.{told_words, words_refused_once, within_memory, ambient_once}
 
@@ -47,7 +48,8 @@ pub told_file : (r : Refusal) (e : FanFileError) → (IsOfNumbers r → ⊥) →
 told_file r e n q l = n (subst IsOfNumbers (sym q) (limits_numbers e l))
 
 -- what isn't told of a text that says a fan is of its numbers
-pub of_numbers : (source : List ℕ) (f : FanLists) (d : Refusal) (e : FanFileError) → IsFanOfText source f → IsFanFileRefusal source e → d ≡ of_fan_file e → IsOfNumbers d
+pub of_numbers : (source : List ℕ) (f : FanLists) (d : Refusal) (e : FanFileError) → IsFanOfText source f → IsFanFileRefusal source e → d ≡ of_fan_file e →
+    IsOfNumbers d
 of_numbers source f d e i h q = subst IsOfNumbers (sym q) (by e h)
   where
     by : (x : FanFileError) → IsFanFileRefusal source x → IsOfNumbers (of_fan_file x)
@@ -66,13 +68,15 @@ of_numbers source f d e i h q = subst IsOfNumbers (sym q) (by e h)
 
 -- ---- two texts
 
-pub file_refused_once : (source : List ℕ) (r d : Refusal) (e x : FanFileError) → (IsOfNumbers r → ⊥) → IsFanFileRefusal source e → r ≡ of_fan_file e → IsFanFileRefusal source x → d ≡ of_fan_file x → (d ≡ r) ⊎ IsOfNumbers d
+pub file_refused_once : (source : List ℕ) (r d : Refusal) (e x : FanFileError) → (IsOfNumbers r → ⊥) → IsFanFileRefusal source e → r ≡ of_fan_file e →
+    IsFanFileRefusal source x → d ≡ of_fan_file x → (d ≡ r) ⊎ IsOfNumbers d
 file_refused_once source r d e x n h q k p = elim (refusals_once source e x (told_file r e n q) h k) [
   | inl s ↦ inl (p ∙ ap of_fan_file s ∙ sym q)
   | inr l ↦ inr (subst IsOfNumbers (sym p) (limits_numbers x l))
 ]
 
-work_refused_once : (a b : List ℕ) (r d : Refusal) (f g h k : FanLists) (e x : RefineError) → (IsOfNumbers r → ⊥) → IsFanOfText a f → IsFanOfText b g → IsFanOfText a h → IsFanOfText b k → IsRefineRefusal f g e → r ≡ of_refine e → IsRefineRefusal h k x → d ≡ of_refine x → (d ≡ r) ⊎ IsOfNumbers d
+work_refused_once : (a b : List ℕ) (r d : Refusal) (f g h k : FanLists) (e x : RefineError) → (IsOfNumbers r → ⊥) → IsFanOfText a f → IsFanOfText b g →
+    IsFanOfText a h → IsFanOfText b k → IsRefineRefusal f g e → r ≡ of_refine e → IsRefineRefusal h k x → d ≡ of_refine x → (d ≡ r) ⊎ IsOfNumbers d
 work_refused_once a b r d f g h k (refine_errors.Cone o) x n i j s t w q y p = absurd (n (subst IsOfNumbers (sym q) tt))
 work_refused_once a b r d f g h k refine_errors.Memory x n i j s t w q y p = absurd (n (subst IsOfNumbers (sym q) tt))
 work_refused_once a b r d f g h k (refine_errors.Dimensions l m) (refine_errors.Cone o) n i j s t w q y p = inr (subst IsOfNumbers (sym p) tt)
@@ -93,10 +97,12 @@ refined_once a b r d n (IsRefinementRefused.in_first e h q) (IsRefinementRefused
 refined_once a b r d n (IsRefinementRefused.in_first e h q) (IsRefinementRefused.in_work f g x i j k p) = absurd (fan_unrefused a f e (told_file r e n q) i h)
 refined_once a b r d n (IsRefinementRefused.in_second f e i h q) (IsRefinementRefused.in_first x k p) = inr (of_numbers a f d x i k p)
 refined_once a b r d n (IsRefinementRefused.in_second f e i h q) (IsRefinementRefused.in_second g x j k p) = file_refused_once b r d e x n h q k p
-refined_once a b r d n (IsRefinementRefused.in_second f e i h q) (IsRefinementRefused.in_work g s x j t k p) = absurd (fan_unrefused b s e (told_file r e n q) t h)
+refined_once a b r d n (IsRefinementRefused.in_second f e i h q) (IsRefinementRefused.in_work g s x j t k p) =
+    absurd (fan_unrefused b s e (told_file r e n q) t h)
 refined_once a b r d n (IsRefinementRefused.in_work f g e i j h q) (IsRefinementRefused.in_first x k p) = inr (of_numbers a f d x i k p)
 refined_once a b r d n (IsRefinementRefused.in_work f g e i j h q) (IsRefinementRefused.in_second s x t k p) = inr (of_numbers b g d x j k p)
-refined_once a b r d n (IsRefinementRefused.in_work f g e i j h q) (IsRefinementRefused.in_work s t x u v k p) = work_refused_once a b r d f g s t e x n i j u v h q k p
+refined_once a b r d n (IsRefinementRefused.in_work f g e i j h q) (IsRefinementRefused.in_work s t x u v k p) =
+    work_refused_once a b r d f g s t e x n i j u v h q k p
 
 pub refined_told : (a b : List ℕ) (r d : Refusal) → (IsOfNumbers r → ⊥) → IsRefinementRefused a b r → IsRefinementRefused a b d → TellsSame r d ⊎ IsOfNumbers d
 refined_told a b r d n h k = elim (refined_once a b r d n h k) [
@@ -124,7 +130,8 @@ once_no_text a b text r n (IsRefinementRefused.in_first e h q) t = fan_unrefused
 once_no_text a b text r n (IsRefinementRefused.in_second f e i h q) t = fan_unrefused b t.second e (told_file r e n q) t.is_second h
 once_no_text a b text r n (IsRefinementRefused.in_work f g (refine_errors.Cone o) i j h q) t = n (subst IsOfNumbers (sym q) tt)
 once_no_text a b text r n (IsRefinementRefused.in_work f g refine_errors.Memory i j h q) t = n (subst IsOfNumbers (sym q) tt)
-once_no_text a b text r n (IsRefinementRefused.in_work f g (refine_errors.Dimensions l m) i j h q) t = h.2 (h.0 ∙ ambient_once a t.first f t.is_first i ∙ sym t.same ∙ sym (ambient_once b t.second g t.is_second j) ∙ sym h.1)
+once_no_text a b text r n (IsRefinementRefused.in_work f g (refine_errors.Dimensions l m) i j h q) t =
+    h.2 (h.0 ∙ ambient_once a t.first f t.is_first i ∙ sym t.same ∙ sym (ambient_once b t.second g t.is_second j) ∙ sym h.1)
 once_no_text a b text r n (IsRefinementRefused.in_writing f g h w i j x s q) t = n (subst IsOfNumbers (sym q) tt)
 once_no_text a b text r n (IsRefinementRefused.no_memory q) t = n (subst IsOfNumbers (sym q) tt)
 
@@ -161,7 +168,10 @@ no_memory r e m = elim (subst IsExactRefusal m e) [ inl x ↦ x | inr x ↦ x ]
 
 pub in_words_once : (a : List ℕ) → IsCheckedOnce (in_words a)
 in_words_once a = record {
-  once = λ r d w v. elim (words_once a a r d w (IsRefinementRefused.in_first v.error v.refused v.is)) [ inl e ↦ e | inr m ↦ absurd (no_memory d (in_words_kind a d v) m) ];
+  once = λ r d w v. elim (words_once a a r d w (IsRefinementRefused.in_first v.error v.refused v.is)) [
+    | inl e ↦ e
+    | inr m ↦ absurd (no_memory d (in_words_kind a d v) m)
+  ];
   apart = λ r h w. h r w;
   kind = in_words_kind a;
 }
@@ -178,10 +188,12 @@ not_exact : (r q : Refusal) → r ≡ q → (IsExactRefusal q → ⊥) → IsExa
 not_exact r q e n x = n (subst IsExactRefusal e x)
 
 module _ (first second a b : List ℕ) where
-  in_form : (r : Refusal) (e : FanFileError) → IsOfWords e → IsFanFileRefusal a e → r ≡ of_fan_file e → IsRefusedOn (refinement_command first second) (a ∷ (b ∷ [])) r
+  in_form : (r : Refusal) (e : FanFileError) → IsOfWords e → IsFanFileRefusal a e → r ≡ of_fan_file e →
+      IsRefusedOn (refinement_command first second) (a ∷ (b ∷ [])) r
   in_form r e w h q = IsRefusedOn.behind_text (a, b) refl (IsUnanswered.in_form (inl (record { error = e; of_words = w; refused = h; is = q })))
 
-  in_work : (r : Refusal) → ((d : Refusal) → IsRefusedInWords a d → ⊥) → IsRefinementRefused a b r → IsRefusedOn (refinement_command first second) (a ∷ (b ∷ [])) r
+  in_work : (r : Refusal) → ((d : Refusal) → IsRefusedInWords a d → ⊥) → IsRefinementRefused a b r →
+      IsRefusedOn (refinement_command first second) (a ∷ (b ∷ [])) r
   in_work r n h = IsRefusedOn.behind_text (a, b) refl (IsUnanswered.in_work (n, tt) h)
 
   -- a refusal of two texts is one of the command
@@ -193,19 +205,25 @@ module _ (first second a b : List ℕ) where
   refinement_refused r (IsRefinementRefused.in_first (file_errors.Missing section) h q) = in_form r (file_errors.Missing section) tt h q
   refinement_refused r (IsRefinementRefused.in_first (file_errors.Dimensions left right) h q) = in_form r (file_errors.Dimensions left right) tt h q
   refinement_refused r (IsRefinementRefused.in_first (file_errors.Cone o) h q) =
-      in_work r (λ d. not_in_words a b r d (not_exact r (of_fan_file (file_errors.Cone o)) q (λ x. elim x [ inl y ↦ y | inr y ↦ y ])) (λ m. cc) (IsRefinementRefused.in_first (file_errors.Cone o) h q)) (IsRefinementRefused.in_first (file_errors.Cone o) h q)
+      in_work r (λ d. not_in_words a b r d (not_exact r (of_fan_file (file_errors.Cone o)) q (λ x. elim x [ inl y ↦ y | inr y ↦ y ])) (λ m. cc)
+      (IsRefinementRefused.in_first (file_errors.Cone o) h q)) (IsRefinementRefused.in_first (file_errors.Cone o) h q)
   refinement_refused r (IsRefinementRefused.in_first (file_errors.NotAFan left right) h q) =
-      in_work r (λ d. not_in_words a b r d (not_exact r (of_fan_file (file_errors.NotAFan left right)) q (λ x. elim x [ inl y ↦ y | inr y ↦ y ])) (λ m. cc) (IsRefinementRefused.in_first (file_errors.NotAFan left right) h q)) (IsRefinementRefused.in_first (file_errors.NotAFan left right) h q)
+      in_work r (λ d. not_in_words a b r d (not_exact r (of_fan_file (file_errors.NotAFan left right)) q (λ x. elim x [ inl y ↦ y | inr y ↦ y ])) (λ m. cc)
+      (IsRefinementRefused.in_first (file_errors.NotAFan left right) h q)) (IsRefinementRefused.in_first (file_errors.NotAFan left right) h q)
   refinement_refused r (IsRefinementRefused.in_first (file_errors.BadRay number) h q) =
-      in_work r (λ d. not_in_words a b r d (not_exact r (of_fan_file (file_errors.BadRay number)) q (λ x. elim x [ inl y ↦ y | inr y ↦ y ])) (λ m. cc) (IsRefinementRefused.in_first (file_errors.BadRay number) h q)) (IsRefinementRefused.in_first (file_errors.BadRay number) h q)
+      in_work r (λ d. not_in_words a b r d (not_exact r (of_fan_file (file_errors.BadRay number)) q (λ x. elim x [ inl y ↦ y | inr y ↦ y ])) (λ m. cc)
+      (IsRefinementRefused.in_first (file_errors.BadRay number) h q)) (IsRefinementRefused.in_first (file_errors.BadRay number) h q)
   refinement_refused r (IsRefinementRefused.in_first (file_errors.BadCertificate cone) h q) =
-      in_work r (λ d. not_in_words a b r d (not_exact r (of_fan_file (file_errors.BadCertificate cone)) q (λ x. elim x [ inl y ↦ y | inr y ↦ y ])) (λ m. cc) (IsRefinementRefused.in_first (file_errors.BadCertificate cone) h q)) (IsRefinementRefused.in_first (file_errors.BadCertificate cone) h q)
+      in_work r (λ d. not_in_words a b r d (not_exact r (of_fan_file (file_errors.BadCertificate cone)) q (λ x. elim x [ inl y ↦ y | inr y ↦ y ])) (λ m. cc)
+      (IsRefinementRefused.in_first (file_errors.BadCertificate cone) h q)) (IsRefinementRefused.in_first (file_errors.BadCertificate cone) h q)
   refinement_refused r (IsRefinementRefused.in_first (file_errors.Wide w) h q) =
-      in_work r (λ d. not_in_words a b r d (not_exact r (of_fan_file (file_errors.Wide w)) q (λ x. elim x [ inl y ↦ y | inr y ↦ y ])) (λ m. cc) (IsRefinementRefused.in_first (file_errors.Wide w) h q)) (IsRefinementRefused.in_first (file_errors.Wide w) h q)
+      in_work r (λ d. not_in_words a b r d (not_exact r (of_fan_file (file_errors.Wide w)) q (λ x. elim x [ inl y ↦ y | inr y ↦ y ])) (λ m. cc)
+      (IsRefinementRefused.in_first (file_errors.Wide w) h q)) (IsRefinementRefused.in_first (file_errors.Wide w) h q)
   refinement_refused r (IsRefinementRefused.in_first file_errors.Memory h q) = IsRefusedOn.no_memory q
   refinement_refused r (IsRefinementRefused.in_second f e i h q) = in_work r (λ d w. fan_in_words a f d i w) (IsRefinementRefused.in_second f e i h q)
   refinement_refused r (IsRefinementRefused.in_work f g e i j h q) = in_work r (λ d w. fan_in_words a f d i w) (IsRefinementRefused.in_work f g e i j h q)
-  refinement_refused r (IsRefinementRefused.in_writing f g h w i j t s q) = in_work r (λ d x. fan_in_words a f d i x) (IsRefinementRefused.in_writing f g h w i j t s q)
+  refinement_refused r (IsRefinementRefused.in_writing f g h w i j t s q) =
+      in_work r (λ d x. fan_in_words a f d i x) (IsRefinementRefused.in_writing f g h w i j t s q)
   refinement_refused r (IsRefinementRefused.no_memory q) = IsRefusedOn.no_memory q
 
   pub refinement_answered : (text : List ℕ) → IsRefinementText a b text → IsAnswered (refinement_command first second) (a ∷ (b ∷ [])) text
@@ -288,6 +306,7 @@ writing_named (vec_errors.Wide w) = λ lent is. tt
 writing_named vec_errors.Memory = λ lent is. tt
 
 -- what is found isn't written
-pub refinement_unwritten : (a b : List ℕ) (f g h : FanLists) (v : VecError) → IsFanOfText a f → IsFanOfText b g → IsRefinementOf f g h → IfWide (IsWritingStep h) v → IsRefinementRefused a b (of_writing v)
+pub refinement_unwritten : (a b : List ℕ) (f g h : FanLists) (v : VecError) → IsFanOfText a f → IsFanOfText b g → IsRefinementOf f g h →
+    IfWide (IsWritingStep h) v → IsRefinementRefused a b (of_writing v)
 refinement_unwritten a b f g h (vec_errors.Wide w) i j t s = IsRefinementRefused.in_writing f g h w i j t s refl
 refinement_unwritten a b f g h vec_errors.Memory i j t s = IsRefinementRefused.no_memory refl

@@ -34,11 +34,13 @@ use Rattle.gfan_fans.specs.CommonRefinement.{IsOfWords, IsFanTextWithin}
 -- within limits one that says a fan isn't refused, unless there is no memory
 pub within_memory : (source : List ℕ) (e : FanFileError) → IsFanTextWithin source → IsFanFileRefusal source e → e ≡ errors.Memory
 within_memory source e w (before_cones k) = refused_sound source w.file e w.is_file w.sound w.within.tests k
-within_memory source e w (behind_form g so s k) = only_memory w.file e w.within w.certified w.meeting (inl (subst (λ q. IsFanFault q e) (file_once source w.file g w.is_file so) k))
+within_memory source e w (behind_form g so s k) =
+    only_memory w.file e w.within w.certified w.meeting (inl (subst (λ q. IsFanFault q e) (file_once source w.file g w.is_file so) k))
 
 -- its fan is one of vectors of one length
 pub ambient_once : (source : List ℕ) (g h : FanLists) → IsFanOfText source g → IsFanOfText source h → h.ambient ≡ g.ambient
-ambient_once source g h s t = t.of_file.is_fan.ambient ∙ ap (λ (f : FanFile). f.ambient) (file_once source s.file t.file s.is_file t.is_file) ∙ sym s.of_file.is_fan.ambient
+ambient_once source g h s t = t.of_file.is_fan.ambient ∙ ap (λ (f : FanFile). f.ambient) (file_once source s.file t.file s.is_file t.is_file) ∙
+    sym s.of_file.is_fan.ambient
 
 -- ---- what is found before any operation on vectors
 
@@ -103,7 +105,8 @@ file_words source e d w m h (not_there other name there known none so) l = subst
 file_words source e d w m (in_text h) (in_form g read k) l = text_sound (told_table source) source read.all e read.held h
 file_words source e d w m (bad_version all number held told first second is) (in_form g read k) l = version_known source g number read told first second
 file_words source e d w m (not_there all section held known missing is) (in_form f said g) l =
-    let same : first_missing (wanted (told_version source)) all ≡ first_missing (wanted (told_version source)) said.all = ap (first_missing (wanted (told_version source))) (sections_once source all said.all held said.held) in
+    let same : first_missing (wanted (told_version source)) all ≡ first_missing (wanted (told_version source)) said.all =
+    ap (first_missing (wanted (told_version source))) (sections_once source all said.all held said.held) in
     let none = none_missing source f said in
     cc
 file_words source e d w m (in_form f said h) (in_form g read k) l = form_words f e d w m h (subst (λ q. IsFormFault q d) (file_once source f g said read) k) l
@@ -115,7 +118,8 @@ certificate_words f e cs given w (at_row place h q) = subst IsOfWords q w
 certificate_words f e cs given w (too_wide x h q) = subst IsOfWords q w
 
 -- where a text is refused so, it is refused so exactly
-pub words_refused_once : (source : List ℕ) (e d : FanFileError) → IsOfWords e → IsFanFileRefusal source e → IsFanFileRefusal source d → (d ≡ e) ⊎ (d ≡ errors.Memory)
+pub words_refused_once : (source : List ℕ) (e d : FanFileError) → IsOfWords e → IsFanFileRefusal source e → IsFanFileRefusal source d →
+    (d ≡ e) ⊎ (d ≡ errors.Memory)
 words_refused_once source e d w (before_cones h) (before_cones k) = by d k (refused_once source e d (told_words e w) h k)
   where
     by : (x : FanFileError) → IsFileRefused source x → (x ≡ e) ⊎ IsOfLimits x → (x ≡ e) ⊎ (x ≡ errors.Memory)

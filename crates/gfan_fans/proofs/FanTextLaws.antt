@@ -24,7 +24,8 @@ pub meeting_refutes : (n : ℕ) (cones : List RowsAndRays) (i j : ℕ) → AreMe
 meeting_refutes n cones i j m h = h.after.clash (λ d. m i j d h.after.ordered h.after.inside)
 
 -- within limits they have a fan, unless there is no memory
-pub fan_within : (n : ℕ) (cones : List RowsAndRays) (e : FanError) → IsFanWithinLimits n cones → AreMeeting n cones → IsFanRefusal n cones e → e ≡ fan_errors.Memory
+pub fan_within : (n : ℕ) (cones : List RowsAndRays) (e : FanError) → IsFanWithinLimits n cones → AreMeeting n cones → IsFanRefusal n cones e →
+    e ≡ fan_errors.Memory
 fan_within n cones (fan_errors.Cone o) w m h = absurd (w o h)
 fan_within n cones (fan_errors.NotAFan i j) w m h = absurd (meeting_refutes n cones i j m h)
 fan_within n cones fan_errors.Memory w m h = refl
@@ -48,11 +49,13 @@ fan_named ring fan_errors.Memory = λ lent is. tt
 -- ---- the text of their fan
 
 -- it isn't written
-pub text_unwritten : (n : ℕ) (cones : List RowsAndRays) (f : FanLists) (v : VecError) (r : Refusal) → IsFanOf n cones f → IfWide (IsWritingStep f) v → r ≡ of_writing v → IsNoFanText n cones r
+pub text_unwritten : (n : ℕ) (cones : List RowsAndRays) (f : FanLists) (v : VecError) (r : Refusal) → IsFanOf n cones f → IfWide (IsWritingStep f) v →
+    r ≡ of_writing v → IsNoFanText n cones r
 text_unwritten n cones f (vec_errors.Wide w) r i h q = IsNoFanText.too_wide f w i h q
 text_unwritten n cones f vec_errors.Memory r i h q = IsNoFanText.no_memory q
 
-pub text_within : (n : ℕ) (cones : List RowsAndRays) (r : Refusal) → IsFanOfConesWithin n cones → AreMeeting n cones → IsNoFanText n cones r → r ≡ refusals.Memory
+pub text_within : (n : ℕ) (cones : List RowsAndRays) (r : Refusal) → IsFanOfConesWithin n cones → AreMeeting n cones → IsNoFanText n cones r →
+    r ≡ refusals.Memory
 text_within n cones r w m (IsNoFanText.no_fan e h q) = q ∙ ap of_fan (fan_within n cones e w.finding m h)
 text_within n cones r w m (IsNoFanText.too_wide f x i h q) = absurd (w.writing f i x h)
 text_within n cones r w m (IsNoFanText.no_memory q) = q

@@ -52,7 +52,9 @@ cut_rows : (cut : Bool) (n : ℕ) (c : ConeRows) → c.beside ≡ units n n → 
 cut_rows false n c p = refl
 cut_rows true n c p = ap (λ (us : List (List ℤ)). c.normals ++ us) p
 
-pub told_normals : (o : GroebnerConeOptions) (s : MarkedPolynomials) (c : ConeRows) (n : ℕ) (hs : List (List ℤ)) (text : List ℕ) → IsMarkedGroebnerBasis s.variables s.items → AreReduced s.items → IsConeOf s.variables (all_positive s.variables) s.items c → s.variables ≡ n → hs ≡ cut_of o.restricted c
+pub told_normals : (o : GroebnerConeOptions) (s : MarkedPolynomials) (c : ConeRows) (n : ℕ) (hs : List (List ℤ)) (text : List ℕ) →
+    IsMarkedGroebnerBasis s.variables s.items → AreReduced s.items → IsConeOf s.variables (all_positive s.variables) s.items c → s.variables ≡ n →
+    hs ≡ cut_of o.restricted c
     → IsToldAs o.as_fan o.certificates n hs [] text → IsBasisConeText o s text
 told_normals o s c n hs text b a k p q h =
     let rows : hs ≡ inequalities_of o.restricted n c.normals = q ∙ cut_rows o.restricted n c (subst (λ m. c.beside ≡ units m m) p k.beside) in
@@ -61,14 +63,18 @@ told_normals o s c n hs text b a k p q h =
       reduced = a;
       normals = c.normals;
       are_normals = k.normals;
-      cone = subst (λ m. IsToldAs o.as_fan o.certificates m (inequalities_of o.restricted m c.normals) [] text) (sym p) (subst (λ (rs : List (List ℤ)). IsToldAs o.as_fan o.certificates n rs [] text) rows h);
+      cone = subst (λ m. IsToldAs o.as_fan o.certificates m (inequalities_of o.restricted m c.normals) [] text) (sym p)
+          (subst (λ (rs : List (List ℤ)). IsToldAs o.as_fan o.certificates n rs [] text) rows h);
     }
 
-pub untold_normals : (o : GroebnerConeOptions) (s : MarkedPolynomials) (c : ConeRows) (n : ℕ) (hs : List (List ℤ)) (r : Refusal) → IsMarkedGroebnerBasis s.variables s.items → AreReduced s.items → IsConeOf s.variables (all_positive s.variables) s.items c → s.variables ≡ n → hs ≡ cut_of o.restricted c
+pub untold_normals : (o : GroebnerConeOptions) (s : MarkedPolynomials) (c : ConeRows) (n : ℕ) (hs : List (List ℤ)) (r : Refusal) →
+    IsMarkedGroebnerBasis s.variables s.items → AreReduced s.items → IsConeOf s.variables (all_positive s.variables) s.items c → s.variables ≡ n →
+    hs ≡ cut_of o.restricted c
     → IsUntoldAs o.as_fan o.certificates n hs [] r → IsBasisConeCause o s r
 untold_normals o s c n hs r b a k p q h =
     let rows : hs ≡ inequalities_of o.restricted n c.normals = q ∙ cut_rows o.restricted n c (subst (λ m. c.beside ≡ units m m) p k.beside) in
-    IsBasisConeCause.at_cone c.normals b a k.normals (subst (λ m. IsUntoldAs o.as_fan o.certificates m (inequalities_of o.restricted m c.normals) [] r) (sym p) (subst (λ (rs : List (List ℤ)). IsUntoldAs o.as_fan o.certificates n rs [] r) rows h))
+    IsBasisConeCause.at_cone c.normals b a k.normals (subst (λ m. IsUntoldAs o.as_fan o.certificates m (inequalities_of o.restricted m c.normals) [] r) (sym p)
+    (subst (λ (rs : List (List ℤ)). IsUntoldAs o.as_fan o.certificates n rs [] r) rows h))
 
 module _ (o : GroebnerConeOptions) (source : List ℕ) (ring : List (List ℕ)) (s : MarkedPolynomials) (read : IsTextOf ring_marked_set source (ring, s)) where
   pub cone_told : (text : List ℕ) → IsBasisConeText o s text → IsAnswered (cone_command false o) (source ∷ []) text
@@ -87,40 +93,49 @@ basis_work o s r (IsBasisConeCause.at_check e h q) = subst IsOfWork (sym q) (che
 basis_work o s r (IsBasisConeCause.at_cone normals b a n h) = numbers_work r (untold_of_numbers o s.variables normals [] r h)
 
 basis_within : (o : GroebnerConeOptions) (s : MarkedPolynomials) (r : Refusal) → IsBasisConeWithin o s → IsBasisConeCause o s r → r ≡ refusals.Memory
-basis_within o s r w (IsBasisConeCause.at_check e h q) = q ∙ ap of_check (reduced_only_memory {A = Unit {0}} 0 s (Err e) w.variables h w.checks w.basis w.reduced)
-basis_within o s r w (IsBasisConeCause.at_cone normals b a n h) = untold_within o.as_fan o.certificates s.variables (inequalities_of o.restricted s.variables normals) [] r (w.cone normals n) h
+basis_within o s r w (IsBasisConeCause.at_check e h q) =
+    q ∙ ap of_check (reduced_only_memory {A = Unit {0}} 0 s (Err e) w.variables h w.checks w.basis w.reduced)
+basis_within o s r w (IsBasisConeCause.at_cone normals b a n h) =
+    untold_within o.as_fan o.certificates s.variables (inequalities_of o.restricted s.variables normals) [] r (w.cone normals n) h
 
-basis_once : (o : GroebnerConeOptions) (s : MarkedPolynomials) (r d : Refusal) → HaveVariables s.variables s.items → IsOfTest r → IsBasisConeCause o s r → IsBasisConeCause o s d → TellsSame r d ⊎ IsOfNumbers d
+basis_once : (o : GroebnerConeOptions) (s : MarkedPolynomials) (r d : Refusal) → HaveVariables s.variables s.items → IsOfTest r → IsBasisConeCause o s r →
+    IsBasisConeCause o s d → TellsSame r d ⊎ IsOfNumbers d
 basis_once o s r d v t (IsBasisConeCause.at_check e h q) (IsBasisConeCause.at_check f k p) =
     let once = reduced_once 0 s e f v (subst IsOfTest q t) h k in
     subst (λ x. TellsSame r x ⊎ IsOfNumbers x) (sym p) (subst (λ x. TellsSame x (of_check f) ⊎ IsOfNumbers (of_check f)) (sym q) once)
 basis_once o s r d v t (IsBasisConeCause.at_check e h q) (IsBasisConeCause.at_cone normals b a n k) = inr (untold_of_numbers o s.variables normals [] d k)
 basis_once o s r d v t (IsBasisConeCause.at_cone normals b a n h) k = absurd (numbers_untested r (untold_of_numbers o s.variables normals [] r h) t)
 
-basis_refutes : (o : GroebnerConeOptions) (s : MarkedPolynomials) (r : Refusal) (text : List ℕ) → HaveVariables s.variables s.items → IsOfTest r → IsBasisConeCause o s r → IsBasisConeText o s text → ⊥
+basis_refutes : (o : GroebnerConeOptions) (s : MarkedPolynomials) (r : Refusal) (text : List ℕ) → HaveVariables s.variables s.items → IsOfTest r →
+    IsBasisConeCause o s r → IsBasisConeText o s text → ⊥
 basis_refutes o s r text v t (IsBasisConeCause.at_check e h q) a = reduced_refutes 0 s e v (subst IsOfTest q t) h a.reduced a.basis
 basis_refutes o s r text v t (IsBasisConeCause.at_cone normals b c n h) a = numbers_untested r (untold_of_numbers o s.variables normals [] r h) t
 
 -- ---- the cone of vectors
 
 -- the dimension is 0
-pub space_unanswered : (o : GroebnerConeOptions) (n : ℕ) (hs es : List (List ℤ)) (r : Refusal) → IsSpaceRefusal n r → IsUnanswered (cone_command true o) (n, (hs, es)) r
+pub space_unanswered : (o : GroebnerConeOptions) (n : ℕ) (hs es : List (List ℤ)) (r : Refusal) → IsSpaceRefusal n r →
+    IsUnanswered (cone_command true o) (n, (hs, es)) r
 space_unanswered o n hs es r h = IsUnanswered.in_form (inl h)
 
 -- an inequality has another number of entries
-pub inequality_unanswered : (o : GroebnerConeOptions) (n : ℕ) (hs es : List (List ℤ)) (r : Refusal) → 1 ≤ n → FirstFails (for_each n hs) r → IsUnanswered (cone_command true o) (n, (hs, es)) r
+pub inequality_unanswered : (o : GroebnerConeOptions) (n : ℕ) (hs es : List (List ℤ)) (r : Refusal) → 1 ≤ n → FirstFails (for_each n hs) r →
+    IsUnanswered (cone_command true o) (n, (hs, es)) r
 inequality_unanswered o n hs es r s h = IsUnanswered.in_form (inr (s, first_in_front n hs es r h))
 
 -- an equation has
-pub equation_unanswered : (o : GroebnerConeOptions) (n : ℕ) (hs es : List (List ℤ)) (r : Refusal) → 1 ≤ n → AreRows n hs → FirstFails (for_each n es) r → IsUnanswered (cone_command true o) (n, (hs, es)) r
+pub equation_unanswered : (o : GroebnerConeOptions) (n : ℕ) (hs es : List (List ℤ)) (r : Refusal) → 1 ≤ n → AreRows n hs → FirstFails (for_each n es) r →
+    IsUnanswered (cone_command true o) (n, (hs, es)) r
 equation_unanswered o n hs es r s w h = IsUnanswered.in_form (inr (s, first_behind n hs es r w h))
 
-pub vectors_unanswered : (o : GroebnerConeOptions) (n : ℕ) (hs rows es : List (List ℤ)) (r : Refusal) → 1 ≤ n → AreRows n hs → AreRows n es → rows ≡ inequalities_of o.restricted n hs → IsUntoldAs o.as_fan o.certificates n rows es r
+pub vectors_unanswered : (o : GroebnerConeOptions) (n : ℕ) (hs rows es : List (List ℤ)) (r : Refusal) → 1 ≤ n → AreRows n hs → AreRows n es →
+    rows ≡ inequalities_of o.restricted n hs → IsUntoldAs o.as_fan o.certificates n rows es r
     → IsUnanswered (cone_command true o) (n, (hs, es)) r
 vectors_unanswered o n hs rows es r s w u e h =
     IsUnanswered.in_work (s, each_joined n hs es w u) (subst (λ (rs : List (List ℤ)). IsUntoldAs o.as_fan o.certificates n rs es r) e h)
 
-pub vectors_answered : (o : GroebnerConeOptions) (n : ℕ) (hs rows es : List (List ℤ)) (text : List ℕ) → 1 ≤ n → AreRows n hs → AreRows n es → rows ≡ inequalities_of o.restricted n hs → IsToldAs o.as_fan o.certificates n rows es text
+pub vectors_answered : (o : GroebnerConeOptions) (n : ℕ) (hs rows es : List (List ℤ)) (text : List ℕ) → 1 ≤ n → AreRows n hs → AreRows n es →
+    rows ≡ inequalities_of o.restricted n hs → IsToldAs o.as_fan o.certificates n rows es text
     → IsAnswerFor (cone_command true o) (n, (hs, es)) text
 vectors_answered o n hs rows es text s w u e h = record {
   formed = (s, each_joined n hs es w u);
@@ -130,20 +145,25 @@ vectors_answered o n hs rows es text s w u e h = record {
 -- the rows have the entries of the space
 pub restricted_width : (cut : Bool) (n : ℕ) (hs rows : List (List ℤ)) → rows ≡ inequalities_of cut n hs → AreRows n hs → AreRows n rows
 restricted_width false n hs rows e w = subst (AreRows n) (sym e) w
-restricted_width true n hs rows e w = subst (AreRows n) (sym e) (All-append (λ (t : List ℤ). length t ≡ n) hs (units n n) w (all_by (λ (t : List ℤ). length t ≡ n) (units n n) (units_wide n n)))
+restricted_width true n hs rows e w = subst (AreRows n) (sym e) (All-append (λ (t : List ℤ). length t ≡ n) hs (units n n) w
+    (all_by (λ (t : List ℤ). length t ≡ n) (units n n) (units_wide n n)))
 
 -- by what is read
-pub vectors_refused : (o : GroebnerConeOptions) (source : List ℕ) (n : ℕ) (hs es given others : List (List ℤ)) (r : Refusal) → IsTextOf dimension_two_lists source (n, (hs, es)) → given ≡ hs → others ≡ es → IsUnanswered (cone_command true o) (n, (given, others)) r
+pub vectors_refused : (o : GroebnerConeOptions) (source : List ℕ) (n : ℕ) (hs es given others : List (List ℤ)) (r : Refusal) →
+    IsTextOf dimension_two_lists source (n, (hs, es)) → given ≡ hs → others ≡ es → IsUnanswered (cone_command true o) (n, (given, others)) r
     → IsRefusedOn (cone_command true o) (source ∷ []) r
 vectors_refused o source n hs es given others r read p q h =
-    IsRefusedOn.behind_text (n, (hs, es)) read (subst (λ (xs : List (List ℤ)). IsUnanswered (cone_command true o) (n, (xs, es)) r) p (subst (λ (ys : List (List ℤ)). IsUnanswered (cone_command true o) (n, (given, ys)) r) q h))
+    IsRefusedOn.behind_text (n, (hs, es)) read (subst (λ (xs : List (List ℤ)). IsUnanswered (cone_command true o) (n, (xs, es)) r) p
+    (subst (λ (ys : List (List ℤ)). IsUnanswered (cone_command true o) (n, (given, ys)) r) q h))
 
-pub vectors_told : (o : GroebnerConeOptions) (source : List ℕ) (n : ℕ) (hs es given others : List (List ℤ)) (text : List ℕ) → IsTextOf dimension_two_lists source (n, (hs, es)) → given ≡ hs → others ≡ es → IsAnswerFor (cone_command true o) (n, (given, others)) text
+pub vectors_told : (o : GroebnerConeOptions) (source : List ℕ) (n : ℕ) (hs es given others : List (List ℤ)) (text : List ℕ) →
+    IsTextOf dimension_two_lists source (n, (hs, es)) → given ≡ hs → others ≡ es → IsAnswerFor (cone_command true o) (n, (given, others)) text
     → IsAnswered (cone_command true o) (source ∷ []) text
 vectors_told o source n hs es given others text read p q h = record {
   value = (n, (hs, es));
   read = read;
-  answer = subst (λ (xs : List (List ℤ)). IsAnswerFor (cone_command true o) (n, (xs, es)) text) p (subst (λ (ys : List (List ℤ)). IsAnswerFor (cone_command true o) (n, (given, ys)) text) q h);
+  answer = subst (λ (xs : List (List ℤ)). IsAnswerFor (cone_command true o) (n, (xs, es)) text) p
+      (subst (λ (ys : List (List ℤ)). IsAnswerFor (cone_command true o) (n, (given, ys)) text) q h);
 }
 
 -- ---- its laws
@@ -174,7 +194,8 @@ basis_not_listed : (o : GroebnerConeOptions) (s : MarkedPolynomials) (most : ℕ
 basis_not_listed o s most (IsBasisConeCause.at_check e h q) = check_not_listed e most q
 basis_not_listed o s most (IsBasisConeCause.at_cone normals b a n h) = untold_of_numbers o s.variables normals [] (refusals.ListLimit most) h
 
-cone_not_listed : (vector_input : Bool) (o : GroebnerConeOptions) (a : (cone_command vector_input o).Value) (most : ℕ) → (cone_command vector_input o).IsCause a (refusals.ListLimit most) → ⊥
+cone_not_listed : (vector_input : Bool) (o : GroebnerConeOptions) (a : (cone_command vector_input o).Value) (most : ℕ) →
+    (cone_command vector_input o).IsCause a (refusals.ListLimit most) → ⊥
 cone_not_listed false o a most h = basis_not_listed o a.1 most h
 cone_not_listed true o a most h = untold_of_numbers o a.0 a.1.0 a.1.1 (refusals.ListLimit most) h
 

@@ -37,10 +37,12 @@ use Rattle.gfan_fans.proofs.FanTextLaws.{meeting_refutes, text_within, text_work
 -- ---- the polynomials
 
 -- one further
-pub nonzero_more : (ws : List Written) (i : ℕ) (w : Written) (found new : List MarkedPolynomial) → i < length ws → w ≡ get_or ws i w → new ≡ found ++ marked_of w → found ≡ nonzero_of (take i ws) → new ≡ nonzero_of (take (i + 1) ws)
+pub nonzero_more : (ws : List Written) (i : ℕ) (w : Written) (found new : List MarkedPolynomial) → i < length ws → w ≡ get_or ws i w →
+    new ≡ found ++ marked_of w → found ≡ nonzero_of (take i ws) → new ≡ nonzero_of (take (i + 1) ws)
 nonzero_more ws i w found new l is e f =
     let more : take (i + 1) ws ≡ take i ws ++ w ∷ [] = take_more ws i w l ∙ ap (λ (z : Written). take i ws ++ z ∷ []) (sym is) in
-    let all : nonzero_of (take (i + 1) ws) ≡ nonzero_of (take i ws) ++ nonzero_of (w ∷ []) = ap nonzero_of more ∙ flat_map-append marked_of (take i ws) (w ∷ []) in
+    let all : nonzero_of (take (i + 1) ws) ≡ nonzero_of (take i ws) ++ nonzero_of (w ∷ []) =
+    ap nonzero_of more ∙ flat_map-append marked_of (take i ws) (w ∷ []) in
     e ∙ ap (λ (x : List MarkedPolynomial). x ++ marked_of w) f
     ∙ sym (all ∙ ap (λ (x : List MarkedPolynomial). nonzero_of (take i ws) ++ x) (append-nil (marked_of w)))
 
@@ -51,23 +53,30 @@ nonzero_in n (written.Zero ∷ ws) h = nonzero_in n ws h.1
 nonzero_in n (written.Nonzero m ∷ ws) h = (h.0, nonzero_in n ws h.1)
 
 -- its fan isn't found
-pub fan_refused : (n : ℕ) (bs : List MarkedPolynomial) (c : RowsAndRays) (cones : List RowsAndRays) (r : Refusal) → IsSpaceCone n bs c → cones ≡ c ∷ [] → IsNoFanText n cones r → IsNoSpace n bs r
+pub fan_refused : (n : ℕ) (bs : List MarkedPolynomial) (c : RowsAndRays) (cones : List RowsAndRays) (r : Refusal) → IsSpaceCone n bs c → cones ≡ c ∷ [] →
+    IsNoFanText n cones r → IsNoSpace n bs r
 fan_refused n bs c cones r h p f = IsNoSpace.at_fan c h (subst (λ (cs : List RowsAndRays). IsNoFanText n cs r) p f)
 
 -- ---- from a source on
 
-pub space_answered : (source text : List ℕ) (ring : List (List ℕ)) (set given : List Written) (vector : Option (List ℤ)) (n : ℕ) → IsTextOf (ring_set_vector false) source (ring, (set, vector)) → n ≡ length ring → given ≡ set → IsSpaceText n (nonzero_of given) text
+pub space_answered : (source text : List ℕ) (ring : List (List ℕ)) (set given : List Written) (vector : Option (List ℤ)) (n : ℕ) →
+    IsTextOf (ring_set_vector false) source (ring, (set, vector)) → n ≡ length ring → given ≡ set → IsSpaceText n (nonzero_of given) text
     → IsAnswered homogeneity_space_command (source ∷ []) text
 space_answered source text ring set given vector n read e p h = record {
   value = (ring, (set, vector));
   read = read;
-  answer = record { formed = tt; is_answer = subst (λ k. IsSpaceText k (nonzero_of set) text) e (subst (λ (ws : List Written). IsSpaceText n (nonzero_of ws) text) p h) };
+  answer = record {
+    formed = tt;
+    is_answer = subst (λ k. IsSpaceText k (nonzero_of set) text) e (subst (λ (ws : List Written). IsSpaceText n (nonzero_of ws) text) p h);
+  };
 }
 
-pub space_unanswered : (source : List ℕ) (r : Refusal) (ring : List (List ℕ)) (set given : List Written) (vector : Option (List ℤ)) (n : ℕ) → IsTextOf (ring_set_vector false) source (ring, (set, vector)) → n ≡ length ring → given ≡ set → IsNoSpace n (nonzero_of given) r
+pub space_unanswered : (source : List ℕ) (r : Refusal) (ring : List (List ℕ)) (set given : List Written) (vector : Option (List ℤ)) (n : ℕ) →
+    IsTextOf (ring_set_vector false) source (ring, (set, vector)) → n ≡ length ring → given ≡ set → IsNoSpace n (nonzero_of given) r
     → IsRefusedOn homogeneity_space_command (source ∷ []) r
 space_unanswered source r ring set given vector n read e p h =
-    IsRefusedOn.behind_text (ring, (set, vector)) read (IsUnanswered.in_work tt (subst (λ k. IsNoSpace k (nonzero_of set) r) e (subst (λ (ws : List Written). IsNoSpace n (nonzero_of ws) r) p h)))
+    IsRefusedOn.behind_text (ring, (set, vector)) read (IsUnanswered.in_work tt
+    (subst (λ k. IsNoSpace k (nonzero_of set) r) e (subst (λ (ws : List Written). IsNoSpace n (nonzero_of ws) r) p h)))
 
 -- it names no monomials
 pub no_space_named : (n : ℕ) (bs : List MarkedPolynomial) (r : Refusal) → IsNoSpace n bs r → IsNamedBy None r

@@ -49,8 +49,12 @@ file_kind (file_errors.Wide w) = FileKind.of_work (λ w. w) (λ q. cc)
 file_kind file_errors.Memory = FileKind.of_memory refl
 
 -- it isn't found in words where another refusal is told
-not_in_words : (source : List ℕ) (e : FanFileError) (r : Refusal) → (IsOfWords e → ⊥) → (e ≡ file_errors.Memory → ⊥) → IsMigrationRefusal source e → IsRefusedInWords source r → ⊥
-not_in_words source e r n m (unread h) w = elim (words_refused_once source w.error e w.of_words w.refused h) [ inl s ↦ n (subst IsOfWords (sym s) w.of_words) | inr s ↦ m s ]
+not_in_words : (source : List ℕ) (e : FanFileError) (r : Refusal) → (IsOfWords e → ⊥) → (e ≡ file_errors.Memory → ⊥) → IsMigrationRefusal source e →
+    IsRefusedInWords source r → ⊥
+not_in_words source e r n m (unread h) w = elim (words_refused_once source w.error e w.of_words w.refused h) [
+  | inl s ↦ n (subst IsOfWords (sym s) w.of_words)
+  | inr s ↦ m s
+]
 not_in_words source e r n m (unwritten f w i h q) x = fan_in_words source f r i x
 not_in_words source e r n m (no_memory q) w = m q
 
@@ -63,9 +67,13 @@ pub migration_refused : (source : List ℕ) (e : FanFileError) → IsMigrationRe
 migration_refused source e h = by (file_kind e)
   where
     by : FileKind e → IsRefusedOn migrate_fan_command (source ∷ []) (of_fan_file e)
-    by (FileKind.of_words w) = IsRefusedOn.behind_text source refl (IsUnanswered.in_form (inl (record { error = e; of_words = w; refused = words_unread source e w h; is = refl })))
+    by (FileKind.of_words w) =
+        IsRefusedOn.behind_text source refl (IsUnanswered.in_form (inl (record { error = e; of_words = w; refused = words_unread source e w h; is = refl })))
     by (FileKind.of_memory q) = IsRefusedOn.no_memory (ap of_fan_file q)
-    by (FileKind.of_work n m) = IsRefusedOn.behind_text source refl (IsUnanswered.in_work (λ r w. not_in_words source e r n m h w, tt) (record { error = e; of_work = n; refused = h; is = refl }))
+    by (FileKind.of_work n m) = IsRefusedOn.behind_text source refl (IsUnanswered.in_work (
+      λ r w. not_in_words source e r n m h w,
+      tt,
+    ) (record { error = e; of_work = n; refused = h; is = refl }))
 
 -- ---- a source is answered in one way
 
@@ -83,7 +91,8 @@ file_work (file_errors.BadVersion number) n = absurd (n tt)
 file_work (file_errors.Missing section) n = absurd (n tt)
 file_work (file_errors.Dimensions left right) n = absurd (n tt)
 
-migration_within : (source : List ℕ) (r : Refusal) (e : FanFileError) → IsMigrationWithin source → IsMigrationRefusal source e → r ≡ of_fan_file e → r ≡ refusals.Memory
+migration_within : (source : List ℕ) (r : Refusal) (e : FanFileError) → IsMigrationWithin source → IsMigrationRefusal source e → r ≡ of_fan_file e →
+    r ≡ refusals.Memory
 migration_within source r e w (unread h) q = q ∙ ap of_fan_file (within_memory source e w.reading h)
 migration_within source r e w (unwritten f x i h p) q = absurd (w.writing f i x h)
 migration_within source r e w (no_memory p) q = q ∙ ap of_fan_file p
@@ -100,21 +109,26 @@ migrate_fan_exact = record {
 test_told : (r : Refusal) → IsOfTest r → IsOfNumbers r → ⊥
 test_told r t n = numbers_untested r n t
 
-migration_told : (source : List ℕ) (r d : Refusal) (e x : FanFileError) → IsOfTest r → IsMigrationRefusal source e → r ≡ of_fan_file e → IsMigrationRefusal source x → d ≡ of_fan_file x → (d ≡ r) ⊎ IsOfNumbers d
+migration_told : (source : List ℕ) (r d : Refusal) (e x : FanFileError) → IsOfTest r → IsMigrationRefusal source e → r ≡ of_fan_file e →
+    IsMigrationRefusal source x → d ≡ of_fan_file x → (d ≡ r) ⊎ IsOfNumbers d
 migration_told source r d e x t h q (unwritten f w i k s) p = inr (subst IsOfNumbers (sym (p ∙ ap of_fan_file s)) tt)
 migration_told source r d e x t h q (no_memory s) p = inr (subst IsOfNumbers (sym (p ∙ ap of_fan_file s)) tt)
 migration_told source r d e x t (unwritten f w i h s) q k p = absurd (subst IsOfTest (q ∙ ap of_fan_file s) t)
 migration_told source r d e x t (no_memory s) q k p = absurd (subst IsOfTest (q ∙ ap of_fan_file s) t)
 migration_told source r d e x t (unread h) q (unread k) p = file_refused_once source r d e x (test_told r t) h q k p
 
-migration_refutes : (source text : List ℕ) (r : Refusal) (e : FanFileError) → IsOfTest r → IsMigrationRefusal source e → r ≡ of_fan_file e → IsMigratedWhole source text → ⊥
+migration_refutes : (source text : List ℕ) (r : Refusal) (e : FanFileError) → IsOfTest r → IsMigrationRefusal source e → r ≡ of_fan_file e →
+    IsMigratedWhole source text → ⊥
 migration_refutes source text r e t (unread h) q a = fan_unrefused source a.migrated.fan e (told_file r e (test_told r t) q) a.migrated.of_source h
 migration_refutes source text r e t (unwritten f w i h s) q a = subst IsOfTest (q ∙ ap of_fan_file s) t
 migration_refutes source text r e t (no_memory s) q a = subst IsOfTest (q ∙ ap of_fan_file s) t
 
 pub migrate_fan_tested : IsTestedCommand migrate_fan_command
 migrate_fan_tested = record {
-  tests = λ texts source r d read t h k. elim (migration_told source r d h.error k.error t h.refused h.is k.refused k.is) [ inl e ↦ inl (subst (TellsSame r) (sym e) (tells_itself r)) | inr n ↦ inr n ];
+  tests = λ texts source r d read t h k. elim (migration_told source r d h.error k.error t h.refused h.is k.refused k.is) [
+    | inl e ↦ inl (subst (TellsSame r) (sym e) (tells_itself r))
+    | inr n ↦ inr n
+  ];
   answers = λ texts source r text read t h a. migration_refutes source text r h.error t h.refused h.is a;
   wholes = λ texts source r text read t h a. migration_refutes source text r h.error t h.refused h.is a;
 }

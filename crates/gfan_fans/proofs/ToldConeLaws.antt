@@ -52,7 +52,8 @@ cone_fan_memory n hs es r w (IsConeFanCause.at_rays o h q) = absurd (w.rays o h)
 cone_fan_memory n hs es r w (IsConeFanCause.at_fan c k h) = text_within n (c ∷ []) r (w.fan c k) (one_meets n c) h
 cone_fan_memory n hs es r w (IsConeFanCause.no_memory m) = m
 
-pub untold_within : (as_fan certified : Bool) (n : ℕ) (hs es : List (List ℤ)) (r : Refusal) → IsToldWithin as_fan certified n hs es → IsUntoldAs as_fan certified n hs es r → r ≡ refusals.Memory
+pub untold_within : (as_fan certified : Bool) (n : ℕ) (hs es : List (List ℤ)) (r : Refusal) → IsToldWithin as_fan certified n hs es →
+    IsUntoldAs as_fan certified n hs es r → r ≡ refusals.Memory
 untold_within false certified n hs es r w h = h.1 ∙ ap of_sections (w h.0 h.2)
 untold_within true certified n hs es r w h = cone_fan_memory n hs es r w h
 
@@ -61,5 +62,6 @@ pub rays_untold : (n : ℕ) (hs es : List (List ℤ)) (e : GordanError) (r : Ref
 rays_untold n hs es (gordan_errors.Cone o) r h q = IsConeFanCause.at_rays o h q
 rays_untold n hs es gordan_errors.Memory r h q = IsConeFanCause.no_memory q
 
-pub fan_untold : (n : ℕ) (hs es : List (List ℤ)) (c : RowsAndRays) (cones : List RowsAndRays) (r : Refusal) → IsConeByRows n hs es c → cones ≡ c ∷ [] → IsNoFanText n cones r → IsConeFanCause n hs es r
+pub fan_untold : (n : ℕ) (hs es : List (List ℤ)) (c : RowsAndRays) (cones : List RowsAndRays) (r : Refusal) → IsConeByRows n hs es c → cones ≡ c ∷ [] →
+    IsNoFanText n cones r → IsConeFanCause n hs es r
 fan_untold n hs es c cones r h p f = IsConeFanCause.at_fan c h (subst (λ (cs : List RowsAndRays). IsNoFanText n cs r) p f)

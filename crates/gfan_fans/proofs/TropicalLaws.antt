@@ -30,7 +30,8 @@ use Rattle.gfan_fans.specs.declared.tropical.TropicalFan.TheVariants as fans
 use Rattle.gfan_common.specs.Forms.{generators_of}
 use Rattle.gfan_fans.specs.FanTexts.{of_writing}
 use Rattle.gfan_common.specs.ToolForms.{HasNoZero}
-use Rattle.gfan_fans.specs.Tropical.{HasNumber, IsNumberRefusal, for_number, systems_of, IsTropicalStep, IsFanOfPolynomials, IsNoTropicalText, IsTropicalWithin, of_tropical, tropical_command}
+use Rattle.gfan_fans.specs.Tropical.{HasNumber, IsNumberRefusal, for_number, systems_of, IsTropicalStep, IsFanOfPolynomials, IsNoTropicalText, IsTropicalWithin}
+use Rattle.gfan_fans.specs.Tropical.{of_tropical, tropical_command}
 use Rattle.gfan_common.proofs.ToolFormLaws.{zero_check}
 
 -- ---- the form
@@ -39,7 +40,8 @@ number_check : (which : TropicalFan) (count : ℕ) → IsCheckedOnce (for_number
 number_check fans.Hypersurface count = record { once = once; apart = apart; kind = kind }
   where
     once : (r d : Refusal) → IsNumberRefusal fans.Hypersurface count r → IsNumberRefusal fans.Hypersurface count d → d ≡ r
-    once (refusals.Dimensions l m) (refusals.Dimensions i j) h k = ap (λ z. refusals.Dimensions z j) (k.0 ∙ sym h.0) ∙ ap (λ z. refusals.Dimensions l z) (k.1 ∙ sym h.1)
+    once (refusals.Dimensions l m) (refusals.Dimensions i j) h k =
+        ap (λ z. refusals.Dimensions z j) (k.0 ∙ sym h.0) ∙ ap (λ z. refusals.Dimensions l z) (k.1 ∙ sym h.1)
     once (refusals.Dimensions l m) _ h k = absurd k
     once _ d h k = absurd h
 
@@ -65,27 +67,35 @@ generators_read ws ms a = ap generators_of a ∙ generators_nonzero ms
 
 -- ---- for what is read
 
-formed : (which : TropicalFan) (ring : List (List ℕ)) (ws : List Written) (count : ℕ) → count ≡ length ws → HasNumber which count → HasNoZero ws → AllHold ((tropical_command which).checks (ring, (ws, None)))
+formed : (which : TropicalFan) (ring : List (List ℕ)) (ws : List Written) (count : ℕ) → count ≡ length ws → HasNumber which count → HasNoZero ws →
+    AllHold ((tropical_command which).checks (ring, (ws, None)))
 formed which ring ws count e l z = (subst (HasNumber which) e l, (z, tt))
 
 -- where none is zero, none is the first that is
 pub no_first_zero : (fs : List Terms) (index : ℕ) → All (λ f. f ≢ []) fs → IsFirstZeroPolynomial fs index → ⊥
 no_first_zero fs index some h = some index _ h.inside h.zero
 
-pub fan_unanswered : (which : TropicalFan) (ring : List (List ℕ)) (ws : List Written) (count n : ℕ) (fs gs : List Terms) (e : TropicalError) → count ≡ length ws → HasNumber which count → HasNoZero ws
-    → n ≡ length ring → gs ≡ fs → fs ≡ generators_of ws → All (λ f. f ≢ []) fs → IsTropicalRefusal (systems_of which) n gs e → IsUnanswered (tropical_command which) (ring, (ws, None)) (of_tropical e)
+pub fan_unanswered : (which : TropicalFan) (ring : List (List ℕ)) (ws : List Written) (count n : ℕ) (fs gs : List Terms) (e : TropicalError) →
+    count ≡ length ws → HasNumber which count → HasNoZero ws
+    → n ≡ length ring → gs ≡ fs → fs ≡ generators_of ws → All (λ f. f ≢ []) fs → IsTropicalRefusal (systems_of which) n gs e →
+    IsUnanswered (tropical_command which) (ring, (ws, None)) (of_tropical e)
 fan_unanswered which ring ws count n fs gs (tropical_errors.Cone o) e l z m p q some h =
     IsUnanswered.in_work (formed which ring ws count e l z)
-    (IsNoTropicalText.in_system o (subst (λ k. IsTropicalStep which k (generators_of ws) o) m (subst (λ (x : List Terms). IsTropicalStep which n x o) (p ∙ q) h.1)) refl)
-fan_unanswered which ring ws count n fs gs (tropical_errors.ZeroPolynomial set index) e l z m p q some h = absurd (no_first_zero gs index (subst (All (λ (f : Terms). f ≢ [])) (sym p) some) h.1)
+    (IsNoTropicalText.in_system o (subst (λ k. IsTropicalStep which k (generators_of ws) o) m (subst (λ (x : List Terms). IsTropicalStep which n x o)
+    (p ∙ q) h.1)) refl)
+fan_unanswered which ring ws count n fs gs (tropical_errors.ZeroPolynomial set index) e l z m p q some h =
+    absurd (no_first_zero gs index (subst (All (λ (f : Terms). f ≢ [])) (sym p) some) h.1)
 fan_unanswered which ring ws count n fs gs tropical_errors.Memory e l z m p q some h = IsUnanswered.no_memory refl
 
 -- the fan is found, and isn't written
-pub text_unanswered : (which : TropicalFan) (ring : List (List ℕ)) (ws : List Written) (count n : ℕ) (fs gs : List Terms) (h : FanLists) (v : VecError) → count ≡ length ws → HasNumber which count → HasNoZero ws
-    → n ≡ length ring → gs ≡ fs → fs ≡ generators_of ws → IsFanOfPolynomials which n gs h → IfWide (IsWritingStep h) v → IsUnanswered (tropical_command which) (ring, (ws, None)) (of_writing v)
+pub text_unanswered : (which : TropicalFan) (ring : List (List ℕ)) (ws : List Written) (count n : ℕ) (fs gs : List Terms) (h : FanLists) (v : VecError) →
+    count ≡ length ws → HasNumber which count → HasNoZero ws
+    → n ≡ length ring → gs ≡ fs → fs ≡ generators_of ws → IsFanOfPolynomials which n gs h → IfWide (IsWritingStep h) v →
+    IsUnanswered (tropical_command which) (ring, (ws, None)) (of_writing v)
 text_unanswered which ring ws count n fs gs h (vec_errors.Wide w) e l z m p q i step =
     IsUnanswered.in_work (formed which ring ws count e l z)
-    (IsNoTropicalText.too_wide h w (subst (λ k. IsFanOfPolynomials which k (generators_of ws) h) m (subst (λ (x : List Terms). IsFanOfPolynomials which n x h) (p ∙ q) i)) step refl)
+    (IsNoTropicalText.too_wide h w (subst (λ k. IsFanOfPolynomials which k (generators_of ws) h) m (subst (λ (x : List Terms). IsFanOfPolynomials which n x h)
+    (p ∙ q) i)) step refl)
 text_unanswered which ring ws count n fs gs h vec_errors.Memory e l z m p q i step = IsUnanswered.no_memory refl
 
 -- ---- a source is answered in one way
@@ -95,7 +105,8 @@ tropical_work which n fs r (IsNoTropicalText.in_system o h q) = subst IsOfWork (
 tropical_work which n fs r (IsNoTropicalText.too_wide f w i h q) = subst IsOfWork (sym q) tt
 tropical_work which n fs r (IsNoTropicalText.no_memory q) = subst IsOfWork (sym q) tt
 
-tropical_within : (which : TropicalFan) (n : ℕ) (fs : List Terms) (r : Refusal) → IsTropicalWithin which n fs → IsNoTropicalText which n fs r → r ≡ refusals.Memory
+tropical_within : (which : TropicalFan) (n : ℕ) (fs : List Terms) (r : Refusal) → IsTropicalWithin which n fs → IsNoTropicalText which n fs r →
+    r ≡ refusals.Memory
 tropical_within which n fs r w (IsNoTropicalText.in_system o h q) = absurd (w.systems o h)
 tropical_within which n fs r w (IsNoTropicalText.too_wide f x i h q) = absurd (w.writing f i x h)
 tropical_within which n fs r w (IsNoTropicalText.no_memory q) = q

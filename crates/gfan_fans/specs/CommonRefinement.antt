@@ -65,7 +65,8 @@ pub data IsRefinementRefused (a b : List ℕ) (r : Refusal) : Type 0 where
   in_first : (e : FanFileError) → IsFanFileRefusal a e → r ≡ of_fan_file e → IsRefinementRefused a b r
   in_second : (f : FanLists) (e : FanFileError) → IsFanOfText a f → IsFanFileRefusal b e → r ≡ of_fan_file e → IsRefinementRefused a b r
   in_work : (f g : FanLists) (e : RefineError) → IsFanOfText a f → IsFanOfText b g → IsRefineRefusal f g e → r ≡ of_refine e → IsRefinementRefused a b r
-  in_writing : (f g h : FanLists) (w : WideVector) → IsFanOfText a f → IsFanOfText b g → IsRefinementOf f g h → IsWritingStep h w → r ≡ refusals.WideVector w → IsRefinementRefused a b r
+  in_writing : (f g h : FanLists) (w : WideVector) → IsFanOfText a f → IsFanOfText b g → IsRefinementOf f g h → IsWritingStep h w → r ≡ refusals.WideVector w →
+      IsRefinementRefused a b r
   no_memory : r ≡ refusals.Memory → IsRefinementRefused a b r
 
 -- the refusal is found without operations on vectors: a fault of the text, an unknown version, a missing section, or a wrong length

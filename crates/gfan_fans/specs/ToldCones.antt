@@ -35,7 +35,8 @@ pub record IsConeFanText (n : ℕ) (inequalities equations : List (List ℤ)) (t
 
 -- the rays of the cone aren't found; or they are, and its fan isn't found or isn't written; or memory runs out
 pub data IsConeFanCause (n : ℕ) (inequalities equations : List (List ℤ)) (r : Refusal) : Type 0 where
-  at_rays : (o : ConeOverflow) → IsByRowsStep n inequalities equations o → r ≡ refusals.ConeOverflow o.row o.op o.left o.right → IsConeFanCause n inequalities equations r
+  at_rays : (o : ConeOverflow) → IsByRowsStep n inequalities equations o → r ≡ refusals.ConeOverflow o.row o.op o.left o.right →
+      IsConeFanCause n inequalities equations r
   at_fan : (c : RowsAndRays) → IsConeByRows n inequalities equations c → IsNoFanText n (c ∷ []) r → IsConeFanCause n inequalities equations r
   no_memory : r ≡ refusals.Memory → IsConeFanCause n inequalities equations r
 

@@ -49,7 +49,8 @@ use Rattle.gfan_common.specs.Causes.{of_tree}
 use Rattle.gfan_common.specs.CheckedSets.{of_check}
 use Rattle.gfan_common.specs.ReducedSets.{IsReducedAsRead}
 use Rattle.gfan_common.specs.Refused.{IsNamedBy}
-use Rattle.gfan_interactive.specs.Interactive.{IsStart, IsUnopened, walk_from, of_session, IsSessionCutOff, IsHeldFrom, IsCutFrom, IsWalkedWithin, interactive_command, IsConversed, IsNotConversed}
+use Rattle.gfan_interactive.specs.Interactive.{IsStart, IsUnopened, walk_from, of_session, IsSessionCutOff, IsHeldFrom, IsCutFrom, IsWalkedWithin}
+use Rattle.gfan_interactive.specs.Interactive.{interactive_command, IsConversed, IsNotConversed}
 use Rattle.gfan_common.proofs.ReadSetLaws.{IsSetKept, one_kept, read_variables}
 use Rattle.gfan_common.proofs.CheckedSetLaws.{named_reduced, reduced_once, reduced_refutes}
 use Rattle.gfan_common.proofs.CauseLaws.{tree_numbers, named_tree}
@@ -59,7 +60,8 @@ use Rattle.gfan_common.proofs.CauseLaws.{tree_numbers, named_tree}
 read_kept : (source : List ℕ) (v : List (List ℕ) × MarkedPolynomials) → IsTextOf ring_marked_set source v → IsSetKept (length v.0) v.1
 read_kept source v read = one_kept v.0 (from source read.read.behind) read.end v.1 read.read.two
 
-pub start_read : (source : List ℕ) (ring : List (List ℕ)) (s start : MarkedPolynomials) → IsTextOf ring_marked_set source (ring, s) → IsReducedAsRead s start → IsStart s start
+pub start_read : (source : List ℕ) (ring : List (List ℕ)) (s start : MarkedPolynomials) → IsTextOf ring_marked_set source (ring, s) → IsReducedAsRead s start →
+    IsStart s start
 start_read source ring s start read a = record { variables = read_variables source (ring, s) read; read = a }
 
 -- it is a basis of the ideal of the set
@@ -72,7 +74,8 @@ start_node s start h =
       variables = same;
       basis = only_ideals_count.in_region s.variables (polys start.items) (polys s.items) (all_positive s.variables) start.items
           (record { inside = ideal.back; back = ideal.inside })
-          (subst (λ n. IsBasisInRegion n (polys start.items) (all_positive n) start.items) same (basis_everywhere start.variables (polys start.items) start.items h.read.basis.reduced));
+          (subst (λ n. IsBasisInRegion n (polys start.items) (all_positive n) start.items) same (basis_everywhere start.variables (polys start.items)
+          start.items h.read.basis.reduced));
     }
 
 -- a basis of an ideal, as one of the ideal that it generates
@@ -103,7 +106,8 @@ tree_writing turns (tree_errors.PairBudget b u) = tt
 tree_writing turns (tree_errors.Cone s) = tt
 tree_writing turns tree_errors.Memory = tt
 
-unopened_writing : {A : Type 0} (turns : Turns A) (pairs : ℕ) (s : MarkedPolynomials) (r : Refusal) → IsUnopened pairs s r → IsOfWriting (Writing.in_turns turns) r
+unopened_writing : {A : Type 0} (turns : Turns A) (pairs : ℕ) (s : MarkedPolynomials) (r : Refusal) → IsUnopened pairs s r →
+    IsOfWriting (Writing.in_turns turns) r
 unopened_writing turns pairs s r (IsUnopened.at_set e h q) = subst (IsOfWriting (Writing.in_turns turns)) (sym q) (check_writing turns e)
 unopened_writing turns pairs s r (IsUnopened.at_start start e a h q) = subst (IsOfWriting (Writing.in_turns turns)) (sym q) (tree_writing turns e)
 unopened_writing turns pairs s r (IsUnopened.no_memory m) = subst (IsOfWriting (Writing.in_turns turns)) (sym m) tt
@@ -134,7 +138,8 @@ opened_refutes pairs s start r f (IsUnopened.at_set e h q) a =
 opened_refutes pairs s start r f (IsUnopened.at_start t e b h q) a = tree_fixed e (subst IsFixed q f)
 opened_refutes pairs s start r f (IsUnopened.no_memory m) a = no_fixed_memory r m f
 
-unopened_once : (pairs : ℕ) (s : MarkedPolynomials) (r d : Refusal) → HaveVariables s.variables s.items → IsFixed r → IsUnopened pairs s r → IsUnopened pairs s d → TellsSame r d ⊎ IsOfNumbers d
+unopened_once : (pairs : ℕ) (s : MarkedPolynomials) (r d : Refusal) → HaveVariables s.variables s.items → IsFixed r → IsUnopened pairs s r →
+    IsUnopened pairs s d → TellsSame r d ⊎ IsOfNumbers d
 unopened_once pairs s r d v f (IsUnopened.at_set e h q) (IsUnopened.at_set g k p) =
     subst (λ x. TellsSame r x ⊎ IsOfNumbers x) (sym p)
     (subst (λ x. TellsSame x (of_check g) ⊎ IsOfNumbers (of_check g)) (sym q) (reduced_once 0 s e g v (check_fixed e (subst IsFixed q f)) h k))
@@ -154,16 +159,19 @@ call_in_search n F pairs p e r v h c =
     (call_refused F.region pairs p e (own F.region F p refl h) (subst (λ k. IsCallRefusal k pairs p e) there c))
 
 -- a number leads to a basis of the same ideal
-number_stays : (n : ℕ) (F : Fan) (p q : MarkedPolynomials) (m : ℕ) → F.region ≡ all_positive n → F.variables ≡ n → IsNodeIn F p → IsNumbered p m q → IsNodeIn F q
+number_stays : (n : ℕ) (F : Fan) (p q : MarkedPolynomials) (m : ℕ) → F.region ≡ all_positive n → F.variables ≡ n → IsNodeIn F p → IsNumbered p m q →
+    IsNodeIn F q
 number_stays n F p q m r v h k =
     let there : all_positive p.variables ≡ F.region = ap all_positive (h.variables ∙ v) ∙ sym r in
-    let moved : IsNodeIn (fan_of F.region p) q = subst (λ z. IsNodeIn (fan_of z p) q) there (across_in (all_positive p.variables) p q _ k.step.node k.step.across) in
+    let moved : IsNodeIn (fan_of F.region p) q =
+    subst (λ z. IsNodeIn (fan_of z p) q) there (across_in (all_positive p.variables) p q _ k.step.node k.step.across) in
     node_moved (fan_of F.region p) F q (back_fan F (fan_of F.region p) (own_fan F p h)) moved
 
 -- ---- within limits
 
 -- more was taken than the input had
-no_more : (left leaves : Option (List ℕ)) (given gives : ℕ) (source bytes : List ℕ) → left ≡ Some source → Took left leaves given gives bytes → length bytes ≤ length source
+no_more : (left leaves : Option (List ℕ)) (given gives : ℕ) (source bytes : List ℕ) → left ≡ Some source → Took left leaves given gives bytes →
+    length bytes ≤ length source
 no_more left leaves given gives source bytes e t = at leaves (subst (λ z. Consumes z leaves bytes) e t.bytes_left)
   where
     at : (leaves : Option (List ℕ)) → Consumes (Some source) leaves bytes → length bytes ≤ length source
@@ -176,26 +184,32 @@ module _ (pairs n : ℕ) (ring : List (List ℕ)) (s start : MarkedPolynomials) 
 
   -- a call at a place that a line looks at
   stuck_memory : (left leaves : Option (List ℕ)) (given gives : ℕ) (held holds : Option (List ℕ)) (e : TreeError) →
-      IsStuck (basis_rules ring) (λ p r. IsCallRefusal (all_positive p.variables) pairs p r) (walk_from start) left leaves given gives held holds e → e ≡ tree_errors.Memory
+      IsStuck (basis_rules ring) (λ p r. IsCallRefusal (all_positive p.variables) pairs p r) (walk_from start) left leaves given gives held holds e →
+      e ≡ tree_errors.Memory
   stuck_memory left leaves given gives held holds e k =
       let here : IsNodeIn search start = subst (λ m. IsNodeIn (ideal_by m (polys s.items)) start) w.same (start_node s start begins) in
-      let stays : (p q : MarkedPolynomials) (m : ℕ) → IsNodeIn search p → IsNumbered p m q → IsNodeIn search q = λ p q m h a. number_stays n search p q m refl refl h a in
+      let stays : (p q : MarkedPolynomials) (m : ℕ) → IsNodeIn search p → IsNumbered p m q → IsNodeIn search q =
+      λ p q m h a. number_stays n search p q m refl refl h a in
       let over = turns-over (basis_rules ring) (IsNodeIn search) stays (walk_from start) _ k.t k.talk.text (record { here = here; before = tt }) k.talk.turns in
       let there : IsNodeIn search k.place = near-over (basis_rules ring) (IsNodeIn search) stays k.t (choice_of k.last) k.place over k.near in
       within_memory search pairs e w.tree (call_in_search n search pairs k.place e refl refl there k.refused)
 
 unopened_within : (pairs n : ℕ) (s : MarkedPolynomials) (r : Refusal) → IsWalkedWithin pairs n s → IsUnopened pairs s r → r ≡ refusals.Memory
-unopened_within pairs n s r w (IsUnopened.at_set e h q) = q ∙ ap of_check (reduced_memory 0 s e w.checked.variables w.checked.checks w.checked.basis w.checked.terms h)
+unopened_within pairs n s r w (IsUnopened.at_set e h q) =
+    q ∙ ap of_check (reduced_memory 0 s e w.checked.variables w.checked.checks w.checked.basis w.checked.terms h)
 unopened_within pairs n s r w (IsUnopened.at_start start e a h q) =
     let begins : IsStart s start = record { variables = w.checked.variables; read = a } in
     let here : IsNodeIn (ideal_by n (polys s.items)) start = subst (λ m. IsNodeIn (ideal_by m (polys s.items)) start) w.same (start_node s start begins) in
-    q ∙ ap of_tree (within_memory (ideal_by n (polys s.items)) pairs e w.tree (call_in_search n (ideal_by n (polys s.items)) pairs start e refl refl here (IsCallRefusal.here h)))
+    q ∙ ap of_tree (within_memory (ideal_by n (polys s.items)) pairs e w.tree (call_in_search n (ideal_by n (polys s.items)) pairs start e refl refl here
+    (IsCallRefusal.here h)))
 unopened_within pairs n s r w (IsUnopened.no_memory m) = m
 
 -- ---- the names in lines
 
-pub named_unopened : (source : List ℕ) (ring : List (List ℕ)) (s : MarkedPolynomials) (pairs : ℕ) (r : Refusal) → IsTextOf ring_marked_set source (ring, s) → IsUnopened pairs s r → IsNamedBy (Some ring) r
-named_unopened source ring s pairs r read (IsUnopened.at_set e h q) = subst (IsNamedBy (Some ring)) (sym q) (named_reduced 0 ring s e (read_kept source (ring, s) read) h)
+pub named_unopened : (source : List ℕ) (ring : List (List ℕ)) (s : MarkedPolynomials) (pairs : ℕ) (r : Refusal) → IsTextOf ring_marked_set source (ring, s) →
+    IsUnopened pairs s r → IsNamedBy (Some ring) r
+named_unopened source ring s pairs r read (IsUnopened.at_set e h q) =
+    subst (IsNamedBy (Some ring)) (sym q) (named_reduced 0 ring s e (read_kept source (ring, s) read) h)
 named_unopened source ring s pairs r read (IsUnopened.at_start start e a h q) = subst (IsNamedBy (Some ring)) (sym q) (named_tree ring e)
 named_unopened source ring s pairs r read (IsUnopened.no_memory m) = subst (IsNamedBy (Some ring)) (sym m) (λ lent is. tt)
 
@@ -206,14 +220,15 @@ named_session ring errors.WriteFault = λ lent is. tt
 named_session ring errors.Memory = λ lent is. tt
 named_session ring (errors.Refused e) = named_tree ring e
 
-pub named_cut : (pairs : ℕ) (ring : List (List ℕ)) (start : MarkedPolynomials) (i j : InputSeen) (o k : OutputSeen) (r : Refusal) → IsSessionCutOff pairs ring start i j o k r → IsNamedBy (Some ring) r
+pub named_cut : (pairs : ℕ) (ring : List (List ℕ)) (start : MarkedPolynomials) (i j : InputSeen) (o k : OutputSeen) (r : Refusal) →
+    IsSessionCutOff pairs ring start i j o k r → IsNamedBy (Some ring) r
 named_cut pairs ring start i j o k r (IsSessionCutOff.in_opening text h q f a e) = subst (IsNamedBy (Some ring)) (sym q) (λ lent is. tt)
 named_cut pairs ring start i j o k r (IsSessionCutOff.in_session text then e h a c t x y q) = subst (IsNamedBy (Some ring)) (sym q) (named_session ring e)
 
 -- ---- from the text of the file on
 
-pub unopened_refused : (name : List ℕ) (pairs : ℕ) (source : List ℕ) (ring : List (List ℕ)) (s : MarkedPolynomials) (r : Refusal) → IsTextOf ring_marked_set source (ring, s) → IsUnopened pairs s r →
-    IsRefusedOn (interactive_command name pairs) (source ∷ []) r
+pub unopened_refused : (name : List ℕ) (pairs : ℕ) (source : List ℕ) (ring : List (List ℕ)) (s : MarkedPolynomials) (r : Refusal) →
+    IsTextOf ring_marked_set source (ring, s) → IsUnopened pairs s r → IsRefusedOn (interactive_command name pairs) (source ∷ []) r
 unopened_refused name pairs source ring s r read h = IsRefusedOn.behind_text (ring, s) read (IsUnanswered.in_work tt h)
 
 -- ---- turns
@@ -274,8 +289,8 @@ module _ (pairs : ℕ) (ring : List (List ℕ)) (start : MarkedPolynomials) (i j
   cut_write_calm r n (IsSessionCutOff.in_session text then errors.Memory h a c t x y q) = y
   cut_write_calm r n (IsSessionCutOff.in_session text then (errors.Refused z) h a c t x y q) = y
 
-  cut_reach : (n : ℕ) (s : MarkedPolynomials) (r : Refusal) (source : List ℕ) → IsWalkedWithin pairs n s → IsStart s start → i.left ≡ Some source → length source ≤ 67108864 →
-      (Rose i.faults j.faults → ⊥) → (Rose o.faults k.faults → ⊥) → IsSessionCutOff pairs ring start i j o k r → r ≡ refusals.Memory
+  cut_reach : (n : ℕ) (s : MarkedPolynomials) (r : Refusal) (source : List ℕ) → IsWalkedWithin pairs n s → IsStart s start → i.left ≡ Some source →
+      length source ≤ 67108864 → (Rose i.faults j.faults → ⊥) → (Rose o.faults k.faults → ⊥) → IsSessionCutOff pairs ring start i j o k r → r ≡ refusals.Memory
   cut_reach n s r source w b l m nr nw (IsSessionCutOff.in_opening text h q f a e) = absurd (nw f)
   cut_reach n s r source w b l m nr nw (IsSessionCutOff.in_session text then errors.ReadFault h a c t x y q) = absurd (nr c.0)
   cut_reach n s r source w b l m nr nw (IsSessionCutOff.in_session text then errors.InputTooLong h a c t x y q) =
@@ -319,7 +334,8 @@ module _ (name : List ℕ) (pairs : ℕ) where
   }
 
   -- from the text of the file on
-  module _ (p q m : Seen) (o s : OutputSeen) (source : List ℕ) (loaded : AreLoaded (interactive_command name pairs).reads p m (source ∷ [])) (files : q.files ≡ m.files) where
+  module _ (p q m : Seen) (o s : OutputSeen) (source : List ℕ) (loaded : AreLoaded (interactive_command name pairs).reads p m (source ∷ [])) (files : q.files ≡
+      m.files) where
     pub conversed_done : IsConversed source m.input q.input o s → IsDoneBy (interactive_command name pairs) p q o s
     conversed_done c = record { texts = source ∷ []; then = m; loaded = loaded; gone = (files, (c.value, c.read, tt, c.held)); calm = c.calm }
 
@@ -328,5 +344,6 @@ module _ (name : List ℕ) (pairs : ℕ) where
         let c = interactive_command name pairs in
         let same : q ≡ m = ap₂ (λ (a : InputSeen) (b : FilesSeen). record { input = a; files = b }) i files in
         IsStoppedBy.in_work (source ∷ []) (subst (λ (z : Seen). AreLoaded c.reads p z (source ∷ [])) (sym same) loaded) h
-        (subst (λ (z : OutputSeen). IsLeftInOutput c (source ∷ []) o z r) (sym e) (nothing_left c interactive_lawful (λ g. g) (source ∷ []) o r h)) (ap (λ (x : OutputSeen). x.faults) e)
+        (subst (λ (z : OutputSeen). IsLeftInOutput c (source ∷ []) o z r) (sym e) (nothing_left c interactive_lawful (λ g. g) (source ∷ []) o r h))
+        (ap (λ (x : OutputSeen). x.faults) e)
     conversed_stopped r (IsNotConversed.in_turns v t c) = IsStoppedBy.in_turns (source ∷ []) m loaded (files, (v, t, tt, c))

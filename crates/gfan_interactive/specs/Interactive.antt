@@ -47,7 +47,8 @@ pub record IsOpening (ring : List (List ℕ)) (start : MarkedPolynomials) (text 
 -- out
 pub data IsUnopened (pairs : ℕ) (s : MarkedPolynomials) (r : Refusal) : Type 0 where
   at_set : (e : CheckError) → IsReducedRefusal 0 s e → r ≡ of_check e → IsUnopened pairs s r
-  at_start : (start : MarkedPolynomials) (e : TreeError) → IsReducedAsRead s start → IsRefusedAtBasis (all_positive start.variables) pairs start e → r ≡ of_tree e → IsUnopened pairs s r
+  at_start : (start : MarkedPolynomials) (e : TreeError) → IsReducedAsRead s start → IsRefusedAtBasis (all_positive start.variables) pairs start e →
+      r ≡ of_tree e → IsUnopened pairs s r
   no_memory : r ≡ refusals.Memory → IsUnopened pairs s r
 
 -- ---- the session
@@ -137,4 +138,5 @@ pub record IsConversed (source : List ℕ) (i j : InputSeen) (o k : OutputSeen) 
 -- the command is refused for the text, and neither the input nor the output has changed; or the session is cut off
 pub data IsNotConversed (name : List ℕ) (pairs : ℕ) (source : List ℕ) (i j : InputSeen) (o k : OutputSeen) (r : Refusal) : Type 0 where
   on_text : IsRefusedOn (interactive_command name pairs) (source ∷ []) r → j ≡ i → k ≡ o → IsNotConversed name pairs source i j o k r
-  in_turns : (v : List (List ℕ) × MarkedPolynomials) → IsTextOf ring_marked_set source v → IsCutFrom pairs v.0 v.1 i j o k r → IsNotConversed name pairs source i j o k r
+  in_turns : (v : List (List ℕ) × MarkedPolynomials) → IsTextOf ring_marked_set source v → IsCutFrom pairs v.0 v.1 i j o k r →
+      IsNotConversed name pairs source i j o k r

@@ -2,7 +2,8 @@
 ghost use Rattle.std.specs.Prelude.{◌≡◌, ℕ, List, length, IfOk, IfErr, OnOk};
 ghost use Rattle.gf_basis_places.specs.BasisRules.{IsBasisPlace};
 ghost use Rattle.gf_frame.specs.Seen.{output_seen};
-ghost use Rattle.gfan_interactive.specs.Interactive.{IsOpening, IsUnopened, IsSessionHeld, IsSessionCutOff, of_session, input_seen, IsConversed, IsNotConversed};
+ghost use Rattle.gfan_interactive.specs.Interactive.{IsOpening, IsUnopened, IsSessionHeld, IsSessionCutOff, of_session, input_seen, IsConversed};
+ghost use Rattle.gfan_interactive.specs.Interactive.{IsNotConversed};
 ghost use Rattle.gfan_common.specs.ReducedSets.{IsReducedAsRead};
 ghost use Rattle.gfan_common.specs.Refused.{IsOfSource};
 

@@ -1,5 +1,6 @@
 -- The basis of a file that a list goes on behind: it is taken, and listed below the root, in one way.
--- To cite: names_check, first_difference_once, names_differ; beside_numbers, beside_once, named_beside; cut_one, cut_region, generators_have, taken_once, starts_once; outside_once, inside_apart,
+-- To cite: names_check, first_difference_once, names_differ; beside_numbers, beside_once, named_beside; cut_one, cut_region, generators_have, taken_once,
+-- starts_once; outside_once, inside_apart,
 -- unlisted_set, unlisted_generators, taken_node, listed_refutes, listed_node, listed_tree. The rest are steps.
 use Rattle.std.specs.Prelude.{◌≡◌, ◌≢◌, ◌⊎◌, ℕ, zero, suc, ◌<◌, ◌≤◌, Bool, true, false, List, [], ◌∷◌, length, map, slice_index_or, Contains, All, Some, ℤ}
 use Rattle.std.proofs.Common.{arith, refl, sym, ap, ap₂, ◌∙◌, subst, inl, inr}
@@ -57,7 +58,8 @@ use Rattle.gfan_common.specs.Forms.{generators_of}
 use Rattle.gfan_lists.specs.BasesWriting.{StartsIn}
 use Rattle.gfan_common.specs.CheckedSets.{of_check}
 use Rattle.gfan_common.specs.Refused.{IsNamedBy}
-use Rattle.gfan_lists.specs.After.{IsFirstDifference, IsOtherRing, same_names, IsBasisTaken, LeaveZero, IsFirstOutside, IsSomeOutside, IsListedBy, IsUnlisted, IsRegionCut}
+use Rattle.gfan_lists.specs.After.{IsFirstDifference, IsOtherRing, same_names, IsBasisTaken, LeaveZero, IsFirstOutside, IsSomeOutside, IsListedBy, IsUnlisted}
+use Rattle.gfan_lists.specs.After.{IsRegionCut}
 use Rattle.gfan_common.proofs.WrittenSetLaws.{in_ring, lent_names}
 use Rattle.gfan_common.proofs.ReadSetLaws.{IsKeptMember, IsSetKept, set_variables}
 use Rattle.gfan_common.proofs.CheckedSetLaws.{lent_terms, printed_length, named_numbers, poly_numbers, poly_untested, failing_once, offending_once}
@@ -157,7 +159,8 @@ module _ (rows : List (List ℤ)) (s : MarkedPolynomials) where
   terms_numbers (check_errors.Cone o) a h = absurd h
   terms_numbers check_errors.Memory a h = absurd h
 
-  pairs_numbers : (e : CheckError) → HaveVariables s.variables s.items → IsMarkedGroebnerBasis s.variables s.items → IsPairsFault 0 (map monic_of s.items) e → IsOfNumbers (of_check e)
+  pairs_numbers : (e : CheckError) → HaveVariables s.variables s.items → IsMarkedGroebnerBasis s.variables s.items → IsPairsFault 0 (map monic_of s.items) e →
+      IsOfNumbers (of_check e)
   pairs_numbers (check_errors.Overflow o) v g h = tt
   pairs_numbers (check_errors.Exponent o) v g h = tt
   pairs_numbers (check_errors.NotReduced set i x) v g h = absurd h
@@ -167,13 +170,15 @@ module _ (rows : List (List ℤ)) (s : MarkedPolynomials) where
   pairs_numbers check_errors.Memory v g h = tt
 
   -- where it is one, only numbers refuse it
-  pub beside_numbers : (e : CheckError) → HaveVariables s.variables s.items → IsRealisableBeside s.variables rows s.items → IsMarkedGroebnerBasis s.variables s.items → AreReduced s.items → IsReducedRefusalBeside rows 0 s e → IsOfNumbers (of_check e)
+  pub beside_numbers : (e : CheckError) → HaveVariables s.variables s.items → IsRealisableBeside s.variables rows s.items →
+      IsMarkedGroebnerBasis s.variables s.items → AreReduced s.items → IsReducedRefusalBeside rows 0 s e → IsOfNumbers (of_check e)
   beside_numbers e v r g a (IsReducedRefusalBeside.at_forms d h q) = subst (λ z. IsOfNumbers (of_check z)) (sym q) (poly_numbers d)
   beside_numbers e v r g a (IsReducedRefusalBeside.at_weight h) = weight_numbers e r h
   beside_numbers e v r g a (IsReducedRefusalBeside.at_terms x h) = terms_numbers e a h
   beside_numbers e v r g a (IsReducedRefusalBeside.at_pairs x y h) = pairs_numbers e v g h
 
-  same_weight : (set : ℕ) (ms : List ℤ) (d : CheckError) → (set ≡ 0) × IsInconsistentBeside s.variables rows s.items ms → IsWeightRefusalBeside rows 0 s d → TellsSame (refusals.Inconsistent set ms) (of_check d) ⊎ IsOfNumbers (of_check d)
+  same_weight : (set : ℕ) (ms : List ℤ) (d : CheckError) → (set ≡ 0) × IsInconsistentBeside s.variables rows s.items ms → IsWeightRefusalBeside rows 0 s d →
+      TellsSame (refusals.Inconsistent set ms) (of_check d) ⊎ IsOfNumbers (of_check d)
   same_weight set ms (check_errors.Overflow o) h g = absurd g
   same_weight set ms (check_errors.Exponent o) h g = absurd g
   same_weight set ms (check_errors.NotReduced other l y) h g = absurd g
@@ -182,19 +187,22 @@ module _ (rows : List (List ℤ)) (s : MarkedPolynomials) where
   same_weight set ms (check_errors.Cone o) h g = inr tt
   same_weight set ms check_errors.Memory h g = inr tt
 
-  weight_once : (e d : CheckError) → IsOfTest (of_check e) → IsWeightRefusalBeside rows 0 s e → IsReducedRefusalBeside rows 0 s d → TellsSame (of_check e) (of_check d) ⊎ IsOfNumbers (of_check d)
+  weight_once : (e d : CheckError) → IsOfTest (of_check e) → IsWeightRefusalBeside rows 0 s e → IsReducedRefusalBeside rows 0 s d →
+      TellsSame (of_check e) (of_check d) ⊎ IsOfNumbers (of_check d)
   weight_once (check_errors.Overflow o) d t h k = absurd t
   weight_once (check_errors.Exponent o) d t h k = absurd t
   weight_once (check_errors.NotReduced set i x) d t h k = absurd h
   weight_once (check_errors.NotBasis set i j z) d t h k = absurd h
-  weight_once (check_errors.Inconsistent set ms) d t h (IsReducedRefusalBeside.at_forms x f q) = inr (subst (λ z. IsOfNumbers (of_check z)) (sym q) (poly_numbers x))
+  weight_once (check_errors.Inconsistent set ms) d t h (IsReducedRefusalBeside.at_forms x f q) =
+      inr (subst (λ z. IsOfNumbers (of_check z)) (sym q) (poly_numbers x))
   weight_once (check_errors.Inconsistent set ms) d t h (IsReducedRefusalBeside.at_weight g) = same_weight set ms d h g
   weight_once (check_errors.Inconsistent set ms) d t h (IsReducedRefusalBeside.at_terms r g) = absurd (h.1.none r)
   weight_once (check_errors.Inconsistent set ms) d t h (IsReducedRefusalBeside.at_pairs r u g) = absurd (h.1.none r)
   weight_once (check_errors.Cone o) d t h k = absurd t
   weight_once check_errors.Memory d t h k = absurd t
 
-  same_terms : (set i : ℕ) (x : Exponents) (d : CheckError) → (set ≡ 0) × IsFirstOffending s.items i x → IsTermsFault 0 s.items d → TellsSame (refusals.NotReduced set i x) (of_check d) ⊎ IsOfNumbers (of_check d)
+  same_terms : (set i : ℕ) (x : Exponents) (d : CheckError) → (set ≡ 0) × IsFirstOffending s.items i x → IsTermsFault 0 s.items d →
+      TellsSame (refusals.NotReduced set i x) (of_check d) ⊎ IsOfNumbers (of_check d)
   same_terms set i x (check_errors.Overflow o) h g = absurd g
   same_terms set i x (check_errors.Exponent o) h g = absurd g
   same_terms set i x (check_errors.NotReduced other l y) h g =
@@ -206,10 +214,12 @@ module _ (rows : List (List ℤ)) (s : MarkedPolynomials) where
   same_terms set i x (check_errors.Cone o) h g = absurd g
   same_terms set i x check_errors.Memory h g = absurd g
 
-  terms_once : (e d : CheckError) → IsRealisableBeside s.variables rows s.items → IsTermsFault 0 s.items e → IsReducedRefusalBeside rows 0 s d → TellsSame (of_check e) (of_check d) ⊎ IsOfNumbers (of_check d)
+  terms_once : (e d : CheckError) → IsRealisableBeside s.variables rows s.items → IsTermsFault 0 s.items e → IsReducedRefusalBeside rows 0 s d →
+      TellsSame (of_check e) (of_check d) ⊎ IsOfNumbers (of_check d)
   terms_once (check_errors.Overflow o) d r h k = absurd h
   terms_once (check_errors.Exponent o) d r h k = absurd h
-  terms_once (check_errors.NotReduced set i x) d r h (IsReducedRefusalBeside.at_forms y f q) = inr (subst (λ z. IsOfNumbers (of_check z)) (sym q) (poly_numbers y))
+  terms_once (check_errors.NotReduced set i x) d r h (IsReducedRefusalBeside.at_forms y f q) =
+      inr (subst (λ z. IsOfNumbers (of_check z)) (sym q) (poly_numbers y))
   terms_once (check_errors.NotReduced set i x) d r h (IsReducedRefusalBeside.at_weight g) = inr (weight_numbers d r g)
   terms_once (check_errors.NotReduced set i x) d r h (IsReducedRefusalBeside.at_terms a g) = same_terms set i x d h g
   terms_once (check_errors.NotReduced set i x) d r h (IsReducedRefusalBeside.at_pairs a u g) = absurd (no_first s.items i x u h.1)
@@ -218,7 +228,8 @@ module _ (rows : List (List ℤ)) (s : MarkedPolynomials) where
   terms_once (check_errors.Cone o) d r h k = absurd h
   terms_once check_errors.Memory d r h k = absurd h
 
-  same_pairs : (set i j : ℕ) (t : Terms) (d : CheckError) → HaveVariables s.variables s.items → (set ≡ 0) × IsFirstFailing (map monic_of s.items) i j t → IsPairsFault 0 (map monic_of s.items) d → TellsSame (refusals.NotBasis set i j t) (of_check d) ⊎ IsOfNumbers (of_check d)
+  same_pairs : (set i j : ℕ) (t : Terms) (d : CheckError) → HaveVariables s.variables s.items → (set ≡ 0) × IsFirstFailing (map monic_of s.items) i j t →
+      IsPairsFault 0 (map monic_of s.items) d → TellsSame (refusals.NotBasis set i j t) (of_check d) ⊎ IsOfNumbers (of_check d)
   same_pairs set i j t (check_errors.Overflow o) v h g = inr tt
   same_pairs set i j t (check_errors.Exponent o) v h g = inr tt
   same_pairs set i j t (check_errors.NotReduced other l y) v h g = absurd g
@@ -230,12 +241,14 @@ module _ (rows : List (List ℤ)) (s : MarkedPolynomials) where
   same_pairs set i j t (check_errors.Cone o) v h g = absurd g
   same_pairs set i j t check_errors.Memory v h g = inr tt
 
-  pairs_once : (e d : CheckError) → HaveVariables s.variables s.items → IsOfTest (of_check e) → IsRealisableBeside s.variables rows s.items → AreReduced s.items → IsPairsFault 0 (map monic_of s.items) e → IsReducedRefusalBeside rows 0 s d →
+  pairs_once : (e d : CheckError) → HaveVariables s.variables s.items → IsOfTest (of_check e) → IsRealisableBeside s.variables rows s.items →
+      AreReduced s.items → IsPairsFault 0 (map monic_of s.items) e → IsReducedRefusalBeside rows 0 s d →
       TellsSame (of_check e) (of_check d) ⊎ IsOfNumbers (of_check d)
   pairs_once (check_errors.Overflow o) d v t r a h k = absurd t
   pairs_once (check_errors.Exponent o) d v t r a h k = absurd t
   pairs_once (check_errors.NotReduced set i x) d v t r a h k = absurd h
-  pairs_once (check_errors.NotBasis set i j z) d v t r a h (IsReducedRefusalBeside.at_forms y f q) = inr (subst (λ w. IsOfNumbers (of_check w)) (sym q) (poly_numbers y))
+  pairs_once (check_errors.NotBasis set i j z) d v t r a h (IsReducedRefusalBeside.at_forms y f q) =
+      inr (subst (λ w. IsOfNumbers (of_check w)) (sym q) (poly_numbers y))
   pairs_once (check_errors.NotBasis set i j z) d v t r a h (IsReducedRefusalBeside.at_weight g) = inr (weight_numbers d r g)
   pairs_once (check_errors.NotBasis set i j z) d v t r a h (IsReducedRefusalBeside.at_terms b g) = inr (terms_numbers d a g)
   pairs_once (check_errors.NotBasis set i j z) d v t r a h (IsReducedRefusalBeside.at_pairs b u g) = same_pairs set i j z d v h g
@@ -244,7 +257,8 @@ module _ (rows : List (List ℤ)) (s : MarkedPolynomials) where
   pairs_once check_errors.Memory d v t r a h k = absurd t
 
   -- it is refused in one way, unless numbers of the work don't fit
-  pub beside_once : (e d : CheckError) → HaveVariables s.variables s.items → IsOfTest (of_check e) → IsReducedRefusalBeside rows 0 s e → IsReducedRefusalBeside rows 0 s d → TellsSame (of_check e) (of_check d) ⊎ IsOfNumbers (of_check d)
+  pub beside_once : (e d : CheckError) → HaveVariables s.variables s.items → IsOfTest (of_check e) → IsReducedRefusalBeside rows 0 s e →
+      IsReducedRefusalBeside rows 0 s d → TellsSame (of_check e) (of_check d) ⊎ IsOfNumbers (of_check d)
   beside_once e d v t (IsReducedRefusalBeside.at_forms x h q) k = absurd (poly_untested x (subst (λ z. IsOfTest (of_check z)) q t))
   beside_once e d v t (IsReducedRefusalBeside.at_weight h) k = weight_once e d t h k
   beside_once e d v t (IsReducedRefusalBeside.at_terms r h) k = terms_once e d r h k
@@ -266,7 +280,8 @@ module _ (rows : List (List ℤ)) (s : MarkedPolynomials) where
     named_terms (check_errors.Exponent o) h = λ lent is. tt
     named_terms (check_errors.NotReduced set i x) h = λ lent is.
         let f = h.1.first in
-        lent_names ring x lent is (printed_length (length ring) f.member f.earlier f.later x (contained_each (IsKeptMember (length ring)) s.items v.1 f.member (member_contained s.items i f.member f.at)) f.printed)
+        lent_names ring x lent is (printed_length (length ring) f.member f.earlier f.later x (contained_each (IsKeptMember (length ring)) s.items v.1 f.member
+        (member_contained s.items i f.member f.at)) f.printed)
     named_terms (check_errors.NotBasis set i j t) h = absurd h
     named_terms (check_errors.Inconsistent set ms) h = λ lent is. tt
     named_terms (check_errors.Cone o) h = λ lent is. tt
@@ -277,7 +292,8 @@ module _ (rows : List (List ℤ)) (s : MarkedPolynomials) where
     named_pairs (check_errors.Exponent o) h = λ lent is. tt
     named_pairs (check_errors.NotReduced set i x) h = absurd h
     named_pairs (check_errors.NotBasis set i j t) h = λ lent is.
-        lent_terms ring t lent is (subst (λ n. HasVariables n t) v.0 (h.1.first.remainder.variables s.variables (forms-variables s.variables s.items (set_variables (length ring) s v))))
+        lent_terms ring t lent is (subst (λ n. HasVariables n t) v.0
+        (h.1.first.remainder.variables s.variables (forms-variables s.variables s.items (set_variables (length ring) s v))))
     named_pairs (check_errors.Inconsistent set ms) h = λ lent is. tt
     named_pairs (check_errors.Cone o) h = λ lent is. tt
     named_pairs check_errors.Memory h = λ lent is. tt
@@ -291,12 +307,15 @@ module _ (rows : List (List ℤ)) (s : MarkedPolynomials) where
 -- ---- one basis, and one root
 
 -- members of two arrangements of one list
-among_both : (s b c : MarkedPolynomials) → IsArranged (monic_set s) b → IsArranged (monic_set s) c → (x : MarkedPolynomial) → Contains b.items x → Contains c.items x
+among_both : (s b c : MarkedPolynomials) → IsArranged (monic_set s) b → IsArranged (monic_set s) c → (x : MarkedPolynomial) → Contains b.items x →
+    Contains c.items x
 among_both s b c p q x h =
-    Contains-permutation (map monic_of s.items) c.items x q.members (Contains-permutation b.items (map monic_of s.items) x (IsPermutation-sym (map monic_of s.items) b.items p.members) h)
+    Contains-permutation (map monic_of s.items) c.items x q.members (Contains-permutation b.items (map monic_of s.items) x
+    (IsPermutation-sym (map monic_of s.items) b.items p.members) h)
 
 pub taken_once : (k : Region) (s b c : MarkedPolynomials) → IsBasisTaken k s b → IsBasisTaken k s c → b ≡ c
-taken_once k s b c p q = ap₂ (λ (n : ℕ) (bs : List MarkedPolynomial). record { variables = n; items = bs }) (p.arranged.variables ∙ sym q.arranged.variables) same
+taken_once k s b c p q = ap₂ (λ (n : ℕ) (bs : List MarkedPolynomial). record { variables = n; items = bs }) (p.arranged.variables ∙ sym q.arranged.variables)
+    same
   where
     first : AreArranged s.variables b.items
     first = subst (λ n. AreArranged n b.items) p.arranged.variables p.basis.reduced.arranged
@@ -313,7 +332,8 @@ taken_once k s b c p q = ap₂ (λ (n : ℕ) (bs : List MarkedPolynomial). recor
 pub starts_once : (n : ℕ) (k : Region) (fs : List Terms) (root top : MarkedPolynomials) → StartsIn n k fs root → StartsIn n k fs top → root ≡ top
 starts_once n k fs root top p q =
     ap₂ (λ (m : ℕ) (bs : List MarkedPolynomial). record { variables = m; items = bs }) (p.node.variables ∙ sym q.node.variables)
-    (arranged_equal n root.items top.items p.node.basis.arranged q.node.basis.arranged (unique_by_order n fs (IsWeightedBelow (gains k.root)) root.items top.items (weighted-order (gains k.root)) p.by_root q.by_root))
+    (arranged_equal n root.items top.items p.node.basis.arranged q.node.basis.arranged (unique_by_order n fs (IsWeightedBelow (gains k.root))
+    root.items top.items (weighted-order (gains k.root)) p.by_root q.by_root))
 
 -- ---- remainders
 
@@ -322,14 +342,20 @@ place_contained [] i l = absurd (omega (arith, l))
 place_contained (g ∷ gs) zero l = Contains-here g gs
 place_contained (g ∷ gs) (suc i) l = Contains-there g (slice_index_or gs i []) gs (place_contained gs i (omega (arith, l)))
 
-zero_apart : (by : MarkedPolynomials) (h f : Terms) → HasVariables by.variables f → IsDescending f → f ≢ [] → IsNormalForm by.items h f → IsNormalForm by.items h [] → ⊥
+zero_apart : (by : MarkedPolynomials) (h f : Terms) → HasVariables by.variables f → IsDescending f → f ≢ [] → IsNormalForm by.items h f →
+    IsNormalForm by.items h [] → ⊥
 zero_apart by h f v d z p q = z (descending_unique by.variables f [] v tt d tt (normal_form-unique by.items h h f [] (λ x. refl) p q))
 
 pub inside_apart : (by : MarkedPolynomials) (gs : List Terms) (i : ℕ) (f : Terms) → LeaveZero by.items gs → IsFirstOutside by gs i f → ⊥
-inside_apart by gs i f a p = zero_apart by (slice_index_or gs i []) f p.variables p.descending p.nonzero p.remainder (a (slice_index_or gs i []) (place_contained gs i p.inside))
+inside_apart by gs i f a p = zero_apart by (slice_index_or gs i []) f p.variables p.descending p.nonzero p.remainder
+    (a (slice_index_or gs i []) (place_contained gs i p.inside))
 
 pub outside_once : (by : MarkedPolynomials) (gs : List Terms) (i j : ℕ) (f g : Terms) → IsFirstOutside by gs i f → IsFirstOutside by gs j g → (j ≡ i) × (g ≡ f)
-outside_once by gs i j f g p q = (place, sym (descending_unique by.variables f g p.variables q.variables p.descending q.descending (normal_form-unique by.items (slice_index_or gs i []) (slice_index_or gs i []) f g (λ x. refl) p.remainder moved.remainder)))
+outside_once by gs i j f g p q = (
+  place,
+  sym (descending_unique by.variables f g p.variables q.variables p.descending q.descending
+      (normal_form-unique by.items (slice_index_or gs i []) (slice_index_or gs i []) f g (λ x. refl) p.remainder moved.remainder)),
+)
   where
     place : j ≡ i
     place = elim (cases_lt i j) [
@@ -344,11 +370,13 @@ outside_once by gs i j f g p q = (place, sym (descending_unique by.variables f g
     moved = subst (λ z. IsFirstOutside by gs z g) place q
 
 -- a basis of an ideal leaves no member outside
-members_inside : (by : MarkedPolynomials) (fs gs : List Terms) (i : ℕ) (f : Terms) → AreInVariables by.variables fs → IsBasis by.variables fs by.items → ((g : Terms) → Contains gs g → IsMember by.variables fs g) → IsFirstOutside by gs i f → ⊥
+members_inside : (by : MarkedPolynomials) (fs gs : List Terms) (i : ℕ) (f : Terms) → AreInVariables by.variables fs → IsBasis by.variables fs by.items →
+    ((g : Terms) → Contains gs g → IsMember by.variables fs g) → IsFirstOutside by gs i f → ⊥
 members_inside by fs gs i f v b m p =
     let g = slice_index_or gs i [] in
     p.nonzero (descending_unique by.variables f [] p.variables tt p.descending tt
-    (membership_is_decided.zero by.variables fs by.items g f v b (m g (place_contained gs i p.inside)) (normal_form-reached by.items g f p.remainder.reached) p.remainder.irreducible))
+    (membership_is_decided.zero by.variables fs by.items g f v b (m g (place_contained gs i p.inside)) (normal_form-reached by.items g f p.remainder.reached)
+    p.remainder.irreducible))
 
 -- which side is told
 
@@ -359,13 +387,15 @@ unlisted_set fs ms s root b r q h = at (subst (λ (gs : List Terms). IsSomeOutsi
     at (inl x) = IsUnlisted.at_basis x.0 x.1 x.2 x.3
     at (inr x) = IsUnlisted.in_basis x.0 x.1 x.2
 
-pub unlisted_generators : (fs : List Terms) (s root b : MarkedPolynomials) (r : Refusal) → LeaveZero root.items (polys s.items) → IsSomeOutside 1 b fs r → IsUnlisted fs s root b r
+pub unlisted_generators : (fs : List Terms) (s root b : MarkedPolynomials) (r : Refusal) → LeaveZero root.items (polys s.items) → IsSomeOutside 1 b fs r →
+    IsUnlisted fs s root b r
 unlisted_generators fs s root b r a (inl x) = IsUnlisted.at_generator x.0 x.1 a x.2 x.3
 unlisted_generators fs s root b r a (inr x) = IsUnlisted.in_generators x.0 x.1 x.2
 
 -- ---- the basis is listed below the root exactly where it is one of the ideal
 
-module _ (n : ℕ) (k : Region) (fs : List Terms) (s root b : MarkedPolynomials) (q : s.variables ≡ n) (first : StartsIn n k fs root) (t : IsBasisTaken k s b) where
+module _ (n : ℕ) (k : Region) (fs : List Terms) (s root b : MarkedPolynomials) (q : s.variables ≡ n) (first : StartsIn n k fs root)
+    (t : IsBasisTaken k s b) where
   counted : b.variables ≡ n
   counted = t.arranged.variables ∙ q
 
@@ -375,7 +405,8 @@ module _ (n : ℕ) (k : Region) (fs : List Terms) (s root b : MarkedPolynomials)
   b_inside : AreInVariables n (polys b.items)
   b_inside f c =
       let m = Contains-marked b.items f c in
-      subst (IsInVariables n) m.2 (variables_by_terms n m.0.poly (subst (λ j. HasVariables j m.0.poly) counted (t.basis.reduced.arranged.canonical m.0 m.1).variables))
+      subst (IsInVariables n) m.2 (variables_by_terms n m.0.poly
+      (subst (λ j. HasVariables j m.0.poly) counted (t.basis.reduced.arranged.canonical m.0 m.1).variables))
 
   s_inside : AreInVariables n (polys s.items)
   s_inside f c = variables_of_member n (polys b.items) f b_inside (both.inside f (member-generator n (polys s.items) f c))
@@ -406,7 +437,8 @@ module _ (n : ℕ) (k : Region) (fs : List Terms) (s root b : MarkedPolynomials)
   -- a vector of the region gives its marks
   given_marks : IsInOpenCone t.weight.weight b.items
   given_marks c h =
-      let f = form_of s.items c (Contains-permutation b.items (map monic_of s.items) c (IsPermutation-sym (map monic_of s.items) b.items t.arranged.members) h) in
+      let f = form_of s.items c (Contains-permutation b.items (map monic_of s.items) c (IsPermutation-sym (map monic_of s.items) b.items t.arranged.members)
+      h) in
       subst (IsStrictlyMarked t.weight.weight) f.2
       (λ x m. t.weight.marks f.0 f.1 x (monic-monomials f.0.poly (monic_of f.0) (is_form f.0 (t.basis.basis.marked.marks f.0 f.1).there) x m))
 
@@ -416,7 +448,10 @@ module _ (n : ℕ) (k : Region) (fs : List Terms) (s root b : MarkedPolynomials)
   -- so it is one of the ideal that it generates
   pub taken_node : IsNode k b
   taken_node = record {
-    fan = record { ideal = subst (λ m. AreInVariables m (polys b.items)) (sym counted) b_inside; region = subst (λ m. IsRegion m k) (sym counted) first.node.fan.region };
+    fan = record {
+      ideal = subst (λ m. AreInVariables m (polys b.items)) (sym counted) b_inside;
+      region = subst (λ m. IsRegion m k) (sym counted) first.node.fan.region;
+    };
     variables = refl;
     basis = record {
       reduced = t.basis.reduced.reduced;
@@ -429,10 +464,12 @@ module _ (n : ℕ) (k : Region) (fs : List Terms) (s root b : MarkedPolynomials)
 
   module _ (l : IsListedBy fs s root b) where
     set_listed : (f : Terms) → Contains (polys s.items) f → IsMember n fs f
-    set_listed f c = membership_is_decided.member n fs root.items f [] first.node.fan.ideal (s_inside f c) first.node.basis.reduced.basis (normal_form-reached root.items f [] (l.basis f c).reached) (λ x. refl)
+    set_listed f c = membership_is_decided.member n fs root.items f [] first.node.fan.ideal (s_inside f c) first.node.basis.reduced.basis
+        (normal_form-reached root.items f [] (l.basis f c).reached) (λ x. refl)
 
     generators_listed : (f : Terms) → Contains fs f → IsMember n (polys b.items) f
-    generators_listed f c = membership_is_decided.member n (polys b.items) b.items f [] b_inside (first.node.fan.ideal f c) own_basis (normal_form-reached b.items f [] (l.generators f c).reached) (λ x. refl)
+    generators_listed f c = membership_is_decided.member n (polys b.items) b.items f [] b_inside (first.node.fan.ideal f c) own_basis
+        (normal_form-reached b.items f [] (l.generators f c).reached) (λ x. refl)
 
     ideals : AreSameIdeal n (polys b.items) fs
     ideals = same_ideal n (polys b.items) fs b_inside first.node.fan.ideal

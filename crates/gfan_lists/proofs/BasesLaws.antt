@@ -60,7 +60,8 @@ use Rattle.gfan_lists.proofs.BasesTextLaws.{begun_next, whole_begun, prefix_on, 
 
 -- ---- room
 
-pub room_next : (limit : Option ℕ) (room after : Room) (written : List MarkedPolynomials) (b : MarkedPolynomials) → HasRoomFor limit room written → IsOneLess room after → HasRoomFor limit after (written ++ b ∷ [])
+pub room_next : (limit : Option ℕ) (room after : Room) (written : List MarkedPolynomials) (b : MarkedPolynomials) → HasRoomFor limit room written →
+    IsOneLess room after → HasRoomFor limit after (written ++ b ∷ [])
 room_next None Endless Endless written b h l = tt
 room_next None Endless (Limited most left) written b h l = absurd l
 room_next None (Limited most left) after written b h l = absurd h
@@ -75,7 +76,8 @@ pub record IsAtLimit (limit : Option ℕ) (written : List MarkedPolynomials) (r 
   pub is_limit : limit ≡ Some most
   pub just : length written ≡ most
 
-pub room_full : (limit : Option ℕ) (room : Room) (written : List MarkedPolynomials) (r : Refusal) → HasRoomFor limit room written → IsFull room r → IsAtLimit limit written r
+pub room_full : (limit : Option ℕ) (room : Room) (written : List MarkedPolynomials) (r : Refusal) → HasRoomFor limit room written → IsFull room r →
+    IsAtLimit limit written r
 room_full None Endless written r h f = absurd f
 room_full None (Limited most left) written r h f = absurd h
 room_full (Some limit) Endless written r h f = absurd h
@@ -110,7 +112,8 @@ cut_behind (x ∷ xs) (suc k) l =
 
 module _ (before : List MarkedPolynomials) (o : ListOptions) (ring : List (List ℕ)) (j : Region) (fs : List Terms) where
   -- before the first of them
-  pub starts : (row : Row) (room : Room) (held : Option (List ℕ)) → GoesOnBehind before (length ring) j fs o.pairs row → HasRoomFor o.limit room [] → IsUnderWay before o ring j fs row room true held held
+  pub starts : (row : Row) (room : Room) (held : Option (List ℕ)) → GoesOnBehind before (length ring) j fs o.pairs row → HasRoomFor o.limit room [] →
+      IsUnderWay before o ring j fs row room true held held
   starts row room held h f = record {
     written = [];
     rest = h.rest;
@@ -129,7 +132,8 @@ module _ (before : List MarkedPolynomials) (o : ListOptions) (ring : List (List 
   module _ (row : Row) (room : Room) (is_first : Bool) (held holds : Option (List ℕ)) (way : IsUnderWay before o ring j fs row room is_first held holds) where
     -- the ideal of the row is the one that is read
     same_fan : SameFan (ideal_in row) (ideal_within (length ring) fs j)
-    same_fan = subst (λ (k : Region). SameFan (fan_of k row.start) (ideal_within (length ring) fs j)) (sym way.region) (back_fan (ideal_within (length ring) fs j) (fan_of j row.start) (own_fan (ideal_within (length ring) fs j) row.start way.basis))
+    same_fan = subst (λ (k : Region). SameFan (fan_of k row.start) (ideal_within (length ring) fs j)) (sym way.region)
+        (back_fan (ideal_within (length ring) fs j) (fan_of j row.start) (own_fan (ideal_within (length ring) fs j) row.start way.basis))
 
     pub from_row : (x : MarkedPolynomials) → IsNodeIn (ideal_in row) x → IsNodeIn (ideal_within (length ring) fs j) x
     from_row x h = node_moved (ideal_in row) (ideal_within (length ring) fs j) x same_fan h
@@ -174,15 +178,16 @@ module _ (before : List MarkedPolynomials) (o : ListOptions) (ring : List (List 
       step_variables = (from_row b step.basis).variables
 
       -- what stands for it follows the others
-      more_items : (t : List ℕ) (rest : List MarkedPolynomials) (ts : List (List ℕ)) → IsItemTextIn o.certified ring j b t → AreItemTextsIn o.certified ring j rest ts →
-          AreItemTextsIn o.certified ring j (way.written ++ b ∷ rest) (way.items ++ t ∷ ts)
+      more_items : (t : List ℕ) (rest : List MarkedPolynomials) (ts : List (List ℕ)) → IsItemTextIn o.certified ring j b t →
+          AreItemTextsIn o.certified ring j rest ts → AreItemTextsIn o.certified ring j (way.written ++ b ∷ rest) (way.items ++ t ∷ ts)
       more_items t rest ts i r = AllZip-append (IsItemTextIn o.certified ring j) way.written (b ∷ rest) way.items (t ∷ ts) way.are_items (i, r)
 
       all_with : AreAllBasesIn (length ring) j fs (before ++ ((way.written ++ b ∷ []) ++ next.0))
       all_with = subst (λ l. AreAllBasesIn (length ring) j fs (before ++ l)) (sym (append_assoc way.written (b ∷ []) next.0)) all_next
 
       -- one more basis is written
-      pub goes_on : (after : Room) (then : Option (List ℕ)) → IsOneLess room after → IsBasisWritten o.certified ring j is_first b holds then → IsUnderWay before o ring j fs new after false held then
+      pub goes_on : (after : Room) (then : Option (List ℕ)) → IsOneLess room after → IsBasisWritten o.certified ring j is_first b holds then →
+          IsUnderWay before o ring j fs new after false held then
       goes_on after then less (piece, p, gained) = record {
         written = way.written ++ b ∷ [];
         rest = next.0;
@@ -196,7 +201,8 @@ module _ (before : List MarkedPolynomials) (o : ListOptions) (ring : List (List 
         are_items = more_items p.item [] [] p.is_item tt;
         first = none way.items;
         gained = subst (Appends held then) (ap (λ f. begun_text ring way.items ++ basis_piece ring f p.item) way.first ∙ begun_next ring way.items p.item)
-            (Appends-trans held holds then (begun_text ring way.items) (basis_piece ring is_first p.item) way.gained (subst (Appends holds then) p.is_piece gained));
+            (Appends-trans held holds then (begun_text ring way.items) (basis_piece ring is_first p.item) way.gained
+            (subst (Appends holds then) p.is_piece gained));
       }
         where
           none : (ts : List (List ℕ)) → false ≡ is_none_of (ts ++ p.item ∷ [])
@@ -212,7 +218,8 @@ module _ (before : List MarkedPolynomials) (o : ListOptions) (ring : List (List 
               (stands (refusals.ListLimit l.most) (IsStoppedAt.at_limit l.most b next.0 next.1 l.is_limit l.just refl))
 
       -- its piece isn't made: there is no memory, or its certificates are refused
-      stopped_unmade : (after : Room) (n m : ℕ) (r : Refusal) → IsOneLess room after → IsItemRefusalIn o.certified j b r → IsListStoppedBehind before o ring j fs held holds n m r
+      stopped_unmade : (after : Room) (n m : ℕ) (r : Refusal) → IsOneLess room after → IsItemRefusalIn o.certified j b r →
+          IsListStoppedBehind before o ring j fs held holds n m r
       stopped_unmade after n m r less h = at o.certified r refl h
         where
           told : (e : WeightError) → IsStoppedAt o (length ring) j fs way.written way.rest (of_weight_error e) →
@@ -228,11 +235,13 @@ module _ (before : List MarkedPolynomials) (o : ListOptions) (ring : List (List 
 
       -- what stands for the bases behind it
       later : (ts : List (List ℕ)) × AreItemTextsIn o.certified ring j next.0 ts
-      later = items_exist o.certified (length ring) ring j fs next.0 (λ x k. all_next.only x (among_right before (way.written ++ b ∷ next.0) x (among_right way.written (b ∷ next.0) x (inr k))))
+      later = items_exist o.certified (length ring) ring j fs next.0
+          (λ x k. all_next.only x (among_right before (way.written ++ b ∷ next.0) x (among_right way.written (b ∷ next.0) x (inr k))))
 
       -- a prefix of it is written: of the text of the whole list, where that isn't longer than the limit
-      cut_whole : (then : Option (List ℕ)) (t : List ℕ) → IsItemTextIn o.certified ring j b t → AppendsPrefix holds then (basis_piece ring (is_none_of way.items) t) →
-          IsWithinLimit o.limit (way.written ++ b ∷ next.0) → (text : List ℕ) × IsFullTextBehind before o ring j fs text × AppendsPrefix held then text
+      cut_whole : (then : Option (List ℕ)) (t : List ℕ) → IsItemTextIn o.certified ring j b t →
+          AppendsPrefix holds then (basis_piece ring (is_none_of way.items) t) → IsWithinLimit o.limit (way.written ++ b ∷ next.0) →
+          (text : List ℕ) × IsFullTextBehind before o ring j fs text × AppendsPrefix held then text
       cut_whole then t i p few = (
         list_text ring (way.items ++ t ∷ later.0),
         IsFullTextBehind.to_its_end (record {
@@ -247,8 +256,9 @@ module _ (before : List MarkedPolynomials) (o : ListOptions) (ring : List (List 
       )
 
       -- or of its beginning with as many bases as the limit lets through
-      cut_limited : (then : Option (List ℕ)) (t : List ℕ) (most k : ℕ) → IsItemTextIn o.certified ring j b t → AppendsPrefix holds then (basis_piece ring (is_none_of way.items) t) →
-          o.limit ≡ Some most → length way.written + suc k ≡ most → IsCutBehind next.0 k → (text : List ℕ) × IsFullTextBehind before o ring j fs text × AppendsPrefix held then text
+      cut_limited : (then : Option (List ℕ)) (t : List ℕ) (most k : ℕ) → IsItemTextIn o.certified ring j b t →
+          AppendsPrefix holds then (basis_piece ring (is_none_of way.items) t) → o.limit ≡ Some most → length way.written + suc k ≡ most →
+          IsCutBehind next.0 k → (text : List ℕ) × IsFullTextBehind before o ring j fs text × AppendsPrefix held then text
       cut_limited then t most k i p is_limit room c = (
         begun_text ring (way.items ++ t ∷ behind.0),
         IsFullTextBehind.to_the_limit most (record {
@@ -257,7 +267,8 @@ module _ (before : List MarkedPolynomials) (o : ListOptions) (ring : List (List 
           next = c.next;
           rest = c.rest;
           begun = record {
-            are_all = subst (λ l. AreAllBasesIn (length ring) j fs (before ++ l)) (ap (λ l. way.written ++ b ∷ l) c.whole ∙ sym (append_assoc way.written (b ∷ c.front) (c.next ∷ c.rest))) all_next;
+            are_all = subst (λ l. AreAllBasesIn (length ring) j fs (before ++ l)) (ap (λ l. way.written ++ b ∷ l) c.whole ∙
+                sym (append_assoc way.written (b ∷ c.front) (c.next ∷ c.rest))) all_next;
             items = way.items ++ t ∷ behind.0;
             are_items = more_items t c.front behind.0 i behind.1;
             is_text = refl;
@@ -269,33 +280,44 @@ module _ (before : List MarkedPolynomials) (o : ListOptions) (ring : List (List 
         where
           behind : (ts : List (List ℕ)) × AreItemTextsIn o.certified ring j c.front ts
           behind = items_exist o.certified (length ring) ring j fs c.front
-              (λ x k. all_next.only x (among_right before (way.written ++ b ∷ next.0) x (among_right way.written (b ∷ next.0) x (inr (subst (λ l. Among l x) (sym c.whole) (among_left c.front (c.next ∷ c.rest) x k))))))
+              (λ x k. all_next.only x (among_right before (way.written ++ b ∷ next.0) x
+              (among_right way.written (b ∷ next.0) x (inr (subst (λ l. Among l x) (sym c.whole) (among_left c.front (c.next ∷ c.rest) x k))))))
 
-      cut_prefix : (after : Room) (then : Option (List ℕ)) (t : List ℕ) → IsOneLess room after → IsItemTextIn o.certified ring j b t → AppendsPrefix holds then (basis_piece ring (is_none_of way.items) t) →
-          (text : List ℕ) × IsFullTextBehind before o ring j fs text × AppendsPrefix held then text
+      cut_prefix : (after : Room) (then : Option (List ℕ)) (t : List ℕ) → IsOneLess room after → IsItemTextIn o.certified ring j b t →
+          AppendsPrefix holds then (basis_piece ring (is_none_of way.items) t) → (text : List ℕ) × IsFullTextBehind before o ring j fs text ×
+          AppendsPrefix held then text
       cut_prefix after then t less i p = at o.limit refl room after way.fits less
         where
-          at : (limit : Option ℕ) → o.limit ≡ limit → (room after : Room) → HasRoomFor limit room way.written → IsOneLess room after → (text : List ℕ) × IsFullTextBehind before o ring j fs text × AppendsPrefix held then text
+          at : (limit : Option ℕ) → o.limit ≡ limit → (room after : Room) → HasRoomFor limit room way.written → IsOneLess room after →
+              (text : List ℕ) × IsFullTextBehind before o ring j fs text × AppendsPrefix held then text
           at None e room after h l = cut_whole then t i p (subst (λ x. IsWithinLimit x (way.written ++ b ∷ next.0)) (sym e) tt)
           at (Some most) e Endless after h l = absurd h
           at (Some most) e (Limited limit left) Endless h l = absurd l
           at (Some most) e (Limited limit left) (Limited same k) h l = elim (cases_lt k (length next.0)) [
             | inl more ↦ cut_limited then t most k i p e (omega (arith, h.1, l.1)) (cut_behind next.0 k more)
-            | inr few ↦ cut_whole then t i p (subst (λ x. IsWithinLimit x (way.written ++ b ∷ next.0)) (sym e) (omega (arith, few, h.1, l.1, length-append way.written (b ∷ next.0))))
+            | inr few ↦ cut_whole then t i p (subst (λ x. IsWithinLimit x (way.written ++ b ∷ next.0)) (sym e)
+                (omega (arith, few, h.1, l.1, length-append way.written (b ∷ next.0))))
           ]
 
       -- its piece isn't made, or isn't written whole
-      pub stopped_piece : (after : Room) (then : Option (List ℕ)) (n m : ℕ) (r : Refusal) → IsOneLess room after → IsBasisUnwritten o.certified ring j is_first b holds then n m r → IsListStoppedBehind before o ring j fs held then n m r
-      stopped_piece after then n m r less (IsBasisUnwritten.unmade same calm h) = subst (λ z. IsListStoppedBehind before o ring j fs held z n m r) (sym same) (stopped_unmade after n m r less h)
+      pub stopped_piece : (after : Room) (then : Option (List ℕ)) (n m : ℕ) (r : Refusal) → IsOneLess room after →
+          IsBasisUnwritten o.certified ring j is_first b holds then n m r → IsListStoppedBehind before o ring j fs held then n m r
+      stopped_piece after then n m r less (IsBasisUnwritten.unmade same calm h) =
+          subst (λ z. IsListStoppedBehind before o ring j fs held z n m r) (sym same) (stopped_unmade after n m r less h)
       stopped_piece after then n m r less (IsBasisUnwritten.cut piece p u) = at r u
         where
           at : (r : Refusal) → IsUnwritten holds then n m piece r → IsListStoppedBehind before o ring j fs held then n m r
-          at refusals.WriteFault u = (u.0, cut_prefix after then p.item less p.is_item (subst (λ f. AppendsPrefix holds then (basis_piece ring f p.item)) way.first (subst (AppendsPrefix holds then) p.is_piece u.1)))
+          at refusals.WriteFault u = (
+            u.0,
+            cut_prefix after then p.item less p.is_item (subst (λ f. AppendsPrefix holds then (basis_piece ring f p.item))
+                way.first (subst (AppendsPrefix holds then) p.is_piece u.1)),
+          )
           at refusals.Memory u = stands_kept then u.0
           at _ u = absurd u
 
     -- the next basis is refused
-    pub stopped_tree : (n m : ℕ) (e : TreeError) → ((nodes : List MarkedPolynomials) → AreLeftIn row nodes → IsRefusedEarly (ideal_in row) row.pairs nodes e) → IsListStoppedBehind before o ring j fs held holds n m (of_tree e)
+    pub stopped_tree : (n m : ℕ) (e : TreeError) → ((nodes : List MarkedPolynomials) → AreLeftIn row nodes → IsRefusedEarly (ideal_in row) row.pairs nodes e) →
+        IsListStoppedBehind before o ring j fs held holds n m (of_tree e)
     stopped_tree n m e h = at e (IsStoppedAt.in_tree e (early_here e h) refl)
       where
         at : (e : TreeError) → IsStoppedAt o (length ring) j fs way.written way.rest (of_tree e) →
@@ -309,7 +331,8 @@ module _ (before : List MarkedPolynomials) (o : ListOptions) (ring : List (List 
     -- nothing is left: all bases are written
     module _ (new : Row) (end : IsRowEnd row new) where
       all_written : AreAllBasesIn (length ring) j fs (before ++ way.written)
-      all_written = subst (λ l. AreAllBasesIn (length ring) j fs (before ++ l)) (ap (λ l. way.written ++ l) (end.none way.rest way.left) ∙ append-nil way.written) way.are_all
+      all_written = subst (λ l. AreAllBasesIn (length ring) j fs (before ++ l)) (ap (λ l. way.written ++ l) (end.none way.rest way.left) ∙
+          append-nil way.written) way.are_all
 
       whole : list_text ring way.items ≡ begun_text ring way.items ++ end_piece ring is_first
       whole = at way.items ∙ ap (λ f. begun_text ring way.items ++ end_piece ring f) (sym way.first)
@@ -333,7 +356,8 @@ module _ (before : List MarkedPolynomials) (o : ListOptions) (ring : List (List 
       )
 
       -- its end isn't written whole
-      pub stopped_end : (then : Option (List ℕ)) (n m : ℕ) (r : Refusal) → IsUnwritten holds then n m (end_piece ring is_first) r → IsListStoppedBehind before o ring j fs held then n m r
+      pub stopped_end : (then : Option (List ℕ)) (n m : ℕ) (r : Refusal) → IsUnwritten holds then n m (end_piece ring is_first) r →
+          IsListStoppedBehind before o ring j fs held then n m r
       stopped_end then n m refusals.WriteFault u = (
         u.0,
         (
@@ -346,7 +370,8 @@ module _ (before : List MarkedPolynomials) (o : ListOptions) (ring : List (List 
             are_items = way.are_items;
             is_text = refl;
           }),
-          prefix_on held holds then (begun_text ring way.items) (end_piece ring is_first) [] (list_text ring way.items) way.gained u.1 (whole ∙ sym (append-nil (begun_text ring way.items ++ end_piece ring is_first))),
+          prefix_on held holds then (begun_text ring way.items) (end_piece ring is_first) [] (list_text ring way.items) way.gained u.1
+              (whole ∙ sym (append-nil (begun_text ring way.items ++ end_piece ring is_first))),
         ),
       )
       stopped_end then n m refusals.Memory u = stands_kept then u.0
@@ -375,7 +400,8 @@ module _ (before : List MarkedPolynomials) (o : ListOptions) (ring : List (List 
 -- ---- where a row goes on
 
 -- below its root a list is behind none
-pub first_goes_on : (n : ℕ) (k : Region) (fs : List Terms) (budget : ℕ) (alloc : Global) (workers : ℕ) (root : MarkedPolynomials) → StartsIn n k fs root → GoesOnBehind [] n k fs budget (first_row alloc root k workers budget)
+pub first_goes_on : (n : ℕ) (k : Region) (fs : List Terms) (budget : ℕ) (alloc : Global) (workers : ℕ) (root : MarkedPolynomials) → StartsIn n k fs root →
+    GoesOnBehind [] n k fs budget (first_row alloc root k workers budget)
 first_goes_on n k fs budget alloc workers root first = record {
   rest = finite.nodes;
   are_all = all_bases_in n k fs root finite.nodes first finite.leaves;
@@ -392,8 +418,9 @@ first_goes_on n k fs budget alloc workers root first = record {
     finite = upward_finite k root mine
 
 -- behind a basis it is behind those up to that
-pub after_goes_on : (n : ℕ) (k : Region) (fs : List Terms) (budget : ℕ) (b root : MarkedPolynomials) (walk : Walk) (number : ℕ) (row : Row) → StartsIn n k fs root → IsNodeIn (ideal_within n fs k) b →
-    IsResumed k b budget walk → IsResumedAs walk number row → (front : List MarkedPolynomials) × GoesOnBehind (front ++ b ∷ []) n k fs budget row
+pub after_goes_on : (n : ℕ) (k : Region) (fs : List Terms) (budget : ℕ) (b root : MarkedPolynomials) (walk : Walk) (number : ℕ) (row : Row) →
+    StartsIn n k fs root → IsNodeIn (ideal_within n fs k) b → IsResumed k b budget walk → IsResumedAs walk number row →
+    (front : List MarkedPolynomials) × GoesOnBehind (front ++ b ∷ []) n k fs budget row
 after_goes_on n k fs budget b root walk number row first node resumed row_is = (
   goes.0,
   record {
@@ -426,26 +453,33 @@ after_goes_on n k fs budget b root walk number row first node resumed row_is = (
 -- ---- a set of generators
 
 -- the list of its ideal
-pub stopped_list : (o : ListOptions) (ring : List (List ℕ)) (set : List Written) (held holds : Option (List ℕ)) (n m : ℕ) (r : Refusal) → IsListStoppedIn o ring (all_positive (length ring)) (generators_of set) held holds n m r →
+pub stopped_list : (o : ListOptions) (ring : List (List ℕ)) (set : List Written) (held holds : Option (List ℕ)) (n m : ℕ) (r : Refusal) →
+    IsListStoppedIn o ring (all_positive (length ring)) (generators_of set) held holds n m r →
     IsStoppedFor (bases_command o) (ring, (set, None)) held holds n m r
 stopped_list o ring set held holds n m r s =
     stopped_for (bases_command o) (ring, (set, None)) [] o ring (all_positive (length ring)) (generators_of set) held holds n m
     (λ text h. h) (λ text d h. h) (λ d h. IsListCause.going h) r s
 
 -- the first basis is refused
-pub stopped_root : (o : ListOptions) (ring : List (List ℕ)) (set : List Written) (held : Option (List ℕ)) (n m : ℕ) (r : Refusal) → IsRootRefusal (length ring) (generators_of set) o.pairs r →
-    IsStoppedFor (bases_command o) (ring, (set, None)) held held n m r
-stopped_root o ring set held n m r (e, h, q) = subst (λ z. IsStoppedFor (bases_command o) (ring, (set, None)) held held n m z) (sym q) (at e (IsListCause.at_root e h refl))
+pub stopped_root : (o : ListOptions) (ring : List (List ℕ)) (set : List Written) (held : Option (List ℕ)) (n m : ℕ) (r : Refusal) →
+    IsRootRefusal (length ring) (generators_of set) o.pairs r → IsStoppedFor (bases_command o) (ring, (set, None)) held held n m r
+stopped_root o ring set held n m r (e, h, q) = subst (λ z. IsStoppedFor (bases_command o) (ring, (set, None)) held held n m z) (sym q)
+    (at e (IsListCause.at_root e h refl))
   where
-    at : (e : BasisError) → IsListCause o (length ring) (generators_of set) (of_basis e) → IsStoppedFor (bases_command o) (ring, (set, None)) held held n m (of_basis e)
+    at : (e : BasisError) → IsListCause o (length ring) (generators_of set) (of_basis e) →
+        IsStoppedFor (bases_command o) (ring, (set, None)) held held n m (of_basis e)
     at (basis_errors.Overflow x) c = (inl c, inl (Keeps-refl held))
     at (basis_errors.Exponent x) c = (inl c, inl (Keeps-refl held))
     at (basis_errors.PairBudget basis unsettled) c = (inl c, inl (Keeps-refl held))
     at basis_errors.Memory c = (inl c, inl (Keeps-refl held))
 
 -- there is no memory before anything is written
-pub stopped_memory : (o : ListOptions) (ring : List (List ℕ)) (set : List Written) (held : Option (List ℕ)) (n m : ℕ) (r : Refusal) → r ≡ refusals.Memory → IsStoppedFor (bases_command o) (ring, (set, None)) held held n m r
-stopped_memory o ring set held n m r e = subst (λ z. IsStoppedFor (bases_command o) (ring, (set, None)) held held n m z) (sym e) (inr refl, inl (Keeps-refl held))
+pub stopped_memory : (o : ListOptions) (ring : List (List ℕ)) (set : List Written) (held : Option (List ℕ)) (n m : ℕ) (r : Refusal) → r ≡ refusals.Memory →
+    IsStoppedFor (bases_command o) (ring, (set, None)) held held n m r
+stopped_memory o ring set held n m r e = subst (λ z. IsStoppedFor (bases_command o) (ring, (set, None)) held held n m z) (sym e) (
+  inr refl,
+  inl (Keeps-refl held),
+)
 
 -- ---- lines without a ring, and faults
 
@@ -458,18 +492,20 @@ unnamed_item : (certified : Bool) (j : Region) (b : MarkedPolynomials) (r : Refu
 unnamed_item false j b r e = subst (λ z. IsUnnamed (without_names z)) (sym e) (record { ring = refl; named = λ lent is. tt })
 unnamed_item true j b r (e, h, q) = subst (λ z. IsUnnamed (without_names z)) (sym q) (unnamed_weight e)
 
-pub unnamed_piece : (certified : Bool) (ring : List (List ℕ)) (j : Region) (is_first : Bool) (b : MarkedPolynomials) (held holds : Option (List ℕ)) (n m : ℕ) (r : Refusal) → IsBasisUnwritten certified ring j is_first b held holds n m r → IsUnnamed (without_names r)
+pub unnamed_piece : (certified : Bool) (ring : List (List ℕ)) (j : Region) (is_first : Bool) (b : MarkedPolynomials) (held holds : Option (List ℕ)) (n m : ℕ)
+    (r : Refusal) → IsBasisUnwritten certified ring j is_first b held holds n m r → IsUnnamed (without_names r)
 unnamed_piece certified ring j is_first b held holds n m r (IsBasisUnwritten.unmade same calm h) = unnamed_item certified j b r h
 unnamed_piece certified ring j is_first b held holds n m r (IsBasisUnwritten.cut piece p u) = unnamed_write held holds n m piece r u
 
 -- no fault is counted but that of a write
-pub unwritten_calm : (held holds : Option (List ℕ)) (n m k : ℕ) (piece : List ℕ) (r : Refusal) → IsUnwritten held holds n m piece r → n ≡ k → (r ≡ refusals.WriteFault → ⊥) → m ≡ k
+pub unwritten_calm : (held holds : Option (List ℕ)) (n m k : ℕ) (piece : List ℕ) (r : Refusal) → IsUnwritten held holds n m piece r → n ≡ k →
+    (r ≡ refusals.WriteFault → ⊥) → m ≡ k
 unwritten_calm held holds n m k piece refusals.WriteFault u e never = absurd (never refl)
 unwritten_calm held holds n m k piece refusals.Memory u e never = u.1 ∙ e
 unwritten_calm held holds n m k piece _ u e never = absurd u
 
-pub piece_calm : (certified : Bool) (ring : List (List ℕ)) (j : Region) (is_first : Bool) (b : MarkedPolynomials) (held holds : Option (List ℕ)) (n m k : ℕ) (r : Refusal) → IsBasisUnwritten certified ring j is_first b held holds n m r →
-    n ≡ k → (r ≡ refusals.WriteFault → ⊥) → m ≡ k
+pub piece_calm : (certified : Bool) (ring : List (List ℕ)) (j : Region) (is_first : Bool) (b : MarkedPolynomials) (held holds : Option (List ℕ)) (n m k : ℕ)
+    (r : Refusal) → IsBasisUnwritten certified ring j is_first b held holds n m r → n ≡ k → (r ≡ refusals.WriteFault → ⊥) → m ≡ k
 piece_calm certified ring j is_first b held holds n m k r (IsBasisUnwritten.unmade same calm h) e never = calm ∙ e
 piece_calm certified ring j is_first b held holds n m k r (IsBasisUnwritten.cut piece p u) e never = unwritten_calm held holds n m k piece r u e never
 

@@ -61,7 +61,8 @@ among_right (y ∷ xs) ys x j = inr (among_right xs ys x j)
 
 -- ---- the bases that some weight of a region gives
 
-pub given_in_node : (n : ℕ) (k : Region) (fs : List Terms) (x : MarkedPolynomials) → AreInVariables n fs → IsRegion n k → IsGivenIn n k fs x → IsNodeIn (ideal_within n fs k) x
+pub given_in_node : (n : ℕ) (k : Region) (fs : List Terms) (x : MarkedPolynomials) → AreInVariables n fs → IsRegion n k → IsGivenIn n k fs x →
+    IsNodeIn (ideal_within n fs k) x
 given_in_node n k fs x v r g =
     let m : IsMarkedReducedBasis n fs x.items = of_reduced n fs (gains g.weight) x.items g.reduced g.arranged in
     record {
@@ -85,7 +86,8 @@ node_given_in n k fs x h = record {
   arranged = h.basis.arranged;
   weight = h.basis.weight;
   inside = h.basis.inside;
-  reduced = (marked_bases_are_reduced.at_weight n fs (gains h.basis.weight) x.items h.fan.ideal (reduced_in n k fs x h)).1 (region-positive n k h.basis.weight h.basis.inside, h.basis.marked);
+  reduced = (marked_bases_are_reduced.at_weight n fs (gains h.basis.weight) x.items h.fan.ideal (reduced_in n k fs x h)).1
+      (region-positive n k h.basis.weight h.basis.inside, h.basis.marked);
 }
 
 -- some positive weight
@@ -123,8 +125,8 @@ degree_marks n bs ring heads m b c = record { monic = (m b c).monic; tail = tail
         by (inr (inl l)) = inr (inl (omega (arith, l, ex, eh)))
         by (inr (inr l)) = inr (inr (ex ∙ l.0 ∙ sym eh, l.1))
 
-pub first_node : (n : ℕ) (fs : List Terms) (root : MarkedPolynomials) → AreInVariables n fs → root.variables ≡ n → IsReducedBasisFor n fs IsDeglexBelow root.items → AreArranged n root.items →
-    IsNodeIn (ideal_by n fs) root
+pub first_node : (n : ℕ) (fs : List Terms) (root : MarkedPolynomials) → AreInVariables n fs → root.variables ≡ n →
+    IsReducedBasisFor n fs IsDeglexBelow root.items → AreArranged n root.items → IsNodeIn (ideal_by n fs) root
 first_node n fs root v e r a = (basis_is_node n fs IsDeglexBelow root v deglex-order (marks_have_weights.by_deglex n root.items r.basis.marked) e r a).0
 
 pub first_own : (n : ℕ) (fs : List Terms) (root : MarkedPolynomials) → IsNodeIn (ideal_by n fs) root → IsNode (all_positive n) root
@@ -132,7 +134,8 @@ first_own n fs root h = own (all_positive n) (ideal_by n fs) root refl h
 
 -- ---- where a list in a region starts
 
-reduced_for_moved : (n : ℕ) (fs gs : List Terms) (below : Exponents → Exponents → Type 0) (bs : List MarkedPolynomial) → AreSameIdeal n fs gs → IsReducedBasisFor n fs below bs → IsReducedBasisFor n gs below bs
+reduced_for_moved : (n : ℕ) (fs gs : List Terms) (below : Exponents → Exponents → Type 0) (bs : List MarkedPolynomial) → AreSameIdeal n fs gs →
+    IsReducedBasisFor n fs below bs → IsReducedBasisFor n gs below bs
 reduced_for_moved n fs gs below bs s r = record {
   basis = record { members = λ c k. s.inside c.poly (r.basis.members c k); marked = r.basis.marked; initial = λ f m x l. r.basis.initial f (s.back f m) x l };
   tails = r.tails;
@@ -140,12 +143,14 @@ reduced_for_moved n fs gs below bs s r = record {
 }
 
 -- the basis by degree and then lex is the one by the root of all positive weights and then lex
-pub first_in : (n : ℕ) (fs : List Terms) (root : MarkedPolynomials) → AreInVariables n fs → root.variables ≡ n → IsReducedBasisFor n fs IsDeglexBelow root.items → AreArranged n root.items →
-    StartsIn n (all_positive n) fs root
+pub first_in : (n : ℕ) (fs : List Terms) (root : MarkedPolynomials) → AreInVariables n fs → root.variables ≡ n →
+    IsReducedBasisFor n fs IsDeglexBelow root.items → AreArranged n root.items → StartsIn n (all_positive n) fs root
 first_in n fs root v e r a = record {
   node = node;
-  by_root = (marked_bases_are_reduced.at_order (MonomialOrder.weighted (gains (replicate n (pos 1)))) n fs root.items v (reduced_in n (all_positive n) fs root node)).1
-      (degree_marks n root.items (λ b c x k. variables_of_member n fs b.poly v (node.basis.reduced.basis.members b c) x k) (λ b c. in_ring_of n b.head (node.basis.arranged.canonical b c).head) r.basis.marked);
+  by_root = (marked_bases_are_reduced.at_order (MonomialOrder.weighted (gains (replicate n (pos 1)))) n fs root.items v
+      (reduced_in n (all_positive n) fs root node)).1
+      (degree_marks n root.items (λ b c x k. variables_of_member n fs b.poly v (node.basis.reduced.basis.members b c) x k)
+      (λ b c. in_ring_of n b.head (node.basis.arranged.canonical b c).head) r.basis.marked);
 }
   where
     node : IsNodeIn (ideal_by n fs) root
@@ -155,9 +160,11 @@ pub start_in : (n : ℕ) (fs : List Terms) (root : MarkedPolynomials) → Starts
 start_in n fs root s = first_in n fs root s.inside s.first.variables s.first.reduced s.first.arranged
 
 -- its marks are those of the root
-pub root_marks : (n : ℕ) (k : Region) (fs : List Terms) (root : MarkedPolynomials) → StartsIn n k fs root → IsNode k root → IsReducedBasisFor root.variables (polys root.items) (IsWeightedBelow (gains k.root)) root.items
+pub root_marks : (n : ℕ) (k : Region) (fs : List Terms) (root : MarkedPolynomials) → StartsIn n k fs root → IsNode k root →
+    IsReducedBasisFor root.variables (polys root.items) (IsWeightedBelow (gains k.root)) root.items
 root_marks n k fs root s mine =
-    (marked_bases_are_reduced.at_order (MonomialOrder.weighted (gains k.root)) root.variables (polys root.items) root.items mine.fan.ideal (record { reduced = mine.basis.reduced; arranged = mine.basis.arranged })).1 s.by_root.basis.marked
+    (marked_bases_are_reduced.at_order (MonomialOrder.weighted (gains k.root)) root.variables (polys root.items) root.items mine.fan.ideal
+    (record { reduced = mine.basis.reduced; arranged = mine.basis.arranged })).1 s.by_root.basis.marked
 
 -- it is the first one of the ideal that it generates
 pub own_start_in : (n : ℕ) (k : Region) (fs : List Terms) (root : MarkedPolynomials) → StartsIn n k fs root → StartsIn n k (polys root.items) root
@@ -170,7 +177,8 @@ own_start_in n k fs root s = record {
     mine = own k (ideal_within n fs k) root refl s.node
 
 -- and of the ideal by other generators
-pub start_moved : (n : ℕ) (k : Region) (fs gs : List Terms) (root : MarkedPolynomials) → AreInVariables n gs → AreSameIdeal n fs gs → StartsIn n k fs root → StartsIn n k gs root
+pub start_moved : (n : ℕ) (k : Region) (fs gs : List Terms) (root : MarkedPolynomials) → AreInVariables n gs → AreSameIdeal n fs gs → StartsIn n k fs root →
+    StartsIn n k gs root
 start_moved n k fs gs root v same s = record {
   node = node_moved (ideal_within n fs k) (ideal_within n gs k) root (record {
     variables = refl;
@@ -200,7 +208,8 @@ own_start n fs root s = record {
 }
   where
     generated : AreInVariables n (polys root.items) × AreSameIdeal n fs (polys root.items)
-    generated = only_ideals_count.generated n fs root.items s.inside (reduced_in n (all_positive n) fs root (first_node n fs root s.inside s.first.variables s.first.reduced s.first.arranged))
+    generated = only_ideals_count.generated n fs root.items s.inside
+        (reduced_in n (all_positive n) fs root (first_node n fs root s.inside s.first.variables s.first.reduced s.first.arranged))
 
 -- marks that are greatest by the weight (1, .., 1) and then lex are so by degree and then lex
 weight_marks : (n : ℕ) (bs : List MarkedPolynomial) → ((b : MarkedPolynomial) → Contains bs b → (x : Exponents) → HasMonomial b.poly x → IsInRing n x) →
@@ -222,7 +231,8 @@ weight_marks n bs ring heads m b c = record { monic = (m b c).monic; tail = tail
         by (inr (inr l)) = inr (inr (sym ex ∙ l.0 ∙ eh, l.1))
 
 -- the root above a basis of an ideal is its first basis
-pub start_of_root : (n : ℕ) (fs : List Terms) (v root : MarkedPolynomials) → IsNodeIn (ideal_by n fs) v → IsRootFor (all_positive v.variables) v root → StartsAt n fs root
+pub start_of_root : (n : ℕ) (fs : List Terms) (v root : MarkedPolynomials) → IsNodeIn (ideal_by n fs) v → IsRootFor (all_positive v.variables) v root →
+    StartsAt n fs root
 start_of_root n fs v root h r = record {
   inside = node.fan.ideal;
   first = record {
@@ -236,19 +246,22 @@ start_of_root n fs v root h r = record {
 }
   where
     node : IsNodeIn (ideal_by n fs) root
-    node = node_moved (fan_of (all_positive v.variables) v) (ideal_by n fs) root (subst (λ m. SameFan (fan_of (all_positive m) v) (ideal_by n fs)) (sym h.variables) (back_fan (ideal_by n fs) (fan_of (all_positive n) v) (own_fan (ideal_by n fs) v h))) r.basis
+    node = node_moved (fan_of (all_positive v.variables) v) (ideal_by n fs) root (subst (λ m. SameFan (fan_of (all_positive m) v) (ideal_by n fs))
+        (sym h.variables) (back_fan (ideal_by n fs) (fan_of (all_positive n) v) (own_fan (ideal_by n fs) v h))) r.basis
 
     generated : AreInVariables n (polys root.items) × AreSameIdeal n fs (polys root.items)
     generated = only_ideals_count.generated n fs root.items node.fan.ideal (reduced_in n (all_positive n) fs root node)
 
     marks : AreMarked IsDeglexBelow root.items
-    marks = weight_marks n root.items (λ b c x k. variables_of_member n fs b.poly node.fan.ideal (node.basis.reduced.basis.members b c) x k) (λ b c. in_ring_of n b.head (node.basis.arranged.canonical b c).head)
+    marks = weight_marks n root.items (λ b c x k. variables_of_member n fs b.poly node.fan.ideal (node.basis.reduced.basis.members b c) x k)
+        (λ b c. in_ring_of n b.head (node.basis.arranged.canonical b c).head)
         (subst (λ m. AreMarked (IsWeightedBelow (gains (replicate m (pos 1)))) root.items) h.variables r.by_root.basis.marked)
 
 -- ---- the list
 
 -- what is left before the first basis is the list of all
-pub all_bases_in : (n : ℕ) (k : Region) (fs : List Terms) (root : MarkedPolynomials) (nodes : List MarkedPolynomials) → StartsIn n k fs root → Leaves IsBefore (IsParent k) Before root 0 nodes → AreAllBasesIn n k fs nodes
+pub all_bases_in : (n : ℕ) (k : Region) (fs : List Terms) (root : MarkedPolynomials) (nodes : List MarkedPolynomials) → StartsIn n k fs root →
+    Leaves IsBefore (IsParent k) Before root 0 nodes → AreAllBasesIn n k fs nodes
 all_bases_in n k fs root nodes s left = record {
   only = λ x j. node_given_in n k fs x (from x (list.only x j));
   all = λ x g. list.all x (into x (given_in_node n k fs x s.node.fan.ideal s.node.fan.region g));
@@ -280,8 +293,9 @@ all_bases_in n k fs root nodes s left = record {
     from : (x : MarkedPolynomials) → IsNodeIn (fan_of k root) x → IsNodeIn (ideal_within n fs k) x
     from x h = node_moved (fan_of k root) (ideal_within n fs k) x (back_fan (ideal_within n fs k) (fan_of k root) (own_fan (ideal_within n fs k) root s.node)) h
 
-pub all_bases_from : (n : ℕ) (fs : List Terms) (root : MarkedPolynomials) (nodes : List MarkedPolynomials) → AreInVariables n fs → root.variables ≡ n → IsReducedBasisFor n fs IsDeglexBelow root.items → AreArranged n root.items →
-    Leaves IsBefore (IsParent (all_positive n)) Before root 0 nodes → AreAllBases n fs nodes
+pub all_bases_from : (n : ℕ) (fs : List Terms) (root : MarkedPolynomials) (nodes : List MarkedPolynomials) → AreInVariables n fs → root.variables ≡ n →
+    IsReducedBasisFor n fs IsDeglexBelow root.items → AreArranged n root.items → Leaves IsBefore (IsParent (all_positive n)) Before root 0 nodes →
+    AreAllBases n fs nodes
 all_bases_from n fs root nodes v e r a left = all_bases_in n (all_positive n) fs root nodes (first_in n fs root v e r a) left
 
 -- ---- weights
@@ -290,15 +304,22 @@ all_bases_from n fs root nodes v e r a left = all_bases_in n (all_positive n) fs
 in_region : (n : ℕ) (w : List ℤ) → length w ≡ n → All (λ k. pos 0 <ℤ k) w → IsInRegion n (all_positive n) w
 in_region n w l p = record { width = l; positive = p; rows = All-nil _ }
 
-region_given : (n : ℕ) (k : Region) (fs : List Terms) (bs : List MarkedPolynomial) → AreInVariables n fs → IsRegion n k → IsBasisInRegion n fs k bs → IsGivenIn n k fs (record { variables = n; items = bs })
-region_given n k fs bs v r b = node_given_in n k fs (record { variables = n; items = bs }) (record { fan = record { ideal = v; region = r }; variables = refl; basis = b })
+region_given : (n : ℕ) (k : Region) (fs : List Terms) (bs : List MarkedPolynomial) → AreInVariables n fs → IsRegion n k → IsBasisInRegion n fs k bs →
+    IsGivenIn n k fs (record { variables = n; items = bs })
+region_given n k fs bs v r b = node_given_in n k fs (record { variables = n; items = bs }) (record {
+  fan = record { ideal = v; region = r };
+  variables = refl;
+  basis = b;
+})
 
-monomial_in : (n : ℕ) (k : Region) (fs : List Terms) (list : List MarkedPolynomials) (w : List ℤ) → AreInVariables n fs → AreAllBasesIn n k fs list → IsRegion n k → IsInRegion n k w → IsMonomialAt n fs w →
-    (x : MarkedPolynomials) × Among list x × IsReducedBasis n fs (gains w) x.items × ((y : MarkedPolynomials) → Among list y → IsReducedBasis n fs (gains w) y.items → x ≡ y)
+monomial_in : (n : ℕ) (k : Region) (fs : List Terms) (list : List MarkedPolynomials) (w : List ℤ) → AreInVariables n fs → AreAllBasesIn n k fs list →
+    IsRegion n k → IsInRegion n k w → IsMonomialAt n fs w → (x : MarkedPolynomials) × Among list x × IsReducedBasis n fs (gains w) x.items ×
+    ((y : MarkedPolynomials) → Among list y → IsReducedBasis n fs (gains w) y.items → x ≡ y)
 monomial_in n k fs list w v all g l m = at ((monomial_ideals_are_of_bases n k fs w v l).0 m)
   where
     at : ((bs : List MarkedPolynomial) × IsBasisInRegion n fs k bs × IsReducedBasis n fs (gains w) bs) →
-        (x : MarkedPolynomials) × Among list x × IsReducedBasis n fs (gains w) x.items × ((y : MarkedPolynomials) → Among list y → IsReducedBasis n fs (gains w) y.items → x ≡ y)
+        (x : MarkedPolynomials) × Among list x × IsReducedBasis n fs (gains w) x.items × ((y : MarkedPolynomials) → Among list y →
+        IsReducedBasis n fs (gains w) y.items → x ≡ y)
     at (bs, b, r) = (record { variables = n; items = bs }, all.all (record { variables = n; items = bs }) (region_given n k fs bs v g b), r, one)
       where
         one : (y : MarkedPolynomials) → Among list y → IsReducedBasis n fs (gains w) y.items → record { variables = n; items = bs } ≡ y
@@ -307,20 +328,23 @@ monomial_in n k fs list w v all g l m = at ((monomial_ideals_are_of_bases n k fs
             let same : bs ≡ y.items = arranged_equal n bs y.items b.arranged h.arranged (unique_by_weight n fs (gains w) bs y.items r s) in
             ap (λ cs. record { variables = n; items = cs }) same ∙ ap (λ m. record { variables = m; items = y.items }) (sym h.variables)
 
-cones_in : (n : ℕ) (k : Region) (fs : List Terms) (list : List MarkedPolynomials) (w : List ℤ) → AreInVariables n fs → AreAllBasesIn n k fs list → IsRegion n k → IsInRegion n k w →
-    (x : MarkedPolynomials) × Among list x × IsInClosedCone w x.items
+cones_in : (n : ℕ) (k : Region) (fs : List Terms) (list : List MarkedPolynomials) (w : List ℤ) → AreInVariables n fs → AreAllBasesIn n k fs list →
+    IsRegion n k → IsInRegion n k w → (x : MarkedPolynomials) × Among list x × IsInClosedCone w x.items
 cones_in n k fs list w v all g l = at (weights_have_bases n k fs w v l)
   where
-    at : ((bs : List MarkedPolynomial) × IsBasisInRegion n fs k bs × AreMarked (IsWeightedBelow (gains w)) bs × IsInClosedCone w bs) → (x : MarkedPolynomials) × Among list x × IsInClosedCone w x.items
+    at : ((bs : List MarkedPolynomial) × IsBasisInRegion n fs k bs × AreMarked (IsWeightedBelow (gains w)) bs × IsInClosedCone w bs) →
+        (x : MarkedPolynomials) × Among list x × IsInClosedCone w x.items
     at (bs, b, m, c) = (record { variables = n; items = bs }, all.all (record { variables = n; items = bs }) (region_given n k fs bs v g b), c)
 
 -- ---- term orders
 
-orders : (n : ℕ) (fs : List Terms) (list : List MarkedPolynomials) (less : Exponents → Exponents → Bool) → AreInVariables n fs → AreAllBases n fs list → IsTermOrder n (below_by less) →
-    (x : MarkedPolynomials) × Among list x × IsReducedBasisFor n fs (below_by less) x.items × ((y : MarkedPolynomials) → Among list y → IsReducedBasisFor n fs (below_by less) y.items → x ≡ y)
+orders : (n : ℕ) (fs : List Terms) (list : List MarkedPolynomials) (less : Exponents → Exponents → Bool) → AreInVariables n fs → AreAllBases n fs list →
+    IsTermOrder n (below_by less) → (x : MarkedPolynomials) × Among list x × IsReducedBasisFor n fs (below_by less) x.items × ((y : MarkedPolynomials) →
+    Among list y → IsReducedBasisFor n fs (below_by less) y.items → x ≡ y)
 orders n fs list less v all t = (x, all.all x given, found.2, one)
   where
-    found : (bs : List MarkedPolynomial) × IsMarkedReducedBasis n fs bs × IsReducedBasisFor n fs (below_by less) bs × ((cs : List MarkedPolynomial) → IsMarkedReducedBasis n fs cs → IsReducedBasisFor n fs (below_by less) cs → bs ≡ cs)
+    found : (bs : List MarkedPolynomial) × IsMarkedReducedBasis n fs bs × IsReducedBasisFor n fs (below_by less) bs × ((cs : List MarkedPolynomial) →
+        IsMarkedReducedBasis n fs cs → IsReducedBasisFor n fs (below_by less) cs → bs ≡ cs)
     found = term_orders_have_bases n fs less v t
 
     x : MarkedPolynomials

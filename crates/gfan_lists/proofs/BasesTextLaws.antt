@@ -58,7 +58,8 @@ prefix_on a b c xs ys zs whole p q e = (
 -- a prefix of the piece of one more is a prefix of the whole text
 pub prefix_piece : (ring items rest : List (List ℕ)) (t : List ℕ) (u v w : Option (List ℕ)) → Appends u v (begun_text ring items) →
     AppendsPrefix v w (basis_piece ring (is_none_of items) t) → AppendsPrefix u w (list_text ring (items ++ t ∷ rest))
-prefix_piece ring items rest t u v w p q = prefix_on u v w (begun_text ring items) (basis_piece ring (is_none_of items) t) (ending rest) (list_text ring (items ++ t ∷ rest)) p q (whole items)
+prefix_piece ring items rest t u v w p q = prefix_on u v w (begun_text ring items) (basis_piece ring (is_none_of items) t) (ending rest)
+    (list_text ring (items ++ t ∷ rest)) p q (whole items)
   where
     whole : (ss : List (List ℕ)) → list_text ring (ss ++ t ∷ rest) ≡ (begun_text ring ss ++ basis_piece ring (is_none_of ss) t) ++ ending rest
     whole [] = whole_begun ring t [] rest ∙ ap (λ l. l ++ ending rest) (sym (begun_next ring [] t))
@@ -69,7 +70,8 @@ prefix_piece ring items rest t u v w p q = prefix_on u v w (begun_text ring item
 
 -- ---- prefixes of a beginning
 
-begun_more : (ring : List (List ℕ)) (t : List ℕ) (ts rest : List (List ℕ)) → begun_text ring (t ∷ (ts ++ rest)) ≡ begun_text ring (t ∷ ts) ++ flat_map later_item_text rest
+begun_more : (ring : List (List ℕ)) (t : List ℕ) (ts rest : List (List ℕ)) →
+    begun_text ring (t ∷ (ts ++ rest)) ≡ begun_text ring (t ∷ ts) ++ flat_map later_item_text rest
 begun_more ring t ts rest =
     ap (λ l. ring_text ring ++ 123 ∷ (t ++ l)) (flat_map-append later_item_text ts rest)
     ∙ regroup (ring_text ring) t (flat_map later_item_text ts) (flat_map later_item_text rest)
@@ -80,9 +82,11 @@ begun_more ring t ts rest =
 -- a prefix of the piece of one more is a prefix of what stands once others are written behind it
 pub prefix_begun : (ring items rest : List (List ℕ)) (t : List ℕ) (u v w : Option (List ℕ)) → Appends u v (begun_text ring items) →
     AppendsPrefix v w (basis_piece ring (is_none_of items) t) → AppendsPrefix u w (begun_text ring (items ++ t ∷ rest))
-prefix_begun ring items rest t u v w p q = prefix_on u v w (begun_text ring items) (basis_piece ring (is_none_of items) t) (flat_map later_item_text rest) (begun_text ring (items ++ t ∷ rest)) p q (whole items)
+prefix_begun ring items rest t u v w p q = prefix_on u v w (begun_text ring items) (basis_piece ring (is_none_of items) t) (flat_map later_item_text rest)
+    (begun_text ring (items ++ t ∷ rest)) p q (whole items)
   where
-    whole : (ss : List (List ℕ)) → begun_text ring (ss ++ t ∷ rest) ≡ (begun_text ring ss ++ basis_piece ring (is_none_of ss) t) ++ flat_map later_item_text rest
+    whole : (ss : List (List ℕ)) → begun_text ring (ss ++ t ∷ rest) ≡ (begun_text ring ss ++ basis_piece ring (is_none_of ss) t) ++
+        flat_map later_item_text rest
     whole [] = begun_more ring t [] rest ∙ ap (λ l. l ++ flat_map later_item_text rest) (sym (begun_next ring [] t))
     whole (s ∷ ss) =
         ap (λ l. begun_text ring (s ∷ l)) (sym (append_assoc ss (t ∷ []) rest))

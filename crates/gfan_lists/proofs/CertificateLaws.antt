@@ -25,7 +25,8 @@ AllZip-append R (x ∷ xs) ys [] us a b = absurd a
 AllZip-append R (x ∷ xs) ys (t ∷ ts) us a b = (a.0, AllZip-append R xs ys ts us a.1 b)
 
 -- something stands for each basis
-item_exists : (certified : Bool) (n : ℕ) (ring : List (List ℕ)) (j : Region) (fs : List Terms) (b : MarkedPolynomials) → IsGivenIn n j fs b → (t : List ℕ) × IsItemTextIn certified ring j b t
+item_exists : (certified : Bool) (n : ℕ) (ring : List (List ℕ)) (j : Region) (fs : List Terms) (b : MarkedPolynomials) → IsGivenIn n j fs b →
+    (t : List ℕ) × IsItemTextIn certified ring j b t
 item_exists false n ring j fs b g = (basis_text ring b.items, refl)
 item_exists true n ring j fs b g =
     let canonical = subst (λ k. AreCanonical k b.items) (sym g.variables) g.arranged.canonical in
@@ -34,8 +35,8 @@ item_exists true n ring j fs b g =
     let told : List ℕ = certificates_text w.0 f.0 in
     (basis_text ring b.items ++ told, (told, record { weight = w.0; facets = f.0; is_weight = w.1; are_witnessed = f.1; is_text = refl }, refl))
 
-pub items_exist : (certified : Bool) (n : ℕ) (ring : List (List ℕ)) (j : Region) (fs : List Terms) (bs : List MarkedPolynomials) → ((b : MarkedPolynomials) → Among bs b → IsGivenIn n j fs b) →
-    (ts : List (List ℕ)) × AreItemTextsIn certified ring j bs ts
+pub items_exist : (certified : Bool) (n : ℕ) (ring : List (List ℕ)) (j : Region) (fs : List Terms) (bs : List MarkedPolynomials) →
+    ((b : MarkedPolynomials) → Among bs b → IsGivenIn n j fs b) → (ts : List (List ℕ)) × AreItemTextsIn certified ring j bs ts
 items_exist certified n ring j fs [] g = ([], tt)
 items_exist certified n ring j fs (b ∷ bs) g =
     let t = item_exists certified n ring j fs b (g b (inl refl)) in
@@ -48,15 +49,18 @@ certificates_one j b t u p q =
     let facets = one_facets b.variables j b.items p.facets q.facets p.are_witnessed q.are_witnessed in
     p.is_text ∙ ap₂ (λ (w : List ℤ) (fs : List FacetWitness). certificates_text w fs) weights facets ∙ sym q.is_text
 
-item_one : (certified : Bool) (ring : List (List ℕ)) (j : Region) (b : MarkedPolynomials) (t u : List ℕ) → IsItemTextIn certified ring j b t → IsItemTextIn certified ring j b u → t ≡ u
+item_one : (certified : Bool) (ring : List (List ℕ)) (j : Region) (b : MarkedPolynomials) (t u : List ℕ) → IsItemTextIn certified ring j b t →
+    IsItemTextIn certified ring j b u → t ≡ u
 item_one false ring j b t u p q = p ∙ sym q
 item_one true ring j b t u p q = p.2 ∙ ap (λ l. basis_text ring b.items ++ l) (certificates_one j b p.0 q.0 p.1 q.1) ∙ sym q.2
 
 -- what stands for bases is one list of texts
-pub items_one : (certified : Bool) (ring : List (List ℕ)) (j : Region) (bs : List MarkedPolynomials) (ts us : List (List ℕ)) → AreItemTextsIn certified ring j bs ts → AreItemTextsIn certified ring j bs us → ts ≡ us
+pub items_one : (certified : Bool) (ring : List (List ℕ)) (j : Region) (bs : List MarkedPolynomials) (ts us : List (List ℕ)) →
+    AreItemTextsIn certified ring j bs ts → AreItemTextsIn certified ring j bs us → ts ≡ us
 items_one certified ring j [] [] [] p q = refl
 items_one certified ring j [] [] (u ∷ us) p q = absurd q
 items_one certified ring j [] (t ∷ ts) us p q = absurd p
 items_one certified ring j (b ∷ bs) [] us p q = absurd p
 items_one certified ring j (b ∷ bs) (t ∷ ts) [] p q = absurd q
-items_one certified ring j (b ∷ bs) (t ∷ ts) (u ∷ us) p q = ap₂ (λ (x : List ℕ) (xs : List (List ℕ)). x ∷ xs) (item_one certified ring j b t u p.0 q.0) (items_one certified ring j bs ts us p.1 q.1)
+items_one certified ring j (b ∷ bs) (t ∷ ts) (u ∷ us) p q = ap₂ (λ (x : List ℕ) (xs : List (List ℕ)). x ∷ xs) (item_one certified ring j b t u p.0 q.0)
+    (items_one certified ring j bs ts us p.1 q.1)

@@ -20,7 +20,8 @@ use Rattle.gf_frame.proofs.ReadingLaws.{one_once, of_one_text}
 use Rattle.gf_frame.proofs.SoundLaws.{IsExactCommand, IsTestedCommand}
 use Rattle.gfan_lists.specs.declared.bases.ListOptions.{ListOptions}
 use Rattle.gfan_common.specs.Causes.{of_weight_error, of_tree, of_basis}
-use Rattle.gfan_lists.specs.Bases.{IsWithinLimit, IsGoingCause, IsGoingCauseIn, IsGoingWithin, IsListCause, AreCertifiedWithin, IsListWithin, bases_command, IsGoingCauseBehind}
+use Rattle.gfan_lists.specs.Bases.{IsWithinLimit, IsGoingCause, IsGoingCauseIn, IsGoingWithin, IsListCause, AreCertifiedWithin, IsListWithin, bases_command}
+use Rattle.gfan_lists.specs.Bases.{IsGoingCauseBehind}
 use Rattle.gfan_lists.specs.GivenBasis.{IsGivenListCause, IsGivenListWithin, given_bases_command}
 use Rattle.gfan_lists.specs.BasesList.{AreAllBases}
 use Rattle.gfan_common.specs.Forms.{generators_of}
@@ -44,14 +45,18 @@ pub past_limit : (limit : Option ℕ) (most : ℕ) (list : List MarkedPolynomial
 past_limit None most list e l w = cc
 past_limit (Some n) most list e l w = let same : n ≡ most = cc in omega arith
 
-pub going_within_in : (o : ListOptions) (n : ℕ) (k : Region) (fs : List Terms) (r : Refusal) → IsGoingWithin o n k fs → IsGoingCauseIn o n k fs r → r ≡ refusals.Memory
-going_within_in o n k fs r w (IsGoingCauseBehind.in_tree e h q) = q ∙ ap of_tree (within_memory (ideal_within n fs k) o.pairs e w.tree (early_refused (ideal_within n fs k) o.pairs h.rest e h.early))
+pub going_within_in : (o : ListOptions) (n : ℕ) (k : Region) (fs : List Terms) (r : Refusal) → IsGoingWithin o n k fs → IsGoingCauseIn o n k fs r →
+    r ≡ refusals.Memory
+going_within_in o n k fs r w (IsGoingCauseBehind.in_tree e h q) =
+    q ∙ ap of_tree (within_memory (ideal_within n fs k) o.pairs e w.tree (early_refused (ideal_within n fs k) o.pairs h.rest e h.early))
 going_within_in o n k fs r w (IsGoingCauseBehind.at_limit most h q) = absurd (past_limit o.limit most h.list h.is_limit h.longer (w.few h.list h.are_all))
 going_within_in o n k fs r w (IsGoingCauseBehind.at_certificates c) =
-    c.uncertified.2 ∙ ap of_weight_error (w.certificates c.certified c.basis (c.are_all.only c.basis (among_right c.written (c.basis ∷ c.rest) c.basis (inl refl))) c.uncertified.0 c.uncertified.1)
+    c.uncertified.2 ∙ ap of_weight_error (w.certificates c.certified c.basis
+    (c.are_all.only c.basis (among_right c.written (c.basis ∷ c.rest) c.basis (inl refl))) c.uncertified.0 c.uncertified.1)
 
-going_within : (o : ListOptions) (n : ℕ) (fs : List Terms) (r : Refusal) → IsTreeWithinLimits (ideal_by n fs) o.pairs → ((list : List MarkedPolynomials) → AreAllBases n fs list → IsWithinLimit o.limit list) →
-    AreCertifiedWithin o n fs → IsGoingCause o n fs r → r ≡ refusals.Memory
+going_within : (o : ListOptions) (n : ℕ) (fs : List Terms) (r : Refusal) → IsTreeWithinLimits (ideal_by n fs) o.pairs →
+    ((list : List MarkedPolynomials) → AreAllBases n fs list → IsWithinLimit o.limit list) → AreCertifiedWithin o n fs → IsGoingCause o n fs r →
+    r ≡ refusals.Memory
 going_within o n fs r w few all h = going_within_in o n (all_positive n) fs r (record { tree = w; few = few; certificates = all }) h
 
 list_within : (o : ListOptions) (n : ℕ) (fs : List Terms) (r : Refusal) → IsListWithin o n fs → IsListCause o n fs r → r ≡ refusals.Memory

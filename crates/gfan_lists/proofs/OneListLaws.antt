@@ -23,7 +23,8 @@ use Rattle.gfan_lists.specs.BasesList.{AreAllBasesIn, AreAllBases}
 use Rattle.gfan_lists.proofs.BasesListLaws.{given_in_node, node_given_in, first_node, first_own, all_bases_from}
 
 -- as a list of the nodes of its tree
-nodes_listed : (n : ℕ) (k : Region) (fs : List Terms) (list : List MarkedPolynomials) → AreInVariables n fs → IsRegion n k → AreAllBasesIn n k fs list → IsListFor (ideal_within n fs k) list
+nodes_listed : (n : ℕ) (k : Region) (fs : List Terms) (list : List MarkedPolynomials) → AreInVariables n fs → IsRegion n k → AreAllBasesIn n k fs list →
+    IsListFor (ideal_within n fs k) list
 nodes_listed n k fs list v r a = record {
   only = λ x j. given_in_node n k fs x v r (a.only x j);
   all = λ x h. a.all x (node_given_in n k fs x h);
@@ -35,7 +36,8 @@ nodes_listed n k fs list v r a = record {
   rises = a.rises;
 }
 
-pub one_list_in : (n : ℕ) (k : Region) (fs : List Terms) (a b : List MarkedPolynomials) → AreInVariables n fs → IsRegion n k → AreAllBasesIn n k fs a → AreAllBasesIn n k fs b → a ≡ b
+pub one_list_in : (n : ℕ) (k : Region) (fs : List Terms) (a b : List MarkedPolynomials) → AreInVariables n fs → IsRegion n k → AreAllBasesIn n k fs a →
+    AreAllBasesIn n k fs b → a ≡ b
 one_list_in n k fs a b v r all other = ideals_have_one_list.one (ideal_within n fs k) a b (nodes_listed n k fs a v r all) (nodes_listed n k fs b v r other)
 
 pub one_list : (n : ℕ) (fs : List Terms) (a b : List MarkedPolynomials) → AreInVariables n fs → AreAllBases n fs a → AreAllBases n fs b → a ≡ b

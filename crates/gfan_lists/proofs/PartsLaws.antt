@@ -35,7 +35,8 @@ parts_are_joined certified limit ring k fs early front before rest b text behind
     are_all = a.are_all;
     few = tt;
     items = a.items ++ t.items;
-    are_items = AllZip-append (IsItemTextIn certified ring k) (front ++ b ∷ []) rest a.items t.items a.are_items (subst (λ l. AreItemTextsIn certified ring k l t.items) (sym same) t.are_items);
+    are_items = AllZip-append (IsItemTextIn certified ring k) (front ++ b ∷ []) rest a.items t.items a.are_items
+        (subst (λ l. AreItemTextsIn certified ring k l t.items) (sym same) t.are_items);
     is_text = refl;
   },
 )
@@ -50,4 +51,5 @@ parts_are_joined certified limit ring k fs early front before rest b text behind
     other = subst (AreAllBasesIn (length ring) k fs) (append_assoc before (b ∷ []) t.list) t.are_all
 
     same : rest ≡ t.list
-    same = behind_once (early ++ front) before rest t.list b whole.once (one_list_in (length ring) k fs ((early ++ front) ++ b ∷ rest) (before ++ b ∷ t.list) v r whole other)
+    same = behind_once (early ++ front) before rest t.list b whole.once (one_list_in (length ring) k fs ((early ++ front) ++ b ∷ rest) (before ++ b ∷ t.list) v
+        r whole other)

@@ -1,6 +1,7 @@
 -- How `_generated` sums up a list: how that begins, goes on, ends and is refused.
 -- To cite: weight_long; IsSummingUp, starts, step_variables, below_limit, goes_on, past_limit, ends, refused_in_tree, refused_at_basis;
--- unnamed_unsummed, summary_answers, summary_refuses, root_refuses; generated_lawful, generated_ring, generated_begins, generated_start, one_summary, four_pieces.
+-- unnamed_unsummed, summary_answers, summary_refuses, root_refuses; generated_lawful, generated_ring, generated_begins, generated_start, one_summary,
+-- four_pieces.
 -- The rest are steps.
 use Rattle.std.specs.Prelude.{◌≡◌, ◌≢◌, ◌⊎◌, ℕ, ◌<◌, ◌≤◌, nat_le, max, min, true, false, List, [], ◌∷◌, ◌++◌, length, take, map, ℤ}
 use Rattle.std.specs.Global.{Global}
@@ -56,7 +57,8 @@ use Rattle.gfan_lists.specs.OneSummary.{SummariesAreOne}
 use Rattle.gfan_lists.proofs.BasesListLaws.{first_node, first_own, own_start, all_bases_from}
 use Rattle.gfan_lists.proofs.OneListLaws.{one_list}
 use Rattle.gfan_lists.proofs.CertificateLaws.{AllZip-append}
-use Rattle.gfan_common.proofs.CauseLaws.{weight_work, weight_untested, tree_work, tree_untested, basis_work, basis_not_listed, basis_untested, tree_not_listed, unnamed_weight, weight_not_listed}
+use Rattle.gfan_common.proofs.CauseLaws.{weight_work, weight_untested, tree_work, tree_untested, basis_work, basis_not_listed, basis_untested, tree_not_listed}
+use Rattle.gfan_common.proofs.CauseLaws.{unnamed_weight, weight_not_listed}
 use Rattle.std.specs.List.{concat}
 use Rattle.gf_text.specs.declared.written.Written.TheVariants as written
 use Rattle.gf_text.proofs.SetTokensLaws.{le_test, le_false}
@@ -72,13 +74,15 @@ added_push : (s : List ℤ) (xs : List (List ℤ)) (x : List ℤ) → added s (x
 added_push s [] x = refl
 added_push s (y ∷ xs) x = added_push (vector_sum s y) xs x
 
-none_push : (s : List ℤ) (xs : List (List ℤ)) (x : List ℤ) → NoneWide (adding_steps s xs) → NoneWide (sum_steps (added s xs) x) → NoneWide (adding_steps s (xs ++ x ∷ []))
+none_push : (s : List ℤ) (xs : List (List ℤ)) (x : List ℤ) → NoneWide (adding_steps s xs) → NoneWide (sum_steps (added s xs) x) →
+    NoneWide (adding_steps s (xs ++ x ∷ []))
 none_push s [] x f g = none_append (sum_steps s x) [] g tt
 none_push s (y ∷ xs) x f g =
     none_append (sum_steps s y) (adding_steps (vector_sum s y) (xs ++ x ∷ [])) (none_left (sum_steps s y) (adding_steps (vector_sum s y) xs) f)
     (none_push (vector_sum s y) xs x (none_right (sum_steps s y) (adding_steps (vector_sum s y) xs) f) g)
 
-first_push : (s : List ℤ) (xs : List (List ℤ)) (x : List ℤ) (e : WideVector) → NoneWide (adding_steps s xs) → IsFirstWide e (sum_steps (added s xs) x) → IsFirstWide e (adding_steps s (xs ++ x ∷ []))
+first_push : (s : List ℤ) (xs : List (List ℤ)) (x : List ℤ) (e : WideVector) → NoneWide (adding_steps s xs) → IsFirstWide e (sum_steps (added s xs) x) →
+    IsFirstWide e (adding_steps s (xs ++ x ∷ []))
 first_push s [] x e f g = first_before e (sum_steps s x) [] g
 first_push s (y ∷ xs) x e f g =
     first_after e (sum_steps s y) (adding_steps (vector_sum s y) (xs ++ x ∷ [])) (none_left (sum_steps s y) (adding_steps (vector_sum s y) xs) f)
@@ -120,10 +124,12 @@ pub record AreSummed (bs : List MarkedPolynomials) (s : Summary) : Type 0 where
 none_told : (s : Summary) → IsOfNoBasis s → AreSummed [] s
 none_told s h = record { bases = h.bases; degree = h.degree; weights = []; are_weights = tt; sum = none_summed s.weights h.weights; complete = h.complete }
 
-one_told : (bs : List MarkedPolynomials) (b : MarkedPolynomials) (old new : Summary) → b.variables ≡ 4 → AreSummed bs old → IsWithBasis old b new → AreSummed (bs ++ b ∷ []) new
+one_told : (bs : List MarkedPolynomials) (b : MarkedPolynomials) (old new : Summary) → b.variables ≡ 4 → AreSummed bs old → IsWithBasis old b new →
+    AreSummed (bs ++ b ∷ []) new
 one_told bs b old new v t h = record {
   bases = h.bases ∙ omega (arith, t.bases, length-append bs (b ∷ []));
-  degree = h.degree ∙ ap (λ k. max k (degree_of_set b)) t.degree ∙ sym (greatest-push (map degree_of_set bs) (degree_of_set b)) ∙ ap greatest (sym (map-append degree_of_set bs (b ∷ [])));
+  degree = h.degree ∙ ap (λ k. max k (degree_of_set b)) t.degree ∙ sym (greatest-push (map degree_of_set bs) (degree_of_set b)) ∙ ap greatest
+      (sym (map-append degree_of_set bs (b ∷ [])));
   weights = t.weights ++ h.weight ∷ [];
   are_weights = AllZip-append (λ b w. IsPrintedWeight b.variables b.items w) bs (b ∷ []) t.weights (h.weight ∷ []) t.are_weights (h.is_weight, tt);
   sum = sum_next t.weights old.weights h.weight t.sum new.weights (weight_long b.variables b.items h.weight h.is_weight ∙ v) h.weights h.fits;
@@ -146,7 +152,8 @@ pub record IsSummingUp (limit pairs : ℕ) (fs : List Terms) (row : Row) (s : Su
 
 module _ (limit pairs : ℕ) (fs : List Terms) where
   -- before the first basis
-  pub starts : (alloc : Global) (workers : ℕ) (root : MarkedPolynomials) (s : Summary) → StartsAt 4 fs root → IsOfNoBasis s → IsSummingUp limit pairs fs (first_row alloc root (all_positive 4) workers pairs) s
+  pub starts : (alloc : Global) (workers : ℕ) (root : MarkedPolynomials) (s : Summary) → StartsAt 4 fs root → IsOfNoBasis s →
+      IsSummingUp limit pairs fs (first_row alloc root (all_positive 4) workers pairs) s
   starts alloc workers root s begun h = record {
     summed = [];
     rest = finite.nodes;
@@ -171,16 +178,19 @@ module _ (limit pairs : ℕ) (fs : List Terms) where
   module _ (row : Row) (s : Summary) (way : IsSummingUp limit pairs fs row s) where
     -- the ideal of the row is that of fs
     same_fan : SameFan (ideal_in row) (ideal_by 4 fs)
-    same_fan = subst (λ (k : Region). SameFan (fan_of k row.start) (ideal_by 4 fs)) (sym way.region) (back_fan (ideal_by 4 fs) (fan_of (all_positive 4) row.start) (own_fan (ideal_by 4 fs) row.start way.basis))
+    same_fan = subst (λ (k : Region). SameFan (fan_of k row.start) (ideal_by 4 fs)) (sym way.region)
+        (back_fan (ideal_by 4 fs) (fan_of (all_positive 4) row.start) (own_fan (ideal_by 4 fs) row.start way.basis))
 
     -- the next basis is refused
-    pub refused_in_tree : (e : TreeError) → ((nodes : List MarkedPolynomials) → AreLeftIn row nodes → IsRefusedEarly (ideal_in row) row.pairs nodes e) → IsSummaryCause limit pairs fs (of_tree e)
+    pub refused_in_tree : (e : TreeError) → ((nodes : List MarkedPolynomials) → AreLeftIn row nodes → IsRefusedEarly (ideal_in row) row.pairs nodes e) →
+        IsSummaryCause limit pairs fs (of_tree e)
     refused_in_tree e h = IsSummaryCause.in_tree e (record {
       written = way.summed;
       rest = way.rest;
       are_all = way.are_all;
       few = way.few;
-      early = subst (λ p. IsRefusedEarly (ideal_by 4 fs) p way.rest e) way.budget (early_moved (ideal_in row) (ideal_by 4 fs) row.pairs way.rest e same_fan (h way.rest way.left));
+      early = subst (λ p. IsRefusedEarly (ideal_by 4 fs) p way.rest e) way.budget (early_moved (ideal_in row) (ideal_by 4 fs) row.pairs way.rest e same_fan
+          (h way.rest way.left));
     }) refl
 
     -- nothing is left: all bases are summed up
@@ -213,10 +223,12 @@ module _ (limit pairs : ℕ) (fs : List Terms) where
       step_variables = (node_moved (ideal_in row) (ideal_by 4 fs) b same_fan step.basis).variables
 
       -- there is one basis behind the limit
-      pub past_limit : (told : Summary) → s.bases ≡ limit → told.bases ≡ s.bases → told.degree ≡ s.degree → told.weights ≡ s.weights → told.complete ≡ false → IsSummary limit fs told
+      pub past_limit : (told : Summary) → s.bases ≡ limit → told.bases ≡ s.bases → told.degree ≡ s.degree → told.weights ≡ s.weights → told.complete ≡ false →
+          IsSummary limit fs told
       past_limit told full e d w c =
           let just : length way.summed ≡ limit = sym way.told.bases ∙ full in
-          let front : take limit (way.summed ++ b ∷ next.0) ≡ way.summed = take-append-le limit way.summed (b ∷ next.0) (omega (arith, just)) ∙ take_all limit way.summed way.few in
+          let front : take limit (way.summed ++ b ∷ next.0) ≡ way.summed =
+          take-append-le limit way.summed (b ∷ next.0) (omega (arith, just)) ∙ take_all limit way.summed way.few in
           record {
             list = way.summed ++ b ∷ next.0;
             are_all = all_next;
@@ -251,7 +263,8 @@ module _ (limit pairs : ℕ) (fs : List Terms) where
 
       -- its weight isn't told, or the sum isn't
       pub refused_at_basis : (r : Refusal) → s.bases ≢ limit → IsUnsummed s b r → IsSummaryCause limit pairs fs r ⊎ (r ≡ refusals.Memory)
-      refused_at_basis r room (IsUnsummed.at_weight e h q) = inl (IsSummaryCause.at_weight e (record { before = way.summed; basis = b; rest = next.0; are_all = all_next; few = short room; cause = h }) q)
+      refused_at_basis r room (IsUnsummed.at_weight e h q) =
+          inl (IsSummaryCause.at_weight e (record { before = way.summed; basis = b; rest = next.0; are_all = all_next; few = short room; cause = h }) q)
       refused_at_basis r room (IsUnsummed.at_sum w h (IsWideSum.no_memory q)) = inr q
       refused_at_basis r room (IsUnsummed.at_sum w h (IsWideSum.wide e f q)) = inl (IsSummaryCause.at_sum e (record {
         summed = way.summed ++ b ∷ [];
@@ -267,14 +280,16 @@ module _ (limit pairs : ℕ) (fs : List Terms) where
 
 pub unnamed_unsummed : (s : Summary) (b : MarkedPolynomials) (r : Refusal) → IsUnsummed s b r → IsUnnamed (without_names r)
 unnamed_unsummed s b r (IsUnsummed.at_weight e h q) = subst (λ z. IsUnnamed (without_names z)) (sym q) (unnamed_weight e)
-unnamed_unsummed s b r (IsUnsummed.at_sum w h (IsWideSum.no_memory q)) = subst (λ z. IsUnnamed (without_names z)) (sym q) (record { ring = refl; named = λ lent is. tt })
-unnamed_unsummed s b r (IsUnsummed.at_sum w h (IsWideSum.wide e f q)) = subst (λ z. IsUnnamed (without_names z)) (sym q) (record { ring = refl; named = λ lent is. tt })
+unnamed_unsummed s b r (IsUnsummed.at_sum w h (IsWideSum.no_memory q)) =
+    subst (λ z. IsUnnamed (without_names z)) (sym q) (record { ring = refl; named = λ lent is. tt })
+unnamed_unsummed s b r (IsUnsummed.at_sum w h (IsWideSum.wide e f q)) =
+    subst (λ z. IsUnnamed (without_names z)) (sym q) (record { ring = refl; named = λ lent is. tt })
 
 -- ---- the command
 
 -- four lines of a summary
-pub summary_answers : (number limit pairs : ℕ) (s : Summary) (text : List ℕ) → IsSummary limit (generated_set number) s → text ≡ summary_text s.bases s.degree s.weights s.complete →
-    IsAnswered (summary_command number limit pairs) [] text
+pub summary_answers : (number limit pairs : ℕ) (s : Summary) (text : List ℕ) → IsSummary limit (generated_set number) s →
+    text ≡ summary_text s.bases s.degree s.weights s.complete → IsAnswered (summary_command number limit pairs) [] text
 summary_answers number limit pairs s text h e = record {
   value = tt;
   read = tt;
@@ -290,11 +305,13 @@ summary_answers number limit pairs s text h e = record {
   };
 }
 
-pub summary_refuses : (number limit pairs : ℕ) (r : Refusal) → IsSummaryCause limit pairs (generated_set number) r ⊎ (r ≡ refusals.Memory) → IsRefusedOn (summary_command number limit pairs) [] r
+pub summary_refuses : (number limit pairs : ℕ) (r : Refusal) → IsSummaryCause limit pairs (generated_set number) r ⊎ (r ≡ refusals.Memory) →
+    IsRefusedOn (summary_command number limit pairs) [] r
 summary_refuses number limit pairs r (inl h) = IsRefusedOn.behind_text tt tt (IsUnanswered.in_work tt h)
 summary_refuses number limit pairs r (inr m) = IsRefusedOn.no_memory m
 
-pub root_refuses : (number limit pairs : ℕ) (r : Refusal) → IsRootRefusal 4 (generated_set number) pairs r → IsRefusedOn (summary_command number limit pairs) [] r
+pub root_refuses : (number limit pairs : ℕ) (r : Refusal) → IsRootRefusal 4 (generated_set number) pairs r →
+    IsRefusedOn (summary_command number limit pairs) [] r
 root_refuses number limit pairs r h = summary_refuses number limit pairs r (inl (IsSummaryCause.at_root h.0 h.1 h.2))
 
 -- ---- it is lawful
@@ -328,7 +345,8 @@ generated_exact number limit pairs = record {
 summary_lawful : (number limit pairs : ℕ) → IsLawful (summary_command number limit pairs)
 summary_lawful number limit pairs =
     let c = summary_command number limit pairs in
-    sound_lawful c (generated_exact number limit pairs) (untested c (λ v r t h. summary_untested limit pairs (generated_set number) r t h)) tt (λ t. t) (λ a m w. summary_not_listed limit pairs (generated_set number) m w)
+    sound_lawful c (generated_exact number limit pairs) (untested c (λ v r t h. summary_untested limit pairs (generated_set number) r t h)) tt (λ t. t)
+    (λ a m w. summary_not_listed limit pairs (generated_set number) m w)
 
 pub generated_lawful : (o : GeneratedOptions) → IsLawful (generated_command o)
 generated_lawful o = summary_lawful o.number o.limit o.pairs
@@ -341,14 +359,18 @@ weights_one [] [] (v ∷ vs) p q = absurd q
 weights_one [] (w ∷ ws) vs p q = absurd p
 weights_one (b ∷ bs) [] vs p q = absurd p
 weights_one (b ∷ bs) (w ∷ ws) [] p q = absurd q
-weights_one (b ∷ bs) (w ∷ ws) (v ∷ vs) p q = ap₂ (λ (x : List ℤ) (xs : List (List ℤ)). x ∷ xs) (one_weight b.variables (all_positive b.variables) b.items w v p.0 q.0) (weights_one bs ws vs p.1 q.1)
+weights_one (b ∷ bs) (w ∷ ws) (v ∷ vs) p q =
+    ap₂ (λ (x : List ℤ) (xs : List (List ℤ)). x ∷ xs) (one_weight b.variables (all_positive b.variables) b.items w v p.0 q.0) (weights_one bs ws vs p.1 q.1)
 
-summaries_one : (limit : ℕ) (fs : List Terms) (text same : List ℕ) → AreInVariables 4 fs → IsSummaryText limit fs text → IsSummaryText limit fs same → text ≡ same
+summaries_one : (limit : ℕ) (fs : List Terms) (text same : List ℕ) → AreInVariables 4 fs → IsSummaryText limit fs text → IsSummaryText limit fs same →
+    text ≡ same
 summaries_one limit fs text same v h k =
     let lists : h.list ≡ k.list = one_list 4 fs h.list k.list v h.are_all k.are_all in
-    let weights : h.weights ≡ k.weights = weights_one (take limit k.list) h.weights k.weights (subst (λ l. ArePrintedWeights (take limit l) h.weights) lists h.are_weights) k.are_weights in
+    let weights : h.weights ≡ k.weights =
+    weights_one (take limit k.list) h.weights k.weights (subst (λ l. ArePrintedWeights (take limit l) h.weights) lists h.are_weights) k.are_weights in
     h.is_text
-    ∙ ap₂ (λ (l : List MarkedPolynomials) (ws : List (List ℤ)). summary_text (min limit (length l)) (greatest (map degree_of_set (take limit l))) (added (zeros 4) ws) (nat_le (length l) limit)) lists weights
+    ∙ ap₂ (λ (l : List MarkedPolynomials) (ws : List (List ℤ)). summary_text (min limit (length l)) (greatest (map degree_of_set (take limit l)))
+    (added (zeros 4) ws) (nat_le (length l) limit)) lists weights
     ∙ sym k.is_text
 
 pub generated_ring : (k : ℕ) → HaveRingVariables 4 (generated_set k)

@@ -18,12 +18,14 @@ use Rattle.gf_items.proofs.CheckLaws.{first_apart}
 use Rattle.gf_frame.specs.Commands.{IsUnanswered}
 use Rattle.gfan_lists.specs.declared.bases.ListOptions.{ListOptions}
 use Rattle.gfan_common.specs.Forms.{generators_of}
-use Rattle.gfan_lists.specs.Within.{of_region, IsNoRegion, IsCauseWithin, IsGivenStartRefusal, IsGivenCauseWithin, IsToldUnlessUnfinished, bases_within_command, given_within_command, WideRootsAreTold}
+use Rattle.gfan_lists.specs.Within.{of_region, IsNoRegion, IsCauseWithin, IsGivenStartRefusal, IsGivenCauseWithin, IsToldUnlessUnfinished, bases_within_command}
+use Rattle.gfan_lists.specs.Within.{given_within_command, WideRootsAreTold}
 use Rattle.gfan_common.specs.ToolForms.{for_each}
 use Rattle.gfan_common.proofs.ToolFormLaws.{each_check}
 use Rattle.gfan_lists.proofs.WithinLaws.{rows_hold}
 
-module _ (n : ℕ) (rows : List (List ℤ)) (index : ℕ) (value : ℤ) (wide : AreRows n rows) (past : IsRegionRefusal n rows (region_errors.WideRoot index value)) where
+module _ (n : ℕ) (rows : List (List ℤ)) (index : ℕ) (value : ℤ) (wide : AreRows n rows)
+    (past : IsRegionRefusal n rows (region_errors.WideRoot index value)) where
   at_error : (e : RegionError) → IsRegionRefusal n rows e → IsToldUnlessUnfinished n rows (refusals.WideRoot index value) (of_region e)
   at_error (region_errors.Empty ms) h = absurd (regions_are_one.apart n rows ms index value wide h past)
   at_error (region_errors.WideRoot i x) h =
@@ -44,7 +46,8 @@ module _ (n : ℕ) (rows : List (List ℤ)) (index : ℕ) (value : ℤ) (wide : 
   in_list o fs r (IsCauseWithin.at_root k i h) = absurd (none_there k i)
   in_list o fs r (IsCauseWithin.going k i h) = absurd (none_there k i)
 
-  in_given : (o : ListOptions) (s : MarkedPolynomials) (r : Refusal) → IsGivenCauseWithin o n rows s r → IsToldUnlessUnfinished n rows (refusals.WideRoot index value) r
+  in_given : (o : ListOptions) (s : MarkedPolynomials) (r : Refusal) → IsGivenCauseWithin o n rows s r →
+      IsToldUnlessUnfinished n rows (refusals.WideRoot index value) r
   in_given o s r (IsGivenCauseWithin.at_start (IsGivenStartRefusal.at_region h)) = at_region r h
   in_given o s r (IsGivenCauseWithin.at_start (IsGivenStartRefusal.at_root k i h)) = absurd (none_there k i)
   in_given o s r (IsGivenCauseWithin.going k i g h) = absurd (none_there k i)
@@ -52,22 +55,28 @@ module _ (n : ℕ) (rows : List (List ℤ)) (index : ℕ) (value : ℤ) (wide : 
   formed : (r : Refusal) → FirstFails (for_each n rows) r → ⊥
   formed r f = first_apart (for_each n rows) (each_check n rows) r (rows_hold n rows wide) f
 
-unanswered_list : (name : List ℕ) (o : ListOptions) (v : List (List ℤ) × (List (List ℕ) × (List Written × Option (List ℤ)))) (index : ℕ) (value : ℤ) → AreRows (length v.1.0) v.0 →
-    IsRegionRefusal (length v.1.0) v.0 (region_errors.WideRoot index value) → (r : Refusal) → IsUnanswered (bases_within_command name o) v r →
-    IsToldUnlessUnfinished (length v.1.0) v.0 (refusals.WideRoot index value) r
+unanswered_list : (name : List ℕ) (o : ListOptions) (v : List (List ℤ) × (List (List ℕ) × (List Written × Option (List ℤ)))) (index : ℕ) (value : ℤ) →
+    AreRows (length v.1.0) v.0 → IsRegionRefusal (length v.1.0) v.0 (region_errors.WideRoot index value) → (r : Refusal) →
+    IsUnanswered (bases_within_command name o) v r → IsToldUnlessUnfinished (length v.1.0) v.0 (refusals.WideRoot index value) r
 unanswered_list name o v index value w h r (IsUnanswered.in_form f) = absurd (formed (length v.1.0) v.0 index value w h r f)
 unanswered_list name o v index value w h r (IsUnanswered.in_work a c) = in_list (length v.1.0) v.0 index value w h o (generators_of v.1.1.0) r c
 unanswered_list name o v index value w h r (IsUnanswered.no_memory m) = inr (inr m)
 
-unanswered_given : (name : List ℕ) (o : ListOptions) (v : List (List ℤ) × (List (List ℕ) × MarkedPolynomials)) (index : ℕ) (value : ℤ) → AreRows (length v.1.0) v.0 →
-    IsRegionRefusal (length v.1.0) v.0 (region_errors.WideRoot index value) → (r : Refusal) → IsUnanswered (given_within_command name o) v r →
-    IsToldUnlessUnfinished (length v.1.0) v.0 (refusals.WideRoot index value) r
+unanswered_given : (name : List ℕ) (o : ListOptions) (v : List (List ℤ) × (List (List ℕ) × MarkedPolynomials)) (index : ℕ) (value : ℤ) →
+    AreRows (length v.1.0) v.0 → IsRegionRefusal (length v.1.0) v.0 (region_errors.WideRoot index value) → (r : Refusal) →
+    IsUnanswered (given_within_command name o) v r → IsToldUnlessUnfinished (length v.1.0) v.0 (refusals.WideRoot index value) r
 unanswered_given name o v index value w h r (IsUnanswered.in_form f) = absurd (formed (length v.1.0) v.0 index value w h r f)
 unanswered_given name o v index value w h r (IsUnanswered.in_work a c) = in_given (length v.1.0) v.0 index value w h o v.1.1 r c
 unanswered_given name o v index value w h r (IsUnanswered.no_memory m) = inr (inr m)
 
 pub wide_roots : WideRootsAreTold
 wide_roots = record {
-  generators = λ name o v index value w h. (λ text a. none_there (length v.1.0) v.0 index value w h a.is_answer.region a.is_answer.is_region, λ r u. unanswered_list name o v index value w h r u);
-  basis = λ name o v index value w h. (λ text a. none_there (length v.1.0) v.0 index value w h a.is_answer.within.region a.is_answer.within.is_region, λ r u. unanswered_given name o v index value w h r u);
+  generators = λ name o v index value w h. (
+    λ text a. none_there (length v.1.0) v.0 index value w h a.is_answer.region a.is_answer.is_region,
+    λ r u. unanswered_list name o v index value w h r u,
+  );
+  basis = λ name o v index value w h. (
+    λ text a. none_there (length v.1.0) v.0 index value w h a.is_answer.within.region a.is_answer.within.is_region,
+    λ r u. unanswered_given name o v index value w h r u,
+  );
 }

@@ -48,7 +48,8 @@ use Rattle.gfan_lists.specs.BasesWriting.{StartsIn, IsListWrittenIn, IsListStopp
 use Rattle.gfan_lists.specs.GivenBasis.{IsReducedFrom}
 use Rattle.gfan_common.specs.Refused.{without_names, IsNamedBy, IsOfSource}
 use Rattle.gfan_common.specs.Performed.{IsPerformedFor, IsStoppedFor}
-use Rattle.gfan_lists.specs.Within.{of_region, IsNoRegion, IsRegionRootRefusal, IsCauseWithin, IsWithinRegion, IsGivenRegionRootRefusal, IsGivenStartRefusal, IsGivenCauseWithin, IsGivenWithinRegion, bases_within_command, given_within_command}
+use Rattle.gfan_lists.specs.Within.{of_region, IsNoRegion, IsRegionRootRefusal, IsCauseWithin, IsWithinRegion, IsGivenRegionRootRefusal, IsGivenStartRefusal}
+use Rattle.gfan_lists.specs.Within.{IsGivenCauseWithin, IsGivenWithinRegion, bases_within_command, given_within_command}
 use Rattle.gfan_lists.proofs.BasesListLaws.{given_node, start_moved}
 use Rattle.gfan_lists.proofs.StoppedLaws.{stopped_for}
 use Rattle.gfan_lists.proofs.GivenBasisLaws.{not_reduced, root_work, reducing_only, root_once, root_tested, root_no_limit, named_root}
@@ -71,8 +72,8 @@ region_work (region_errors.Wide w) = tt
 region_work region_errors.Memory = tt
 
 -- two refusals of one region are the same, or both say that it is empty, unless numbers don't fit
-regions_same : (n : ℕ) (rows : List (List ℤ)) (e f : RegionError) → AreRows n rows → IsOfTest (of_region e) → IsRegionRefusal n rows e → IsRegionRefusal n rows f →
-    TellsSame (of_region e) (of_region f) ⊎ IsOfNumbers (of_region f)
+regions_same : (n : ℕ) (rows : List (List ℤ)) (e f : RegionError) → AreRows n rows → IsOfTest (of_region e) → IsRegionRefusal n rows e →
+    IsRegionRefusal n rows f → TellsSame (of_region e) (of_region f) ⊎ IsOfNumbers (of_region f)
 regions_same n rows (region_errors.Empty ms) (region_errors.Empty ns) w t h k = inl tt
 regions_same n rows (region_errors.Empty ms) (region_errors.WideRoot i x) w t h k = absurd (regions_are_one.apart n rows ms i x w h k)
 regions_same n rows (region_errors.WideRoot i x) f w t h k = absurd t
@@ -113,19 +114,23 @@ within_work o n rows fs r (IsCauseWithin.at_region (w, (e, h, q))) = subst IsOfW
 within_work o n rows fs r (IsCauseWithin.at_root k i (e, h, q)) = subst IsOfWork (sym q) (basis_work e)
 within_work o n rows fs r (IsCauseWithin.going k i h) = going_work o n k fs r h
 
-within_only : (o : ListOptions) (n : ℕ) (rows : List (List ℤ)) (fs : List Terms) (r : Refusal) → IsWithinRegion o n rows fs → IsCauseWithin o n rows fs r → r ≡ refusals.Memory
+within_only : (o : ListOptions) (n : ℕ) (rows : List (List ℤ)) (fs : List Terms) (r : Refusal) → IsWithinRegion o n rows fs → IsCauseWithin o n rows fs r →
+    r ≡ refusals.Memory
 within_only o n rows fs r w (IsCauseWithin.at_region (v, (e, h, q))) = q ∙ ap of_region (w.region e h)
-within_only o n rows fs r w (IsCauseWithin.at_root k i (e, h, q)) = q ∙ ap of_basis (if_within {A = Unit {0}} (MonomialOrder.weighted (gains k.root)) n o.pairs fs (Err e) (w.root k i) h)
+within_only o n rows fs r w (IsCauseWithin.at_root k i (e, h, q)) =
+    q ∙ ap of_basis (if_within {A = Unit {0}} (MonomialOrder.weighted (gains k.root)) n o.pairs fs (Err e) (w.root k i) h)
 within_only o n rows fs r w (IsCauseWithin.going k i h) = going_within_in o n k fs r (w.going k i) h
 
-within_same : (o : ListOptions) (n : ℕ) (rows : List (List ℤ)) (fs : List Terms) (r d : Refusal) → IsOfTest r → IsCauseWithin o n rows fs r → IsCauseWithin o n rows fs d → TellsSame r d ⊎ IsOfNumbers d
+within_same : (o : ListOptions) (n : ℕ) (rows : List (List ℤ)) (fs : List Terms) (r d : Refusal) → IsOfTest r → IsCauseWithin o n rows fs r →
+    IsCauseWithin o n rows fs d → TellsSame r d ⊎ IsOfNumbers d
 within_same o n rows fs r d t (IsCauseWithin.at_region h) (IsCauseWithin.at_region k) = no_region_same n rows r d t h k
 within_same o n rows fs r d t (IsCauseWithin.at_region h) (IsCauseWithin.at_root k i f) = absurd (no_region_there n rows k r t h i)
 within_same o n rows fs r d t (IsCauseWithin.at_region h) (IsCauseWithin.going k i f) = absurd (no_region_there n rows k r t h i)
 within_same o n rows fs r d t (IsCauseWithin.at_root k i (e, h, q)) f = absurd (basis_untested e (subst IsOfTest q t))
 within_same o n rows fs r d t (IsCauseWithin.going k i h) f = absurd (going_untested_in o n k fs r t h)
 
-within_refuses : (o : ListOptions) (n : ℕ) (rows : List (List ℤ)) (fs : List Terms) (k : Region) (r : Refusal) → IsOfTest r → IsCauseWithin o n rows fs r → IsRegionOf n rows k → ⊥
+within_refuses : (o : ListOptions) (n : ℕ) (rows : List (List ℤ)) (fs : List Terms) (k : Region) (r : Refusal) → IsOfTest r → IsCauseWithin o n rows fs r →
+    IsRegionOf n rows k → ⊥
 within_refuses o n rows fs k r t (IsCauseWithin.at_region h) p = no_region_there n rows k r t h p
 within_refuses o n rows fs k r t (IsCauseWithin.at_root j i (e, h, q)) p = basis_untested e (subst IsOfTest q t)
 within_refuses o n rows fs k r t (IsCauseWithin.going j i h) p = going_untested_in o n j fs r t h
@@ -168,41 +173,52 @@ given_within_work : (o : ListOptions) (n : ℕ) (rows : List (List ℤ)) (s : Ma
 given_within_work o n rows s r (IsGivenCauseWithin.at_start h) = given_start_work n rows s o.pairs r h
 given_within_work o n rows s r (IsGivenCauseWithin.going k i g h) = going_work o n k (polys s.items) r h
 
-given_within_only : (o : ListOptions) (n : ℕ) (rows : List (List ℤ)) (s : MarkedPolynomials) (r : Refusal) → IsGivenWithinRegion o n rows s → IsGivenCauseWithin o n rows s r → r ≡ refusals.Memory
+given_within_only : (o : ListOptions) (n : ℕ) (rows : List (List ℤ)) (s : MarkedPolynomials) (r : Refusal) → IsGivenWithinRegion o n rows s →
+    IsGivenCauseWithin o n rows s r → r ≡ refusals.Memory
 given_within_only o n rows s r w (IsGivenCauseWithin.at_start (IsGivenStartRefusal.at_region (v, (e, h, q)))) = q ∙ ap of_region (w.region e h)
-given_within_only o n rows s r w (IsGivenCauseWithin.at_start (IsGivenStartRefusal.at_root k i (IsGivenRegionRootRefusal.at_basis h))) = reducing_only s r w.variables w.basis w.checks w.tails h
+given_within_only o n rows s r w (IsGivenCauseWithin.at_start (IsGivenStartRefusal.at_root k i (IsGivenRegionRootRefusal.at_basis h))) =
+    reducing_only s r w.variables w.basis w.checks w.tails h
 given_within_only o n rows s r w (IsGivenCauseWithin.at_start (IsGivenStartRefusal.at_root k i (IsGivenRegionRootRefusal.at_root u g f (e, h, q)))) =
     q ∙ ap of_basis (if_within {A = Unit {0}} (MonomialOrder.weighted (gains k.root)) s.variables o.pairs (polys u.items) (Err e) (w.root k u i f) h)
 given_within_only o n rows s r w (IsGivenCauseWithin.going k i g h) = going_within_in o n k (polys s.items) r (w.going k i) h
 
-pub given_root_same : (k j : Region) (s : MarkedPolynomials) (pairs : ℕ) (r d : Refusal) → HaveVariables s.variables s.items → IsOfTest r → IsGivenRegionRootRefusal k s pairs r → IsGivenRegionRootRefusal j s pairs d →
-    TellsSame r d ⊎ IsOfNumbers d
-given_root_same k j s pairs r d v t (IsGivenRegionRootRefusal.at_basis h) (IsGivenRegionRootRefusal.at_basis l) = root_once s pairs r d v t (not_reduced s pairs r h) (not_reduced s pairs d l)
+pub given_root_same : (k j : Region) (s : MarkedPolynomials) (pairs : ℕ) (r d : Refusal) → HaveVariables s.variables s.items → IsOfTest r →
+    IsGivenRegionRootRefusal k s pairs r → IsGivenRegionRootRefusal j s pairs d → TellsSame r d ⊎ IsOfNumbers d
+given_root_same k j s pairs r d v t (IsGivenRegionRootRefusal.at_basis h) (IsGivenRegionRootRefusal.at_basis l) =
+    root_once s pairs r d v t (not_reduced s pairs r h) (not_reduced s pairs d l)
 given_root_same k j s pairs r d v t h (IsGivenRegionRootRefusal.at_root u g f (e, l, q)) = inr (subst IsOfNumbers (sym q) (basis_numbers e))
 given_root_same k j s pairs r d v t (IsGivenRegionRootRefusal.at_root u g f (e, h, q)) l = absurd (basis_untested e (subst IsOfTest q t))
 
-pub given_root_refutes : (k : Region) (s : MarkedPolynomials) (pairs : ℕ) (r : Refusal) → HaveVariables s.variables s.items → IsOfTest r → IsGivenRegionRootRefusal k s pairs r → IsMarkedGroebnerBasis s.variables s.items → ⊥
+pub given_root_refutes : (k : Region) (s : MarkedPolynomials) (pairs : ℕ) (r : Refusal) → HaveVariables s.variables s.items → IsOfTest r →
+    IsGivenRegionRootRefusal k s pairs r → IsMarkedGroebnerBasis s.variables s.items → ⊥
 given_root_refutes k s pairs r v t (IsGivenRegionRootRefusal.at_basis h) g = root_tested s pairs r v t (not_reduced s pairs r h) g
 given_root_refutes k s pairs r v t (IsGivenRegionRootRefusal.at_root u m f (e, h, q)) g = basis_untested e (subst IsOfTest q t)
 
-given_within_same : (o : ListOptions) (n : ℕ) (rows : List (List ℤ)) (s : MarkedPolynomials) (r d : Refusal) → HaveVariables s.variables s.items → IsOfTest r → IsGivenCauseWithin o n rows s r →
-    IsGivenCauseWithin o n rows s d → TellsSame r d ⊎ IsOfNumbers d
-given_within_same o n rows s r d v t (IsGivenCauseWithin.at_start (IsGivenStartRefusal.at_region h)) (IsGivenCauseWithin.at_start (IsGivenStartRefusal.at_region l)) = no_region_same n rows r d t h l
-given_within_same o n rows s r d v t (IsGivenCauseWithin.at_start (IsGivenStartRefusal.at_region h)) (IsGivenCauseWithin.at_start (IsGivenStartRefusal.at_root k i l)) = absurd (no_region_there n rows k r t h i)
-given_within_same o n rows s r d v t (IsGivenCauseWithin.at_start (IsGivenStartRefusal.at_region h)) (IsGivenCauseWithin.going k i g l) = absurd (no_region_there n rows k r t h i)
-given_within_same o n rows s r d v t (IsGivenCauseWithin.at_start (IsGivenStartRefusal.at_root k i h)) (IsGivenCauseWithin.at_start (IsGivenStartRefusal.at_region (w, (e, l, q)))) = inr (subst IsOfNumbers (sym q) (region_numbers n rows k e i l))
-given_within_same o n rows s r d v t (IsGivenCauseWithin.at_start (IsGivenStartRefusal.at_root k i h)) (IsGivenCauseWithin.at_start (IsGivenStartRefusal.at_root j m l)) = given_root_same k j s o.pairs r d v t h l
-given_within_same o n rows s r d v t (IsGivenCauseWithin.at_start (IsGivenStartRefusal.at_root k i h)) (IsGivenCauseWithin.going j m g l) = absurd (given_root_refutes k s o.pairs r v t h g)
+given_within_same : (o : ListOptions) (n : ℕ) (rows : List (List ℤ)) (s : MarkedPolynomials) (r d : Refusal) → HaveVariables s.variables s.items → IsOfTest r →
+    IsGivenCauseWithin o n rows s r → IsGivenCauseWithin o n rows s d → TellsSame r d ⊎ IsOfNumbers d
+given_within_same o n rows s r d v t (IsGivenCauseWithin.at_start (IsGivenStartRefusal.at_region h))
+    (IsGivenCauseWithin.at_start (IsGivenStartRefusal.at_region l)) = no_region_same n rows r d t h l
+given_within_same o n rows s r d v t (IsGivenCauseWithin.at_start (IsGivenStartRefusal.at_region h))
+    (IsGivenCauseWithin.at_start (IsGivenStartRefusal.at_root k i l)) = absurd (no_region_there n rows k r t h i)
+given_within_same o n rows s r d v t (IsGivenCauseWithin.at_start (IsGivenStartRefusal.at_region h)) (IsGivenCauseWithin.going k i g l) =
+    absurd (no_region_there n rows k r t h i)
+given_within_same o n rows s r d v t (IsGivenCauseWithin.at_start (IsGivenStartRefusal.at_root k i h))
+    (IsGivenCauseWithin.at_start (IsGivenStartRefusal.at_region (w, (e, l, q)))) = inr (subst IsOfNumbers (sym q) (region_numbers n rows k e i l))
+given_within_same o n rows s r d v t (IsGivenCauseWithin.at_start (IsGivenStartRefusal.at_root k i h))
+    (IsGivenCauseWithin.at_start (IsGivenStartRefusal.at_root j m l)) = given_root_same k j s o.pairs r d v t h l
+given_within_same o n rows s r d v t (IsGivenCauseWithin.at_start (IsGivenStartRefusal.at_root k i h)) (IsGivenCauseWithin.going j m g l) =
+    absurd (given_root_refutes k s o.pairs r v t h g)
 given_within_same o n rows s r d v t (IsGivenCauseWithin.going k i g h) l = absurd (going_untested_in o n k (polys s.items) r t h)
 
-given_within_refuses : (o : ListOptions) (n : ℕ) (rows : List (List ℤ)) (s : MarkedPolynomials) (k : Region) (r : Refusal) → HaveVariables s.variables s.items → IsOfTest r → IsGivenCauseWithin o n rows s r →
-    IsRegionOf n rows k → IsMarkedGroebnerBasis s.variables s.items → ⊥
+given_within_refuses : (o : ListOptions) (n : ℕ) (rows : List (List ℤ)) (s : MarkedPolynomials) (k : Region) (r : Refusal) → HaveVariables s.variables s.items →
+    IsOfTest r → IsGivenCauseWithin o n rows s r → IsRegionOf n rows k → IsMarkedGroebnerBasis s.variables s.items → ⊥
 given_within_refuses o n rows s k r v t (IsGivenCauseWithin.at_start (IsGivenStartRefusal.at_region h)) p g = no_region_there n rows k r t h p
 given_within_refuses o n rows s k r v t (IsGivenCauseWithin.at_start (IsGivenStartRefusal.at_root j i h)) p g = given_root_refutes j s o.pairs r v t h g
 given_within_refuses o n rows s k r v t (IsGivenCauseWithin.going j i m h) p g = going_untested_in o n j (polys s.items) r t h
 
 -- the set behind a list of vectors has its variables
-more_kept : (texts : List (List ℕ)) (v : List (List ℤ) × (List (List ℕ) × MarkedPolynomials)) → (of_more vectors_alone (of_one ring_marked_set)).IsRead texts v → HaveVariables v.1.1.variables v.1.1.items
+more_kept : (texts : List (List ℕ)) (v : List (List ℤ) × (List (List ℕ) × MarkedPolynomials)) →
+    (of_more vectors_alone (of_one ring_marked_set)).IsRead texts v → HaveVariables v.1.1.variables v.1.1.items
 more_kept [] v h = absurd h
 more_kept (t ∷ ts) v h = of_one_text ring_marked_set _ ts v.1 h.1 (λ source r. marked_kept v.1.0 (from source r.read.behind) r.end v.1.1 r.read.two)
 
@@ -217,27 +233,36 @@ given_within_exact name o = record {
 pub given_within_tested : (name : List ℕ) (o : ListOptions) → IsTestedCommand (given_within_command name o)
 given_within_tested name o = record {
   tests = λ texts v r d read t h k. given_within_same o (length v.1.0) v.0 v.1.1 r d (more_kept texts v read) t h k;
-  answers = λ texts v r text read t h a. given_within_refuses o (length v.1.0) v.0 v.1.1 a.within.region r (more_kept texts v read) t h a.within.is_region a.basis;
-  wholes = λ texts v r text read t h a. given_within_refuses o (length v.1.0) v.0 v.1.1 a.within.region r (more_kept texts v read) t h a.within.is_region a.basis;
+  answers = λ texts v r text read t h a. given_within_refuses o (length v.1.0) v.0 v.1.1 a.within.region r (more_kept texts v read)
+      t h a.within.is_region a.basis;
+  wholes = λ texts v r text read t h a. given_within_refuses o (length v.1.0) v.0 v.1.1 a.within.region r (more_kept texts v read)
+      t h a.within.is_region a.basis;
 }
 
 -- ---- what is written
 
-module _ (name : List ℕ) (o : ListOptions) (rows : List (List ℤ)) (ring : List (List ℕ)) (set : List Written) (k : Region) (i : IsRegionOf (length ring) rows k) (held holds : Option (List ℕ)) where
-  pub within_performed : IsListWrittenIn o ring k (generators_of set) held holds → IsPerformedFor (bases_within_command name o) (rows, (ring, (set, None))) held holds
+module _ (name : List ℕ) (o : ListOptions) (rows : List (List ℤ)) (ring : List (List ℕ)) (set : List Written) (k : Region) (i : IsRegionOf (length ring) rows k)
+    (held holds : Option (List ℕ)) where
+  pub within_performed : IsListWrittenIn o ring k (generators_of set) held holds → IsPerformedFor (bases_within_command name o) (
+    rows,
+    (ring, (set, None)),
+  ) held holds
   within_performed p = (p.0, record { region = k; is_region = i; list = p.1 }, p.2)
 
-  pub within_stopped : (n m : ℕ) (r : Refusal) → IsListStoppedIn o ring k (generators_of set) held holds n m r → IsStoppedFor (bases_within_command name o) (rows, (ring, (set, None))) held holds n m r
+  pub within_stopped : (n m : ℕ) (r : Refusal) → IsListStoppedIn o ring k (generators_of set) held holds n m r →
+      IsStoppedFor (bases_within_command name o) (rows, (ring, (set, None))) held holds n m r
   within_stopped n m r h =
       stopped_for (bases_within_command name o) (rows, (ring, (set, None))) [] o ring k (generators_of set) held holds n m
       (λ text x. record { region = k; is_region = i; list = x }) (λ text d x. record { region = k; is_region = i; begun = x })
       (λ d x. IsCauseWithin.going k i x) r h
 
-module _ (name : List ℕ) (o : ListOptions) (rows : List (List ℤ)) (ring : List (List ℕ)) (s : MarkedPolynomials) (k : Region) (i : IsRegionOf (length ring) rows k) (g : IsMarkedGroebnerBasis s.variables s.items) (held holds : Option (List ℕ)) where
+module _ (name : List ℕ) (o : ListOptions) (rows : List (List ℤ)) (ring : List (List ℕ)) (s : MarkedPolynomials) (k : Region)
+    (i : IsRegionOf (length ring) rows k) (g : IsMarkedGroebnerBasis s.variables s.items) (held holds : Option (List ℕ)) where
   pub given_within_performed : IsListWrittenIn o ring k (polys s.items) held holds → IsPerformedFor (given_within_command name o) (rows, (ring, s)) held holds
   given_within_performed p = (p.0, record { basis = g; within = record { region = k; is_region = i; list = p.1 } }, p.2)
 
-  pub given_within_stopped : (n m : ℕ) (r : Refusal) → IsListStoppedIn o ring k (polys s.items) held holds n m r → IsStoppedFor (given_within_command name o) (rows, (ring, s)) held holds n m r
+  pub given_within_stopped : (n m : ℕ) (r : Refusal) → IsListStoppedIn o ring k (polys s.items) held holds n m r →
+      IsStoppedFor (given_within_command name o) (rows, (ring, s)) held holds n m r
   given_within_stopped n m r h =
       stopped_for (given_within_command name o) (rows, (ring, s)) [] o ring k (polys s.items) held holds n m
       (λ text x. record { basis = g; within = record { region = k; is_region = i; list = x } })
@@ -246,12 +271,15 @@ module _ (name : List ℕ) (o : ListOptions) (rows : List (List ℤ)) (ring : Li
 -- ---- refused before anything is written
 
 -- by a check of form, or by the work, but not at the limit of a list
-module _ (c : Command) (texts : List (List ℕ)) (a : c.Value) (read : c.reading.IsRead texts a) (held : Option (List ℕ)) (n : ℕ) (r : Refusal) (unlisted : (most : ℕ) → r ≡ refusals.ListLimit most → ⊥) where
+module _ (c : Command) (texts : List (List ℕ)) (a : c.Value) (read : c.reading.IsRead texts a) (held : Option (List ℕ)) (n : ℕ) (r : Refusal)
+    (unlisted : (most : ℕ) → r ≡ refusals.ListLimit most → ⊥) where
   pub stopped_in_form : FirstFails (c.checks a) r → IsStoppedOn c texts (output_seen held n) (output_seen held n) r
-  stopped_in_form f = IsStoppedOn.in_work (IsRefusedOn.behind_text a read (IsUnanswered.in_form f)) (nothing_but_limit c texts (output_seen held n) r unlisted) refl
+  stopped_in_form f = IsStoppedOn.in_work (IsRefusedOn.behind_text a read (IsUnanswered.in_form f)) (nothing_but_limit c texts (output_seen held n) r unlisted)
+      refl
 
   pub stopped_in_work : AllHold (c.checks a) → c.IsCause a r → IsStoppedOn c texts (output_seen held n) (output_seen held n) r
-  stopped_in_work g w = IsStoppedOn.in_work (IsRefusedOn.behind_text a read (IsUnanswered.in_work g w)) (nothing_but_limit c texts (output_seen held n) r unlisted) refl
+  stopped_in_work g w = IsStoppedOn.in_work (IsRefusedOn.behind_text a read (IsUnanswered.in_work g w))
+      (nothing_but_limit c texts (output_seen held n) r unlisted) refl
 
 pub form_unlisted : (n : ℕ) (rows : List (List ℤ)) (r : Refusal) → FirstFails (for_each n rows) r → (most : ℕ) → r ≡ refusals.ListLimit most → ⊥
 form_unlisted n rows r f most l = none rows (subst (FirstFails (for_each n rows)) l f)
@@ -264,14 +292,18 @@ form_unlisted n rows r f most l = none rows (subst (FirstFails (for_each n rows)
 pub region_unlisted : (n : ℕ) (rows : List (List ℤ)) (r : Refusal) → IsNoRegion n rows r → (most : ℕ) → r ≡ refusals.ListLimit most → ⊥
 region_unlisted n rows r (w, (e, h, q)) most l = region_not_listed e most (sym q ∙ l)
 
-pub root_unlisted : (n : ℕ) (k : Region) (fs : List Terms) (pairs : ℕ) (r : Refusal) → IsRegionRootRefusal n k fs pairs r → (most : ℕ) → r ≡ refusals.ListLimit most → ⊥
+pub root_unlisted : (n : ℕ) (k : Region) (fs : List Terms) (pairs : ℕ) (r : Refusal) → IsRegionRootRefusal n k fs pairs r → (most : ℕ) →
+    r ≡ refusals.ListLimit most → ⊥
 root_unlisted n k fs pairs r (e, h, q) most l = basis_not_listed e most (sym l ∙ q)
 
-pub start_unlisted : (n : ℕ) (rows : List (List ℤ)) (s : MarkedPolynomials) (pairs : ℕ) (r : Refusal) → FirstFails (for_each n rows) r ⊎ (AreRows n rows × IsGivenStartRefusal n rows s pairs r) → (most : ℕ) → r ≡ refusals.ListLimit most → ⊥
+pub start_unlisted : (n : ℕ) (rows : List (List ℤ)) (s : MarkedPolynomials) (pairs : ℕ) (r : Refusal) →
+    FirstFails (for_each n rows) r ⊎ (AreRows n rows × IsGivenStartRefusal n rows s pairs r) → (most : ℕ) → r ≡ refusals.ListLimit most → ⊥
 start_unlisted n rows s pairs r (inl f) most l = form_unlisted n rows r f most l
 start_unlisted n rows s pairs r (inr (w, IsGivenStartRefusal.at_region h)) most l = region_unlisted n rows r h most l
-start_unlisted n rows s pairs r (inr (w, IsGivenStartRefusal.at_root k i (IsGivenRegionRootRefusal.at_basis h))) most l = root_no_limit s pairs r (not_reduced s pairs r h) most l
-start_unlisted n rows s pairs r (inr (w, IsGivenStartRefusal.at_root k i (IsGivenRegionRootRefusal.at_root u g f h))) most l = root_unlisted s.variables k (polys u.items) pairs r h most l
+start_unlisted n rows s pairs r (inr (w, IsGivenStartRefusal.at_root k i (IsGivenRegionRootRefusal.at_basis h))) most l =
+    root_no_limit s pairs r (not_reduced s pairs r h) most l
+start_unlisted n rows s pairs r (inr (w, IsGivenStartRefusal.at_root k i (IsGivenRegionRootRefusal.at_root u g f h))) most l =
+    root_unlisted s.variables k (polys u.items) pairs r h most l
 
 -- ---- the line of a refusal
 
@@ -295,26 +327,32 @@ rows_named names n (w ∷ ws) r (inl h) = length_named names n w r h
 rows_named names n (w ∷ ws) r (inr (k, h)) = rows_named names n ws r h
 
 -- it is told without a ring
-pub region_told : (source : List ℕ) (n : ℕ) (rows : List (List ℤ)) (r : Refusal) → FirstFails (for_each n rows) r ⊎ IsNoRegion n rows r → IsOfSource source (without_names r)
+pub region_told : (source : List ℕ) (n : ℕ) (rows : List (List ℤ)) (r : Refusal) → FirstFails (for_each n rows) r ⊎ IsNoRegion n rows r →
+    IsOfSource source (without_names r)
 region_told source n rows r (inl f) = of_source source r (rows_named None n rows r f)
 region_told source n rows r (inr h) = of_source source r (no_region_named None n rows r h)
 
 -- and with the ring of the source
-pub named_start : (source : List ℕ) (ring : List (List ℕ)) (rows : List (List ℤ)) (s : MarkedPolynomials) (pairs : ℕ) (r : Refusal) → IsTextOf ring_marked_set source (ring, s) →
-    FirstFails (for_each (length ring) rows) r ⊎ (AreRows (length ring) rows × IsGivenStartRefusal (length ring) rows s pairs r) → IsNamedBy (Some ring) r
+pub named_start : (source : List ℕ) (ring : List (List ℕ)) (rows : List (List ℤ)) (s : MarkedPolynomials) (pairs : ℕ) (r : Refusal) →
+    IsTextOf ring_marked_set source (ring, s) → FirstFails (for_each (length ring) rows) r ⊎ (AreRows (length ring) rows × IsGivenStartRefusal (length ring)
+    rows s pairs r) → IsNamedBy (Some ring) r
 named_start source ring rows s pairs r read (inl f) = rows_named (Some ring) (length ring) rows r f
 named_start source ring rows s pairs r read (inr (w, IsGivenStartRefusal.at_region h)) = no_region_named (Some ring) (length ring) rows r h
-named_start source ring rows s pairs r read (inr (w, IsGivenStartRefusal.at_root k i (IsGivenRegionRootRefusal.at_basis h))) = named_root source ring s pairs r read (not_reduced s pairs r h)
-named_start source ring rows s pairs r read (inr (w, IsGivenStartRefusal.at_root k i (IsGivenRegionRootRefusal.at_root u g f (e, h, q)))) = subst (IsNamedBy (Some ring)) (sym q) (basis_named_by (Some ring) e)
+named_start source ring rows s pairs r read (inr (w, IsGivenStartRefusal.at_root k i (IsGivenRegionRootRefusal.at_basis h))) =
+    named_root source ring s pairs r read (not_reduced s pairs r h)
+named_start source ring rows s pairs r read (inr (w, IsGivenStartRefusal.at_root k i (IsGivenRegionRootRefusal.at_root u g f (e, h, q)))) =
+    subst (IsNamedBy (Some ring)) (sym q) (basis_named_by (Some ring) e)
 
 -- ---- the first basis
 
 -- the basis that is worked out of the generators
-pub root_in_starts : (n : ℕ) (k : Region) (fs : List Terms) (root : MarkedPolynomials) → IsNodeIn (ideal_within n fs k) root → IsArrangedBasis (MonomialOrder.weighted (gains k.root)) n fs root → StartsIn n k fs root
+pub root_in_starts : (n : ℕ) (k : Region) (fs : List Terms) (root : MarkedPolynomials) → IsNodeIn (ideal_within n fs k) root →
+    IsArrangedBasis (MonomialOrder.weighted (gains k.root)) n fs root → StartsIn n k fs root
 root_in_starts n k fs root h b = record { node = h; by_root = b.reduced }
 
 -- that of a reduced basis's polynomials is that of the ideal of the set
-pub given_region_starts : (k : Region) (s u root : MarkedPolynomials) → HaveVariables s.variables s.items → IsReducedFrom s u → StartsIn s.variables k (polys u.items) root → StartsIn s.variables k (polys s.items) root
+pub given_region_starts : (k : Region) (s u root : MarkedPolynomials) → HaveVariables s.variables s.items → IsReducedFrom s u →
+    StartsIn s.variables k (polys u.items) root → StartsIn s.variables k (polys s.items) root
 given_region_starts k s u root v f h =
     let n = s.variables in
     let inside : AreInVariables n (polys s.items) = polys_variables n s.items v in
@@ -328,13 +366,16 @@ given_region_starts k s u root v f h =
 pub rows_hold : (n : ℕ) (rows : List (List ℤ)) → AreRows n rows → AllHold (for_each n rows)
 rows_hold n rows w = each_joined n [] rows (All-nil _) w
 
-module _ (name : List ℕ) (o : ListOptions) (file source : List ℕ) (rows : List (List ℤ)) (ring : List (List ℕ)) (set : List Written) (rf : IsTextOf vectors_alone file rows) (rs : IsTextOf (ring_set_vector false) source (ring, (set, None))) where
+module _ (name : List ℕ) (o : ListOptions) (file source : List ℕ) (rows : List (List ℤ)) (ring : List (List ℕ)) (set : List Written)
+    (rf : IsTextOf vectors_alone file rows) (rs : IsTextOf (ring_set_vector false) source (ring, (set, None))) where
   -- there is no region
   pub no_region_stopped : (held : Option (List ℕ)) (n : ℕ) (r : Refusal) → FirstFails (for_each (length ring) rows) r ⊎ IsNoRegion (length ring) rows r →
       IsStoppedOn (bases_within_command name o) (file ∷ (source ∷ [])) (output_seen held n) (output_seen held n) r
-  no_region_stopped held n r (inl f) = stopped_in_form (bases_within_command name o) (file ∷ (source ∷ [])) (rows, (ring, (set, None))) (rf, rs) held n r (form_unlisted (length ring) rows r f) f
+  no_region_stopped held n r (inl f) = stopped_in_form (bases_within_command name o) (file ∷ (source ∷ [])) (rows, (ring, (set, None))) (rf, rs) held n r
+      (form_unlisted (length ring) rows r f) f
   no_region_stopped held n r (inr h) =
-      stopped_in_work (bases_within_command name o) (file ∷ (source ∷ [])) (rows, (ring, (set, None))) (rf, rs) held n r (region_unlisted (length ring) rows r h) (rows_hold (length ring) rows h.0) (IsCauseWithin.at_region h)
+      stopped_in_work (bases_within_command name o) (file ∷ (source ∷ [])) (rows, (ring, (set, None))) (rf, rs) held n r
+      (region_unlisted (length ring) rows r h) (rows_hold (length ring) rows h.0) (IsCauseWithin.at_region h)
 
   module _ (k : Region) (i : IsRegionOf (length ring) rows k) where
     held_rows : AllHold (for_each (length ring) rows)
@@ -344,36 +385,46 @@ module _ (name : List ℕ) (o : ListOptions) (file source : List ℕ) (rows : Li
     pub no_root_stopped : (held : Option (List ℕ)) (n : ℕ) (r : Refusal) → IsRegionRootRefusal (length ring) k (generators_of set) o.pairs r →
         IsStoppedOn (bases_within_command name o) (file ∷ (source ∷ [])) (output_seen held n) (output_seen held n) r
     no_root_stopped held n r h =
-        stopped_in_work (bases_within_command name o) (file ∷ (source ∷ [])) (rows, (ring, (set, None))) (rf, rs) held n r (root_unlisted (length ring) k (generators_of set) o.pairs r h) held_rows (IsCauseWithin.at_root k i h)
+        stopped_in_work (bases_within_command name o) (file ∷ (source ∷ [])) (rows, (ring, (set, None))) (rf, rs) held n r
+        (root_unlisted (length ring) k (generators_of set) o.pairs r h) held_rows (IsCauseWithin.at_root k i h)
 
     -- the list is written, or stopped
-    pub within_done : (held holds : Option (List ℕ)) (n m : ℕ) → IsListWrittenIn o ring k (generators_of set) held holds → m ≡ n → IsDoneOn (bases_within_command name o) (file ∷ (source ∷ [])) (output_seen held n) (output_seen holds m)
+    pub within_done : (held holds : Option (List ℕ)) (n m : ℕ) → IsListWrittenIn o ring k (generators_of set) held holds → m ≡ n →
+        IsDoneOn (bases_within_command name o) (file ∷ (source ∷ [])) (output_seen held n) (output_seen holds m)
     within_done held holds n m h calm =
-        performed_on (bases_within_command name o) (file ∷ (source ∷ [])) (rows, (ring, (set, None))) (rf, rs) held_rows held holds n m (λ t. t) (within_performed name o rows ring set k i held holds h) calm
+        performed_on (bases_within_command name o) (file ∷ (source ∷ [])) (rows, (ring, (set, None))) (rf, rs) held_rows held holds n m (λ t. t)
+        (within_performed name o rows ring set k i held holds h) calm
 
-    pub within_cut : (held holds : Option (List ℕ)) (n m : ℕ) (r : Refusal) → IsListStoppedIn o ring k (generators_of set) held holds n m r → ((r ≡ refusals.WriteFault → ⊥) → m ≡ n) →
-        IsStoppedOn (bases_within_command name o) (file ∷ (source ∷ [])) (output_seen held n) (output_seen holds m) r
+    pub within_cut : (held holds : Option (List ℕ)) (n m : ℕ) (r : Refusal) → IsListStoppedIn o ring k (generators_of set) held holds n m r →
+        ((r ≡ refusals.WriteFault → ⊥) → m ≡ n) → IsStoppedOn (bases_within_command name o) (file ∷ (source ∷ [])) (output_seen held n) (output_seen holds m) r
     within_cut held holds n m r h calm =
-        stopped_on (bases_within_command name o) (file ∷ (source ∷ [])) (rows, (ring, (set, None))) (rf, rs) held_rows held holds n m r (within_stopped name o rows ring set k i held holds n m r h) calm
+        stopped_on (bases_within_command name o) (file ∷ (source ∷ [])) (rows, (ring, (set, None))) (rf, rs) held_rows held holds n m r
+        (within_stopped name o rows ring set k i held holds n m r h) calm
 
-module _ (name : List ℕ) (o : ListOptions) (file source : List ℕ) (rows : List (List ℤ)) (ring : List (List ℕ)) (s : MarkedPolynomials) (rf : IsTextOf vectors_alone file rows) (rs : IsTextOf ring_marked_set source (ring, s)) where
+module _ (name : List ℕ) (o : ListOptions) (file source : List ℕ) (rows : List (List ℤ)) (ring : List (List ℕ)) (s : MarkedPolynomials)
+    (rf : IsTextOf vectors_alone file rows) (rs : IsTextOf ring_marked_set source (ring, s)) where
   -- the region or the root in it is refused
   pub no_start_stopped : (held : Option (List ℕ)) (n : ℕ) (r : Refusal) → ((most : ℕ) → r ≡ refusals.ListLimit most → ⊥) →
       FirstFails (for_each (length ring) rows) r ⊎ (AreRows (length ring) rows × IsGivenStartRefusal (length ring) rows s o.pairs r) →
       IsStoppedOn (given_within_command name o) (file ∷ (source ∷ [])) (output_seen held n) (output_seen held n) r
-  no_start_stopped held n r unlisted (inl f) = stopped_in_form (given_within_command name o) (file ∷ (source ∷ [])) (rows, (ring, s)) (rf, rs) held n r unlisted f
+  no_start_stopped held n r unlisted (inl f) = stopped_in_form (given_within_command name o) (file ∷ (source ∷ [])) (rows, (ring, s)) (rf, rs) held n r unlisted
+      f
   no_start_stopped held n r unlisted (inr h) =
-      stopped_in_work (given_within_command name o) (file ∷ (source ∷ [])) (rows, (ring, s)) (rf, rs) held n r unlisted (rows_hold (length ring) rows h.0) (IsGivenCauseWithin.at_start h.1)
+      stopped_in_work (given_within_command name o) (file ∷ (source ∷ [])) (rows, (ring, s)) (rf, rs) held n r unlisted (rows_hold (length ring) rows h.0)
+      (IsGivenCauseWithin.at_start h.1)
 
   module _ (k : Region) (i : IsRegionOf (length ring) rows k) (g : IsMarkedGroebnerBasis s.variables s.items) where
     rows_held : AllHold (for_each (length ring) rows)
     rows_held = rows_hold (length ring) rows (subst (AreRows (length ring)) i.same i.region.widths)
 
-    pub given_within_done : (held holds : Option (List ℕ)) (n m : ℕ) → IsListWrittenIn o ring k (polys s.items) held holds → m ≡ n → IsDoneOn (given_within_command name o) (file ∷ (source ∷ [])) (output_seen held n) (output_seen holds m)
+    pub given_within_done : (held holds : Option (List ℕ)) (n m : ℕ) → IsListWrittenIn o ring k (polys s.items) held holds → m ≡ n →
+        IsDoneOn (given_within_command name o) (file ∷ (source ∷ [])) (output_seen held n) (output_seen holds m)
     given_within_done held holds n m h calm =
-        performed_on (given_within_command name o) (file ∷ (source ∷ [])) (rows, (ring, s)) (rf, rs) rows_held held holds n m (λ t. t) (given_within_performed name o rows ring s k i g held holds h) calm
+        performed_on (given_within_command name o) (file ∷ (source ∷ [])) (rows, (ring, s)) (rf, rs) rows_held held holds n m (λ t. t)
+        (given_within_performed name o rows ring s k i g held holds h) calm
 
-    pub given_within_cut : (held holds : Option (List ℕ)) (n m : ℕ) (r : Refusal) → IsListStoppedIn o ring k (polys s.items) held holds n m r → ((r ≡ refusals.WriteFault → ⊥) → m ≡ n) →
-        IsStoppedOn (given_within_command name o) (file ∷ (source ∷ [])) (output_seen held n) (output_seen holds m) r
+    pub given_within_cut : (held holds : Option (List ℕ)) (n m : ℕ) (r : Refusal) → IsListStoppedIn o ring k (polys s.items) held holds n m r →
+        ((r ≡ refusals.WriteFault → ⊥) → m ≡ n) → IsStoppedOn (given_within_command name o) (file ∷ (source ∷ [])) (output_seen held n) (output_seen holds m) r
     given_within_cut held holds n m r h calm =
-        stopped_on (given_within_command name o) (file ∷ (source ∷ [])) (rows, (ring, s)) (rf, rs) rows_held held holds n m r (given_within_stopped name o rows ring s k i g held holds n m r h) calm
+        stopped_on (given_within_command name o) (file ∷ (source ∷ [])) (rows, (ring, s)) (rf, rs) rows_held held holds n m r
+        (given_within_stopped name o rows ring s k i g held holds n m r h) calm

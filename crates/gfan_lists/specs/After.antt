@@ -32,7 +32,8 @@ use Rattle.gfan_common.specs.Forms.{generators_of}
 use Rattle.gfan_common.specs.CheckedSets.{of_check, IsSomeReductionRefusal}
 use Rattle.gfan_common.specs.ToolForms.{for_each}
 use Rattle.gfan_lists.specs.BasesList.{AreAllBasesIn}
-use Rattle.gfan_lists.specs.Bases.{IsWithinLimit, IsTextBehind, IsFullTextBehind, IsBegunWhereBehind, IsGoingCauseBehind, IsPastLimitBehind, AreCertifiedWithinIn}
+use Rattle.gfan_lists.specs.Bases.{IsWithinLimit, IsTextBehind, IsFullTextBehind, IsBegunWhereBehind, IsGoingCauseBehind, IsPastLimitBehind}
+use Rattle.gfan_lists.specs.Bases.{AreCertifiedWithinIn}
 use Rattle.gfan_common.specs.Causes.{of_tree}
 use Rattle.gfan_lists.specs.BasesWriting.{StartsIn, IsRootRefusal}
 use Rattle.gfan_lists.specs.GivenBasis.{IsGivenRootRefusal}
@@ -82,7 +83,8 @@ pub record IsFirstOutside (by : MarkedPolynomials) (fs : List Terms) (i : ℕ) (
 -- some polynomial has a nonzero normal form by this set, and r has the first one, with the number of the side; or an operation of a
 -- reduction leaves its range, or memory runs out
 abbrev pub IsSomeOutside : ℕ → MarkedPolynomials → List Terms → Refusal → Type 0
-IsSomeOutside side by fs r = ((i : ℕ) × (f : Terms) × IsFirstOutside by fs i f × (r ≡ refusals.NotListed side i f)) ⊎ ((d : PolyError) × IsSomeReductionRefusal by.items fs d × (r ≡ of_check (of_poly d)))
+IsSomeOutside side by fs r = ((i : ℕ) × (f : Terms) × IsFirstOutside by fs i f × (r ≡ refusals.NotListed side i f)) ⊎
+    ((d : PolyError) × IsSomeReductionRefusal by.items fs d × (r ≡ of_check (of_poly d)))
 
 -- each polynomial of s has the normal form zero by the root, and each generator has it by the basis of s
 pub record IsListedBy (fs : List Terms) (s root b : MarkedPolynomials) : Type 0 where
@@ -165,7 +167,8 @@ IsCutFileRefused (Some file) r = (e : TextError) × IsTextRefused vectors_alone 
 -- why the list isn't started: a vector has another length, or there is no region, or there is one and the names differ; or memory runs out
 abbrev pub IsUnbegun : Bool → ℕ → List (List ℤ) → List (List ℕ) → List (List ℕ) → Refusal → Type 0
 IsUnbegun is_cut n rows found names r =
-    ((is_cut ≡ true) × (FirstFails (for_each n rows) r ⊎ IsNoRegion n rows r)) ⊎ (((k : Region) × IsRegionCut is_cut n rows k × IsOtherRing found names r) ⊎ (r ≡ refusals.Memory))
+    ((is_cut ≡ true) × (FirstFails (for_each n rows) r ⊎ IsNoRegion n rows r)) ⊎ (((k : Region) × IsRegionCut is_cut n rows k × IsOtherRing found names r) ⊎
+    (r ≡ refusals.Memory))
 
 -- ---- the output
 
@@ -185,7 +188,8 @@ pub record IsFullAfter (o : ListOptions) (k : Region) (ring : List (List ℕ)) (
 
 -- the text may have been written of what follows the basis of s when the list is refused with r. So nothing is written if the basis of s
 -- isn't in the list
-pub record IsBegunAfter (o : ListOptions) (k : Region) (ring : List (List ℕ)) (fs : List Terms) (s : MarkedPolynomials) (text : List ℕ) (r : Refusal) : Type 0 where
+pub record IsBegunAfter (o : ListOptions) (k : Region) (ring : List (List ℕ)) (fs : List Terms) (s : MarkedPolynomials) (text : List ℕ) (r : Refusal) :
+    Type 0 where
   pub basis : MarkedPolynomials
   pub taken : IsBasisTaken k s basis
   pub front : List MarkedPolynomials
@@ -198,10 +202,12 @@ pub record IsBegunAfter (o : ListOptions) (k : Region) (ring : List (List ℕ)) 
 pub data IsStartRefused (from_basis is_cut : Bool) (pairs : ℕ) (k : Region) (v : Given from_basis) (s : MarkedPolynomials) (r : Refusal) : Type 0 where
   at_basis : (e : CheckError) → IsReducedRefusalBeside k.rows 0 s e → r ≡ of_check e → IsStartRefused from_basis is_cut pairs k v s r
   at_root : (b : MarkedPolynomials) → IsBasisTaken k s b → IsUnrooted from_basis is_cut v k pairs r → IsStartRefused from_basis is_cut pairs k v s r
-  unlisted : (b root : MarkedPolynomials) → IsBasisTaken k s b → IsBasisGiven from_basis v → StartsIn (length (names_given from_basis v)) k (generators_given from_basis v) root →
-      IsUnlisted (generators_given from_basis v) s root b r → IsStartRefused from_basis is_cut pairs k v s r
-  on_the_way : (b root : MarkedPolynomials) (e : TreeError) → IsBasisTaken k s b → IsBasisGiven from_basis v → StartsIn (length (names_given from_basis v)) k (generators_given from_basis v) root →
-      IsListedBy (generators_given from_basis v) s root b → IsTreeRefusal (ideal_within (length (names_given from_basis v)) (generators_given from_basis v) k) pairs e → r ≡ of_tree e →
+  unlisted : (b root : MarkedPolynomials) → IsBasisTaken k s b → IsBasisGiven from_basis v →
+      StartsIn (length (names_given from_basis v)) k (generators_given from_basis v) root → IsUnlisted (generators_given from_basis v) s root b r →
+      IsStartRefused from_basis is_cut pairs k v s r
+  on_the_way : (b root : MarkedPolynomials) (e : TreeError) → IsBasisTaken k s b → IsBasisGiven from_basis v →
+      StartsIn (length (names_given from_basis v)) k (generators_given from_basis v) root → IsListedBy (generators_given from_basis v) s root b →
+      IsTreeRefusal (ideal_within (length (names_given from_basis v)) (generators_given from_basis v) k) pairs e → r ≡ of_tree e →
       IsStartRefused from_basis is_cut pairs k v s r
 
 -- the list isn't started; or it is refused after the basis
@@ -212,10 +218,13 @@ pub data IsCauseAfter (from_basis is_cut : Bool) (o : ListOptions) (k : Region) 
 
 -- there is no region; or there is one and the names of the rings differ, if they are checked after the region; or the list is refused in
 -- the region
-pub data IsRefusedAfter (from_basis is_cut : Bool) (o : ListOptions) (rows : List (List ℤ)) (found : List (List ℕ)) (v : Given from_basis) (s : MarkedPolynomials) (r : Refusal) : Type 0 where
+pub data IsRefusedAfter (from_basis is_cut : Bool) (o : ListOptions) (rows : List (List ℤ)) (found : List (List ℕ)) (v : Given from_basis)
+    (s : MarkedPolynomials) (r : Refusal) : Type 0 where
   at_region : is_cut ≡ true → IsNoRegion (length (names_given from_basis v)) rows r → IsRefusedAfter from_basis is_cut o rows found v s r
-  at_ring : (k : Region) → is_cut ≡ true → IsRegionOf (length (names_given from_basis v)) rows k → IsOtherRing found (names_given from_basis v) r → IsRefusedAfter from_basis is_cut o rows found v s r
-  behind : (k : Region) → IsRegionCut is_cut (length (names_given from_basis v)) rows k → found ≡ names_given from_basis v → IsCauseAfter from_basis is_cut o k v s r → IsRefusedAfter from_basis is_cut o rows found v s r
+  at_ring : (k : Region) → is_cut ≡ true → IsRegionOf (length (names_given from_basis v)) rows k → IsOtherRing found (names_given from_basis v) r →
+      IsRefusedAfter from_basis is_cut o rows found v s r
+  behind : (k : Region) → IsRegionCut is_cut (length (names_given from_basis v)) rows k → found ≡ names_given from_basis v →
+      IsCauseAfter from_basis is_cut o k v s r → IsRefusedAfter from_basis is_cut o rows found v s r
 
 -- ---- within limits
 
@@ -228,8 +237,9 @@ pub record IsStartWithin (from_basis is_cut : Bool) (pairs : ℕ) (k : Region) (
   pub reduced : AreReduced s.items
   pub checks : AreChecksWithinLimitsBeside k.rows s
   pub root : (r : Refusal) → IsUnrooted from_basis is_cut v k pairs r → r ≡ refusals.Memory
-  pub listed : (b root : MarkedPolynomials) (r : Refusal) → IsBasisTaken k s b → StartsIn (length (names_given from_basis v)) k (generators_given from_basis v) root →
-      IsUnlisted (generators_given from_basis v) s root b r → r ≡ refusals.Memory
+  pub listed : (b root : MarkedPolynomials) (r : Refusal) → IsBasisTaken k s b →
+      StartsIn (length (names_given from_basis v)) k (generators_given from_basis v) root → IsUnlisted (generators_given from_basis v) s root b r →
+      r ≡ refusals.Memory
   pub tree : IsTreeWithinLimits (ideal_within (length (names_given from_basis v)) (generators_given from_basis v) k) pairs
 
 -- in addition no operation of the certificates of a basis of the ideal leaves its limits, if there are certificates, and no more bases than
@@ -249,12 +259,13 @@ pub record IsAfterPast (from_basis is_cut : Bool) (o : ListOptions) (k : Region)
   pub taken : IsBasisTaken k s last
   pub front : List MarkedPolynomials
   pub past : IsPastLimitBehind (front ++ last ∷ []) o.limit (length (names_given from_basis v)) k (generators_given from_basis v) most
-  pub certificates : (written rest : List MarkedPolynomials) (b : MarkedPolynomials) → past.list ≡ written ++ b ∷ rest → length written < most → o.certified ≡ true →
-      AreCertificatesFittingIn b.variables k b.items
+  pub certificates : (written rest : List MarkedPolynomials) (b : MarkedPolynomials) → past.list ≡ written ++ b ∷ rest → length written < most →
+      o.certified ≡ true → AreCertificatesFittingIn b.variables k b.items
 
 -- no operation of finding the region leaves its limits, the names are equal, and the list is within its limits in each region that the
 -- vectors cut out
-pub record IsWithinAfter (from_basis is_cut : Bool) (o : ListOptions) (rows : List (List ℤ)) (found : List (List ℕ)) (v : Given from_basis) (s : MarkedPolynomials) : Type 0 where
+pub record IsWithinAfter (from_basis is_cut : Bool) (o : ListOptions) (rows : List (List ℤ)) (found : List (List ℕ)) (v : Given from_basis)
+    (s : MarkedPolynomials) : Type 0 where
   pub region : is_cut ≡ true → IsRegionWithinLimits (length (names_given from_basis v)) rows
   pub names : found ≡ names_given from_basis v
   pub after : (k : Region) → IsRegionCut is_cut (length (names_given from_basis v)) rows k → IsAfterWithin from_basis is_cut o k v s
@@ -305,7 +316,8 @@ after_command from_basis is_cut sources o = record {
 -- bases than the limit follow the basis
 abbrev pub AreTextsPastAfter : (from_basis is_cut : Bool) → ListOptions → List (List ℕ) → ℕ → Type 0
 AreTextsPastAfter from_basis is_cut o texts most =
-    (v : AfterValue from_basis) × (reading_cut is_cut (of_more ring_marked_set (reading_given from_basis))).IsRead texts v × (v.1.0.0 ≡ names_given from_basis v.1.1)
+    (v : AfterValue from_basis) × (reading_cut is_cut (of_more ring_marked_set (reading_given from_basis))).IsRead texts v ×
+    (v.1.0.0 ≡ names_given from_basis v.1.1)
     × (is_cut ≡ true → IsRegionWithinLimits (length (names_given from_basis v.1.1)) v.0)
     × ((k : Region) × IsRegionCut is_cut (length (names_given from_basis v.1.1)) v.0 k × IsAfterPast from_basis is_cut o k v.1.1 v.1.0.1 most)
 

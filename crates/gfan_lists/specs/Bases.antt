@@ -60,7 +60,8 @@ IsWithinLimit (Some most) list = length list ≤ most
 
 -- the text is the ring in a line, and all bases of the ideal of fs in a region that follow these, with certificates or without; there are
 -- no more than the limit
-pub record IsTextBehind (before : List MarkedPolynomials) (certified : Bool) (limit : Option ℕ) (ring : List (List ℕ)) (k : Region) (fs : List Terms) (text : List ℕ) : Type 0 where
+pub record IsTextBehind (before : List MarkedPolynomials) (certified : Bool) (limit : Option ℕ) (ring : List (List ℕ)) (k : Region) (fs : List Terms)
+    (text : List ℕ) : Type 0 where
   pub list : List MarkedPolynomials
   pub are_all : AreAllBasesIn (length ring) k fs (before ++ list)
   pub few : IsWithinLimit limit list
@@ -71,14 +72,16 @@ pub record IsTextBehind (before : List MarkedPolynomials) (certified : Bool) (li
 -- ---- the output before the list is refused
 
 -- the text is the beginning of that text, up to the last of the bases that are written; the rest of the list follows them
-pub record IsBegunListBehind (before : List MarkedPolynomials) (certified : Bool) (ring : List (List ℕ)) (k : Region) (fs : List Terms) (written rest : List MarkedPolynomials) (text : List ℕ) : Type 0 where
+pub record IsBegunListBehind (before : List MarkedPolynomials) (certified : Bool) (ring : List (List ℕ)) (k : Region) (fs : List Terms)
+    (written rest : List MarkedPolynomials) (text : List ℕ) : Type 0 where
   pub are_all : AreAllBasesIn (length ring) k fs (before ++ (written ++ rest))
   pub items : List (List ℕ)
   pub are_items : AreItemTextsIn certified ring k written items
   pub is_text : text ≡ begun_text ring items
 
 -- the text is the beginning of that text with exactly as many bases as the limit, and there is a further one in the list
-pub record IsBegunToLimitBehind (before : List MarkedPolynomials) (o : ListOptions) (ring : List (List ℕ)) (k : Region) (fs : List Terms) (most : ℕ) (text : List ℕ) : Type 0 where
+pub record IsBegunToLimitBehind (before : List MarkedPolynomials) (o : ListOptions) (ring : List (List ℕ)) (k : Region) (fs : List Terms) (most : ℕ)
+    (text : List ℕ) : Type 0 where
   pub is_limit : o.limit ≡ Some most
   pub written : List MarkedPolynomials
   pub next : MarkedPolynomials
@@ -88,7 +91,8 @@ pub record IsBegunToLimitBehind (before : List MarkedPolynomials) (o : ListOptio
 
 -- the text is all that is written if nothing stops the list: its text; or, if it continues after the limit, its beginning with exactly as
 -- many bases as the limit
-pub data IsFullTextBehind (before : List MarkedPolynomials) (o : ListOptions) (ring : List (List ℕ)) (k : Region) (fs : List Terms) (text : List ℕ) : Type 0 where
+pub data IsFullTextBehind (before : List MarkedPolynomials) (o : ListOptions) (ring : List (List ℕ)) (k : Region) (fs : List Terms) (text : List ℕ) :
+    Type 0 where
   to_its_end : IsTextBehind before o.certified o.limit ring k fs text → IsFullTextBehind before o ring k fs text
   to_the_limit : (most : ℕ) → IsBegunToLimitBehind before o ring k fs most text → IsFullTextBehind before o ring k fs text
 

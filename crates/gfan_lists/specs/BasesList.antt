@@ -76,9 +76,8 @@ pub record WeightsAreServed : Type 0 where
 pub record RegionsAreServed : Type 0 where
   pub exactly : (n : ℕ) (k : Region) (fs : List Terms) (list : List MarkedPolynomials) (x : MarkedPolynomials) → AreAllBasesIn n k fs list →
       Among list x ↔ IsGivenIn n k fs x
-  pub monomial : (n : ℕ) (k : Region) (fs : List Terms) (list : List MarkedPolynomials) (w : List ℤ) → AreInVariables n fs → IsRegion n k → AreAllBasesIn n k fs list →
-      IsInRegion n k w → IsMonomialAt n fs w →
-      (x : MarkedPolynomials) × Among list x × IsReducedBasis n fs (gains w) x.items
+  pub monomial : (n : ℕ) (k : Region) (fs : List Terms) (list : List MarkedPolynomials) (w : List ℤ) → AreInVariables n fs → IsRegion n k →
+      AreAllBasesIn n k fs list → IsInRegion n k w → IsMonomialAt n fs w → (x : MarkedPolynomials) × Among list x × IsReducedBasis n fs (gains w) x.items
       × ((y : MarkedPolynomials) → Among list y → IsReducedBasis n fs (gains w) y.items → x ≡ y)
-  pub cones : (n : ℕ) (k : Region) (fs : List Terms) (list : List MarkedPolynomials) (w : List ℤ) → AreInVariables n fs → IsRegion n k → AreAllBasesIn n k fs list →
-      IsInRegion n k w → (x : MarkedPolynomials) × Among list x × IsInClosedCone w x.items
+  pub cones : (n : ℕ) (k : Region) (fs : List Terms) (list : List MarkedPolynomials) (w : List ℤ) → AreInVariables n fs → IsRegion n k →
+      AreAllBasesIn n k fs list → IsInRegion n k w → (x : MarkedPolynomials) × Among list x × IsInClosedCone w x.items

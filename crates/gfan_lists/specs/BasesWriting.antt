@@ -50,9 +50,11 @@ IsUnwritten held holds written writes piece refusals.Memory = Keeps held holds �
 IsUnwritten held holds written writes piece _ = ⊥
 
 -- why a basis isn't written: its piece can't be made, and nothing is written; or it is made, and isn't written completely
-pub data IsBasisUnwritten (certified : Bool) (ring : List (List ℕ)) (k : Region) (is_first : Bool) (b : MarkedPolynomials) (held holds : Option (List ℕ)) (written writes : ℕ) (r : Refusal) : Type 0 where
+pub data IsBasisUnwritten (certified : Bool) (ring : List (List ℕ)) (k : Region) (is_first : Bool) (b : MarkedPolynomials) (held holds : Option (List ℕ))
+    (written writes : ℕ) (r : Refusal) : Type 0 where
   unmade : holds ≡ held → writes ≡ written → IsItemRefusalIn certified k b r → IsBasisUnwritten certified ring k is_first b held holds written writes r
-  cut : (piece : List ℕ) → IsPieceOf certified ring k is_first b piece → IsUnwritten held holds written writes piece r → IsBasisUnwritten certified ring k is_first b held holds written writes r
+  cut : (piece : List ℕ) → IsPieceOf certified ring k is_first b piece → IsUnwritten held holds written writes piece r →
+      IsBasisUnwritten certified ring k is_first b held holds written writes r
 
 -- ---- room
 
@@ -114,8 +116,10 @@ IsListBegunBehind before o ring k fs held holds r = (text : List ℕ) × IsBegun
 
 -- what was appended to the output when the list after these bases is refused: if a write failed, a prefix of all that is written where nothing
 -- stops it; otherwise the bases up to the one at which it is refused
-abbrev pub IsListStoppedBehind : List MarkedPolynomials → ListOptions → List (List ℕ) → Region → List Terms → Option (List ℕ) → Option (List ℕ) → ℕ → ℕ → Refusal → Type 0
-IsListStoppedBehind before o ring k fs held holds written writes refusals.WriteFault = Rose written writes × ((text : List ℕ) × IsFullTextBehind before o ring k fs text × AppendsPrefix held holds text)
+abbrev pub IsListStoppedBehind : List MarkedPolynomials → ListOptions → List (List ℕ) → Region → List Terms → Option (List ℕ) → Option (List ℕ) → ℕ → ℕ →
+    Refusal → Type 0
+IsListStoppedBehind before o ring k fs held holds written writes refusals.WriteFault =
+    Rose written writes × ((text : List ℕ) × IsFullTextBehind before o ring k fs text × AppendsPrefix held holds text)
 IsListStoppedBehind before o ring k fs held holds written writes r = IsListBegunBehind before o ring k fs held holds r
 
 -- the text of all bases was appended to the output, from the first basis on
@@ -141,7 +145,8 @@ is_none_of [] = true
 is_none_of (t ∷ ts) = false
 
 -- the list after these bases is written in part: some of its bases are written, and the row has left the rest
-pub record IsUnderWay (before : List MarkedPolynomials) (o : ListOptions) (ring : List (List ℕ)) (k : Region) (fs : List Terms) (row : Row) (room : Room) (is_first : Bool) (held holds : Option (List ℕ)) : Type 0 where
+pub record IsUnderWay (before : List MarkedPolynomials) (o : ListOptions) (ring : List (List ℕ)) (k : Region) (fs : List Terms) (row : Row) (room : Room)
+    (is_first : Bool) (held holds : Option (List ℕ)) : Type 0 where
   pub written : List MarkedPolynomials
   pub rest : List MarkedPolynomials
   pub are_all : AreAllBasesIn (length ring) k fs (before ++ (written ++ rest))

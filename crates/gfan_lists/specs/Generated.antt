@@ -66,7 +66,8 @@ pub record IsSummaryText (limit : ℕ) (fs : List Terms) (text : List ℕ) : Typ
   pub are_all : AreAllBases 4 fs list
   pub weights : List (List ℤ)
   pub are_weights : ArePrintedWeights (take limit list) weights
-  pub is_text : text ≡ summary_text (min limit (length list)) (greatest (map degree_of_set (take limit list))) (added (zeros 4) weights) (nat_le (length list) limit)
+  pub is_text : text ≡ summary_text (min limit (length list)) (greatest (map degree_of_set (take limit list))) (added (zeros 4) weights) (nat_le (length list)
+      limit)
 
 -- ---- why it is refused
 

@@ -10,7 +10,8 @@ use Rattle.gfan_lists.specs.Bases.{begun_text, list_text, IsTextBehind, IsBegunL
 -- of both, in this order, are what follows the earlier ones, and the items of both texts make up its text. The limits of the runs may be
 -- any.
 abbrev pub PartsAreJoined : Type 0
-PartsAreJoined = (certified : Bool) (limit : Option ℕ) (ring : List (List ℕ)) (k : Region) (fs : List Terms) (early front before rest : List MarkedPolynomials) (b : MarkedPolynomials) (text behind : List ℕ) →
+PartsAreJoined = (certified : Bool) (limit : Option ℕ) (ring : List (List ℕ)) (k : Region) (fs : List Terms) (early front before rest : List MarkedPolynomials)
+    (b : MarkedPolynomials) (text behind : List ℕ) →
     AreInVariables (length ring) fs → IsRegion (length ring) k →
     IsBegunListBehind early certified ring k fs (front ++ b ∷ []) rest text → IsTextBehind (before ++ b ∷ []) certified limit ring k fs behind →
     (items : List (List ℕ)) × (others : List (List ℕ)) × (text ≡ begun_text ring items) × (behind ≡ list_text ring others)

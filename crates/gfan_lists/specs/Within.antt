@@ -108,7 +108,8 @@ pub record IsFullFromBasisWithin (o : ListOptions) (rows : List (List ℤ)) (rin
   pub within : IsFullWithin o rows ring (polys s.items) text
 
 -- the set is a Gröbner basis for its marking, and the text may have been written of this list when it is refused with r
-pub record IsBegunFromBasisWithin (o : ListOptions) (rows : List (List ℤ)) (ring : List (List ℕ)) (s : MarkedPolynomials) (text : List ℕ) (r : Refusal) : Type 0 where
+pub record IsBegunFromBasisWithin (o : ListOptions) (rows : List (List ℤ)) (ring : List (List ℕ)) (s : MarkedPolynomials) (text : List ℕ) (r : Refusal) :
+    Type 0 where
   pub basis : IsMarkedGroebnerBasis s.variables s.items
   pub within : IsBegunWithin o rows ring (polys s.items) text r
 
@@ -116,7 +117,8 @@ pub record IsBegunFromBasisWithin (o : ListOptions) (rows : List (List ℤ)) (ri
 -- polynomials of the reduced basis is refused
 pub data IsGivenRegionRootRefusal (k : Region) (s : MarkedPolynomials) (pairs : ℕ) (r : Refusal) : Type 0 where
   at_basis : IsReducingRefusal s r → IsGivenRegionRootRefusal k s pairs r
-  at_root : (u : MarkedPolynomials) → IsMarkedGroebnerBasis s.variables s.items → IsReducedFrom s u → IsRegionRootRefusal s.variables k (polys u.items) pairs r → IsGivenRegionRootRefusal k s pairs r
+  at_root : (u : MarkedPolynomials) → IsMarkedGroebnerBasis s.variables s.items → IsReducedFrom s u →
+      IsRegionRootRefusal s.variables k (polys u.items) pairs r → IsGivenRegionRootRefusal k s pairs r
 
 -- there is no region; or there is one, and the root in it is refused
 pub data IsGivenStartRefusal (n : ℕ) (rows : List (List ℤ)) (s : MarkedPolynomials) (pairs : ℕ) (r : Refusal) : Type 0 where
@@ -126,7 +128,8 @@ pub data IsGivenStartRefusal (n : ℕ) (rows : List (List ℤ)) (s : MarkedPolyn
 -- there is no region, or the root is refused; or the set is a basis, and the list in the region is refused from the root on
 pub data IsGivenCauseWithin (o : ListOptions) (n : ℕ) (rows : List (List ℤ)) (s : MarkedPolynomials) (r : Refusal) : Type 0 where
   at_start : IsGivenStartRefusal n rows s o.pairs r → IsGivenCauseWithin o n rows s r
-  going : (k : Region) → IsRegionOf n rows k → IsMarkedGroebnerBasis s.variables s.items → IsGoingCauseIn o n k (polys s.items) r → IsGivenCauseWithin o n rows s r
+  going : (k : Region) → IsRegionOf n rows k → IsMarkedGroebnerBasis s.variables s.items → IsGoingCauseIn o n k (polys s.items) r →
+      IsGivenCauseWithin o n rows s r
 
 -- the members of the set are in its variables, and the set is a basis. No operation leaves its limits, of the region, of the checks, of the
 -- reduction of the set, on the way to the first basis, or from it on. The list isn't longer than its limit
@@ -137,7 +140,8 @@ pub record IsGivenWithinRegion (o : ListOptions) (n : ℕ) (rows : List (List �
   pub basis : IsMarkedGroebnerBasis s.variables s.items
   pub checks : AreChecksWithinLimits s
   pub tails : (t : MarkedPolynomials) (d : PolyError) → IsArranged (monic_set s) t → IsAutoreductionRefusal t.items d → d ≡ errors.Memory
-  pub root : (k : Region) (u : MarkedPolynomials) → IsRegionOf n rows k → IsReducedFrom s u → AreRunsWithinLimits (MonomialOrder.weighted (gains k.root)) (polys u.items) o.pairs
+  pub root : (k : Region) (u : MarkedPolynomials) → IsRegionOf n rows k → IsReducedFrom s u →
+      AreRunsWithinLimits (MonomialOrder.weighted (gains k.root)) (polys u.items) o.pairs
   pub going : (k : Region) → IsRegionOf n rows k → IsGoingWithin o n k (polys s.items)
 
 -- the set is a basis, the list in the region continues after its limit, and no operation before that leaves its limits
@@ -163,7 +167,8 @@ bases_within_command name o = record {
   IsAnswer = λ v text. IsTextWithin o v.0 v.1.0 (generators_of v.1.1.0) text;
   IsCause = λ v r. IsCauseWithin o (length v.1.0) v.0 (generators_of v.1.1.0) r;
   IsWithin = λ v. IsWithinRegion o (length v.1.0) v.0 (generators_of v.1.1.0);
-  writing = Writing.as_it_goes (λ v text. IsFullWithin o v.0 v.1.0 (generators_of v.1.1.0) text) (λ v text r. IsBegunWithin o v.0 v.1.0 (generators_of v.1.1.0) text r);
+  writing = Writing.as_it_goes (λ v text. IsFullWithin o v.0 v.1.0 (generators_of v.1.1.0) text) (λ v text r. IsBegunWithin o v.0 v.1.0 (generators_of v.1.1.0)
+      text r);
 }
 
 -- the command `_bases -g --within` on the file with this name
@@ -190,13 +195,14 @@ IsUnfinished _ = ⊥
 
 -- r is the refusal wide; or finding the region stops before it
 abbrev pub IsToldUnlessUnfinished : ℕ → List (List ℤ) → Refusal → Refusal → Type 0
-IsToldUnlessUnfinished n rows wide r = (r ≡ wide) ⊎ (((e : RegionError) × IsRegionRefusal n rows e × IsUnfinished e × (r ≡ of_region e)) ⊎ (r ≡ refusals.Memory))
+IsToldUnlessUnfinished n rows wide r =
+    (r ≡ wide) ⊎ (((e : RegionError) × IsRegionRefusal n rows e × IsUnfinished e × (r ≡ of_region e)) ⊎ (r ≡ refusals.Memory))
 
 -- if vectors, each with an entry for each variable, cut out a region with an entry of its root that is too great, there is no output, and
 -- the refusal has the first such entry, unless finding the region stops before it
 pub record WideRootsAreTold : Type 0 where
-  pub generators : (name : List ℕ) (o : ListOptions) (v : List (List ℤ) × (List (List ℕ) × (List Written × Option (List ℤ)))) (index : ℕ) (value : ℤ) → AreRows (length v.1.0) v.0 →
-      IsRegionRefusal (length v.1.0) v.0 (region_errors.WideRoot index value) →
+  pub generators : (name : List ℕ) (o : ListOptions) (v : List (List ℤ) × (List (List ℕ) × (List Written × Option (List ℤ)))) (index : ℕ) (value : ℤ) →
+      AreRows (length v.1.0) v.0 → IsRegionRefusal (length v.1.0) v.0 (region_errors.WideRoot index value) →
       ((text : List ℕ) → IsAnswerFor (bases_within_command name o) v text → ⊥)
       × ((r : Refusal) → IsUnanswered (bases_within_command name o) v r → IsToldUnlessUnfinished (length v.1.0) v.0 (refusals.WideRoot index value) r)
   pub basis : (name : List ℕ) (o : ListOptions) (v : List (List ℤ) × (List (List ℕ) × MarkedPolynomials)) (index : ℕ) (value : ℤ) → AreRows (length v.1.0) v.0 →

@@ -22,7 +22,8 @@ ghost use Rattle.gfan_lists.specs.BasesWriting.{GoesOnBehind, StartsIn};
 ghost use Rattle.gfan_common.specs.Refused.{IsUnnamed, IsOfSource};
 ghost use Rattle.gfan_lists.specs.Within.{IsNoRegion};
 ghost use Rattle.gfan_common.specs.ToolForms.{for_each};
-ghost use Rattle.gfan_lists.specs.After.{IsFirstDifference, IsOtherRing, IsBasisTaken, LeaveZero, IsFirstOutside, IsSomeOutside, IsListedBy, IsUnlisted, IsUnrooted, IsRegionCut, IsOfCutFile, IsCutFileRefused, cut_texts, IsUnbegun, IsStartRefused, after_command};
+ghost use Rattle.gfan_lists.specs.After.{IsFirstDifference, IsOtherRing, IsBasisTaken, LeaveZero, IsFirstOutside, IsSomeOutside, IsListedBy, IsUnlisted};
+ghost use Rattle.gfan_lists.specs.After.{IsUnrooted, IsRegionCut, IsOfCutFile, IsCutFileRefused, cut_texts, IsUnbegun, IsStartRefused, after_command};
 
 use crate::bases::{self, ListOptions, write_waves};
 use crate::{given_basis, within};
@@ -174,7 +175,8 @@ fn waves_after<'g, G: Gate>(
     requires basis { IsNode region.now basis }
     requires some { 1 ≤ workers }
     requires most { workers ≤ 64 }
-    ensures ok { IfOk result (λ waves. (n : ℕ) (fs : List Terms) (root : MarkedPolynomials) → StartsIn n region.now fs root → IsNodeIn (ideal_within n fs region.now) basis
+    ensures ok { IfOk result (λ waves. (n : ℕ) (fs : List Terms) (root : MarkedPolynomials) → StartsIn n region.now fs root →
+        IsNodeIn (ideal_within n fs region.now) basis
         → (front : List MarkedPolynomials) × GoesOnBehind (front ++ basis ∷ []) n region.now fs pairs waves) }
     ensures err { IfErr result (λ r. (e : TreeError) × IsTreeRefusal (fan_of region.now basis) pairs e × (r ≡ of_tree e)) }
 {
@@ -289,7 +291,8 @@ fn given_start<'g, G: Gate>(
     ensures basis { IfOk result (λ _. IsMarkedGroebnerBasis set.now.variables set.now.items) }
     ensures ok { IfOk result (λ waves. (b : MarkedPolynomials) × (front : List MarkedPolynomials) × IsBasisTaken region.now marked.now b
         × GoesOnBehind (front ++ b ∷ []) set.now.variables region.now (polys set.now.items) options.pairs waves) }
-    ensures err { IfErr result (λ r. (ring : List (List ℕ)) → length ring ≡ set.now.variables → IsStartRefused true is_cut options.pairs region.now (ring, set.now) marked.now r ⊎ (r ≡ Refusal.Memory)) }
+    ensures err { IfErr result (λ r. (ring : List (List ℕ)) → length ring ≡ set.now.variables → IsStartRefused true is_cut options.pairs region.now
+        (ring, set.now) marked.now r ⊎ (r ≡ Refusal.Memory)) }
 {
     let basis = taken_in(alloc, marked, region)?;
     let root = given_root_of(alloc, set, region, is_cut, options.pairs)?;
@@ -376,9 +379,11 @@ pub fn perform<R: Threads + Sync, K: Sink, G: Gate>(
 ) -> Result<(), Refused>
     requires some { 1 ≤ workers }
     requires most { workers ≤ 64 }
-    ensures done { OnOk result ((sources : List Origin) → IsDoneOn (after_command false (is_some (option_copied file.entry)) sources options) (cut_texts (option_copied file.entry) after.now source.now)
+    ensures done { OnOk result ((sources : List Origin) → IsDoneOn (after_command false (is_some (option_copied file.entry)) sources options)
+        (cut_texts (option_copied file.entry) after.now source.now)
         (output_seen (K.held output.old) (K.faults output.old)) (output_seen (K.held output.new) (K.faults output.new))) }
-    ensures stopped { IfErr result (λ e. (sources : List Origin) → IsStoppedOn (after_command false (is_some (option_copied file.entry)) sources options) (cut_texts (option_copied file.entry) after.now source.now)
+    ensures stopped { IfErr result (λ e. (sources : List Origin) → IsStoppedOn (after_command false (is_some (option_copied file.entry)) sources options)
+        (cut_texts (option_copied file.entry) after.now source.now)
         (output_seen (K.held output.old) (K.faults output.old)) (output_seen (K.held output.new) (K.faults output.new)) e.refusal) }
     ensures told { IfErr result (IsOfSource source.now) }
 {
@@ -430,9 +435,11 @@ pub fn perform_given<R: Threads + Sync, K: Sink, G: Gate>(
 ) -> Result<(), Refused>
     requires some { 1 ≤ workers }
     requires most { workers ≤ 64 }
-    ensures done { OnOk result ((sources : List Origin) → IsDoneOn (after_command true (is_some (option_copied file.entry)) sources options) (cut_texts (option_copied file.entry) after.now source.now)
+    ensures done { OnOk result ((sources : List Origin) → IsDoneOn (after_command true (is_some (option_copied file.entry)) sources options)
+        (cut_texts (option_copied file.entry) after.now source.now)
         (output_seen (K.held output.old) (K.faults output.old)) (output_seen (K.held output.new) (K.faults output.new))) }
-    ensures stopped { IfErr result (λ e. (sources : List Origin) → IsStoppedOn (after_command true (is_some (option_copied file.entry)) sources options) (cut_texts (option_copied file.entry) after.now source.now)
+    ensures stopped { IfErr result (λ e. (sources : List Origin) → IsStoppedOn (after_command true (is_some (option_copied file.entry)) sources options)
+        (cut_texts (option_copied file.entry) after.now source.now)
         (output_seen (K.held output.old) (K.faults output.old)) (output_seen (K.held output.new) (K.faults output.new)) e.refusal) }
     ensures told { IfErr result (IsOfSource source.now) }
 {

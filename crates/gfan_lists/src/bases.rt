@@ -13,7 +13,9 @@ ghost use Rattle.gfan_common.specs.Forms.{generators_of};
 ghost use Rattle.gfan_lists.specs.Certificates.{IsItemRefusalIn};
 ghost use Rattle.gfan_lists.specs.Ahead.{IsWorkedOut};
 ghost use Rattle.gfan_lists.specs.Bases.{bases_command};
-ghost use Rattle.gfan_lists.specs.BasesWriting.{basis_piece, end_piece, GoesOnBehind, IsListWrittenBehind, IsListStoppedBehind, IsPieceOf, IsBasisWritten, IsUnwritten, IsBasisUnwritten, HasRoomFor, IsOneLess, IsFull, IsFirstBasis, IsRootRefusal, StartsIn, IsListWrittenIn, IsListStoppedIn};
+ghost use Rattle.gfan_lists.specs.BasesWriting.{basis_piece, end_piece, GoesOnBehind, IsListWrittenBehind, IsListStoppedBehind, IsPieceOf, IsBasisWritten};
+ghost use Rattle.gfan_lists.specs.BasesWriting.{IsUnwritten, IsBasisUnwritten, HasRoomFor, IsOneLess, IsFull, IsFirstBasis, IsRootRefusal, StartsIn};
+ghost use Rattle.gfan_lists.specs.BasesWriting.{IsListWrittenIn, IsListStoppedIn};
 ghost use Rattle.gfan_common.specs.Refused.{IsUnnamed, IsOfSource};
 ghost use Rattle.gf_frame.specs.Seen.{output_seen};
 ghost use Rattle.gf_frame.specs.Runs.{IsDoneOn, IsStoppedOn};
@@ -262,9 +264,11 @@ pub(crate) fn write_waves<'g, R: Threads + Sync, K: Sink, G: Gate>(
     output: &mut K,
 ) -> Result<(), Refused>
     requires row { (before : List MarkedPolynomials) × (fs : List Terms) × GoesOnBehind before (length ring.now) region.now fs options.pairs waves }
-    ensures done { OnOk result ((before : List MarkedPolynomials) (fs : List Terms) → GoesOnBehind before (length ring.now) region.now fs options.pairs waves.entry
+    ensures done { OnOk result ((before : List MarkedPolynomials) (fs : List Terms) →
+        GoesOnBehind before (length ring.now) region.now fs options.pairs waves.entry
         → IsListWrittenBehind before options ring.now region.now fs (K.held output.old) (K.held output.new)) }
-    ensures stopped { IfErr result (λ e. (before : List MarkedPolynomials) (fs : List Terms) → GoesOnBehind before (length ring.now) region.now fs options.pairs waves.entry
+    ensures stopped { IfErr result (λ e. (before : List MarkedPolynomials) (fs : List Terms) →
+        GoesOnBehind before (length ring.now) region.now fs options.pairs waves.entry
         → IsListStoppedBehind before options ring.now region.now fs (K.held output.old) (K.held output.new) (K.faults output.old)
         (K.faults output.new) e.refusal) }
     ensures told { IfErr result IsUnnamed }

@@ -12,7 +12,8 @@ ghost use Rattle.gfan_common.specs.Forms.{generators_of};
 ghost use Rattle.gfan_lists.specs.BasesWriting.{StartsIn};
 ghost use Rattle.gfan_common.specs.Refused.{IsUnnamed, IsOfSource};
 ghost use Rattle.gfan_common.specs.ToolForms.{for_each};
-ghost use Rattle.gfan_lists.specs.Within.{of_region, IsNoRegion, IsRegionRootRefusal, IsGivenRegionRootRefusal, IsGivenStartRefusal, bases_within_command, given_within_command};
+ghost use Rattle.gfan_lists.specs.Within.{of_region, IsNoRegion, IsRegionRootRefusal, IsGivenRegionRootRefusal, IsGivenStartRefusal, bases_within_command};
+ghost use Rattle.gfan_lists.specs.Within.{given_within_command};
 
 use crate::bases::{ListOptions, write_from};
 use crate::given_basis::reduced_of;
@@ -166,9 +167,11 @@ pub fn perform<R: Threads + Sync, K: Sink, G: Gate>(
 ) -> Result<(), Refused>
     requires some { 1 ≤ workers }
     requires most { workers ≤ 64 }
-    ensures done { OnOk result ((name : List ℕ) → IsDoneOn (bases_within_command name options) (file.now ∷ (source.now ∷ [])) (output_seen (K.held output.old) (K.faults output.old))
+    ensures done { OnOk result ((name : List ℕ) → IsDoneOn (bases_within_command name options) (file.now ∷ (source.now ∷ [])) (output_seen (K.held output.old)
+        (K.faults output.old))
         (output_seen (K.held output.new) (K.faults output.new))) }
-    ensures stopped { IfErr result (λ e. (name : List ℕ) → IsStoppedOn (bases_within_command name options) (file.now ∷ (source.now ∷ [])) (output_seen (K.held output.old) (K.faults output.old))
+    ensures stopped { IfErr result (λ e. (name : List ℕ) → IsStoppedOn (bases_within_command name options)
+        (file.now ∷ (source.now ∷ [])) (output_seen (K.held output.old) (K.faults output.old))
         (output_seen (K.held output.new) (K.faults output.new)) e.refusal) }
     ensures told { IfErr result (IsOfSource source.now) }
 {
@@ -226,9 +229,11 @@ pub fn perform_given<R: Threads + Sync, K: Sink, G: Gate>(
 ) -> Result<(), Refused>
     requires some { 1 ≤ workers }
     requires most { workers ≤ 64 }
-    ensures done { OnOk result ((name : List ℕ) → IsDoneOn (given_within_command name options) (file.now ∷ (source.now ∷ [])) (output_seen (K.held output.old) (K.faults output.old))
+    ensures done { OnOk result ((name : List ℕ) → IsDoneOn (given_within_command name options) (file.now ∷ (source.now ∷ [])) (output_seen (K.held output.old)
+        (K.faults output.old))
         (output_seen (K.held output.new) (K.faults output.new))) }
-    ensures stopped { IfErr result (λ e. (name : List ℕ) → IsStoppedOn (given_within_command name options) (file.now ∷ (source.now ∷ [])) (output_seen (K.held output.old) (K.faults output.old))
+    ensures stopped { IfErr result (λ e. (name : List ℕ) → IsStoppedOn (given_within_command name options)
+        (file.now ∷ (source.now ∷ [])) (output_seen (K.held output.old) (K.faults output.old))
         (output_seen (K.held output.new) (K.faults output.new)) e.refusal) }
     ensures told { IfErr result (IsOfSource source.now) }
 {

@@ -32,7 +32,8 @@ use Rattle.gfan_sets.proofs.ContainmentLaws.{containment_work, containment_withi
 pub buchberger_exact : (o : BuchbergerOptions) → IsExactCommand (buchberger_command o)
 buchberger_exact o = record {
   reading = one_once _ (ring_and_once a_set (vector_where o.weighted ∷ []));
-  checks = λ texts v h. of_one_text (ring_set_vector o.weighted) _ texts v h (λ source r. form_once o.revlex (length v.0) v.1.1 (generators_of v.1.0) (set_kept v.0 (from source r.read.behind) r.read.two.behind v.1.0 r.read.two.one));
+  checks = λ texts v h. of_one_text (ring_set_vector o.weighted) _ texts v h (λ source r. form_once o.revlex (length v.0) v.1.1 (generators_of v.1.0)
+      (set_kept v.0 (from source r.read.behind) r.read.two.behind v.1.0 r.read.two.one));
   work = λ v r h. subst IsOfWork (sym h.1) (basis_work h.0);
   within = λ v r w h. h.1 ∙ ap of_basis (h.3 w);
 }
@@ -74,8 +75,10 @@ leading_exact true = record {
 }
 
 leading_lawful_by : (listed : Bool) → IsLawful (leading_command listed)
-leading_lawful_by false = sound_lawful (leading_command false) (leading_exact false) (untested (leading_command false) (λ v r t h. memory_untested r t h)) (λ h. h) (λ t. t) (λ a m w. cc)
-leading_lawful_by true = sound_lawful (leading_command true) (leading_exact true) (untested (leading_command true) (λ v r t h. memory_untested r t h)) (λ h. h) (λ t. t) (λ a m w. cc)
+leading_lawful_by false = sound_lawful (leading_command false) (leading_exact false) (untested (leading_command false) (λ v r t h. memory_untested r t h))
+    (λ h. h) (λ t. t) (λ a m w. cc)
+leading_lawful_by true = sound_lawful (leading_command true) (leading_exact true) (untested (leading_command true) (λ v r t h. memory_untested r t h)) (λ h. h)
+    (λ t. t) (λ a m w. cc)
 
 leading_source_by : (listed : Bool) → (leading_command listed).reads ≡ Origin.the_input ∷ []
 leading_source_by false = refl

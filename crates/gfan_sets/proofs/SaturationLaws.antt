@@ -25,8 +25,8 @@ use Rattle.gfan_common.proofs.CauseLaws.{unnamed_basis, basis_work, basis_not_li
 
 -- ---- for what is read
 
-pub saturation_answered : (o : SaturationOptions) (n : ℕ) (ring : List (List ℕ)) (ws : List Written) (fs : List Terms) (s : MarkedPolynomials) (text : List ℕ) → n ≡ length ring → fs ≡ generators_of ws →
-    IsSaturation n fs s → IsPrinted ring s text → IsAnswerFor (saturation_command o) (ring, (ws, None)) text
+pub saturation_answered : (o : SaturationOptions) (n : ℕ) (ring : List (List ℕ)) (ws : List Written) (fs : List Terms) (s : MarkedPolynomials) (text : List ℕ) →
+    n ≡ length ring → fs ≡ generators_of ws → IsSaturation n fs s → IsPrinted ring s text → IsAnswerFor (saturation_command o) (ring, (ws, None)) text
 saturation_answered o n ring ws fs s text p q h t = record {
   formed = tt;
   is_answer = record {
@@ -36,10 +36,15 @@ saturation_answered o n ring ws fs s text p q h t = record {
   };
 }
 
-pub saturation_unanswered : (o : SaturationOptions) (n : ℕ) (ring : List (List ℕ)) (ws : List Written) (fs : List Terms) (e : BasisError) → n ≡ length ring → fs ≡ generators_of ws →
-    IsSaturateRefusal n fs o.pairs e → IsUnanswered (saturation_command o) (ring, (ws, None)) (of_basis e)
+pub saturation_unanswered : (o : SaturationOptions) (n : ℕ) (ring : List (List ℕ)) (ws : List Written) (fs : List Terms) (e : BasisError) → n ≡ length ring →
+    fs ≡ generators_of ws → IsSaturateRefusal n fs o.pairs e → IsUnanswered (saturation_command o) (ring, (ws, None)) (of_basis e)
 saturation_unanswered o n ring ws fs e p q h =
-    IsUnanswered.in_work tt (e, refl, subst (λ (k : ℕ). IsSaturateRefusal k (generators_of ws) o.pairs e) p (subst (λ (gs : List Terms). IsSaturateRefusal n gs o.pairs e) q h))
+    IsUnanswered.in_work tt (
+      e,
+      refl,
+      subst (λ (k : ℕ). IsSaturateRefusal k (generators_of ws) o.pairs e) p
+          (subst (λ (gs : List Terms). IsSaturateRefusal n gs o.pairs e) q h),
+    )
 
 pub basis_named : (e : BasisError) → IsNamedBy None (of_basis e)
 basis_named e = (unnamed_basis e).named
@@ -57,4 +62,5 @@ saturation_exact o = record {
 pub saturation_lawful : (o : SaturationOptions) → IsLawful (saturation_command o)
 saturation_lawful o =
     let c = saturation_command o in
-    sound_lawful c (saturation_exact o) (untested c (λ v r t h. basis_untested h.0 (subst IsOfTest h.1 t))) (λ h. h) (λ t. t) (λ a m w. basis_not_listed w.0 m w.1)
+    sound_lawful c (saturation_exact o) (untested c (λ v r t h. basis_untested h.0 (subst IsOfTest h.1 t))) (λ h. h) (λ t. t)
+    (λ a m w. basis_not_listed w.0 m w.1)

@@ -40,15 +40,18 @@ use Rattle.gfan_common.proofs.CauseLaws.{gordan_work}
 -- ---- `_markpolynomialset`
 
 -- the vector has another length
-pub length_unanswered : (n : ℕ) (ring : List (List ℕ)) (ws : List Written) (w : List ℤ) (r : Refusal) → n ≡ length ring → IsLengthRefusal n (Some w) r → IsUnanswered mark_polynomial_set_command (ring, (ws, w)) r
+pub length_unanswered : (n : ℕ) (ring : List (List ℕ)) (ws : List Written) (w : List ℤ) (r : Refusal) → n ≡ length ring → IsLengthRefusal n (Some w) r →
+    IsUnanswered mark_polynomial_set_command (ring, (ws, w)) r
 length_unanswered n ring ws w r e h = IsUnanswered.in_form (inl (subst (λ k. IsLengthRefusal k (Some w) r) e h))
 
 -- a polynomial is zero, or there is no memory
-pub zero_unanswered : (n : ℕ) (ring : List (List ℕ)) (ws : List Written) (w : List ℤ) (r : Refusal) → n ≡ length ring → length w ≡ n → IsZeroRefusal ws r ⊎ (r ≡ refusals.Memory) → IsUnanswered mark_polynomial_set_command (ring, (ws, w)) r
+pub zero_unanswered : (n : ℕ) (ring : List (List ℕ)) (ws : List Written) (w : List ℤ) (r : Refusal) → n ≡ length ring → length w ≡ n →
+    IsZeroRefusal ws r ⊎ (r ≡ refusals.Memory) → IsUnanswered mark_polynomial_set_command (ring, (ws, w)) r
 zero_unanswered n ring ws w r e l (inl h) = IsUnanswered.in_form (inr (l ∙ e, inl h))
 zero_unanswered n ring ws w r e l (inr m) = IsUnanswered.no_memory m
 
-pub marked_answered : (n : ℕ) (ring : List (List ℕ)) (ws : List Written) (w : List ℤ) (s t : MarkedPolynomials) (fs : List Terms) (text : List ℕ) → n ≡ length ring → length w ≡ n → AreNonzero ws s.items → fs ≡ polys s.items → AreMarkedByWeight w fs t
+pub marked_answered : (n : ℕ) (ring : List (List ℕ)) (ws : List Written) (w : List ℤ) (s t : MarkedPolynomials) (fs : List Terms) (text : List ℕ) →
+    n ≡ length ring → length w ≡ n → AreNonzero ws s.items → fs ≡ polys s.items → AreMarkedByWeight w fs t
     → IsPrinted ring t text → IsAnswerFor mark_polynomial_set_command (ring, (ws, w)) text
 marked_answered n ring ws w s t fs text e l a q h p = record {
   formed = (l ∙ e, ((s.items, a), tt));
@@ -83,10 +86,12 @@ polynomial_set_union_exact = record {
 
 -- ---- `_initialforms`
 
-pub entries_unanswered : (n : ℕ) (ring : List (List ℕ)) (ws : List Written) (w : List ℤ) (r : Refusal) → n ≡ length ring → IsLengthRefusal n (Some w) r → IsUnanswered initial_forms_command (ring, (ws, w)) r
+pub entries_unanswered : (n : ℕ) (ring : List (List ℕ)) (ws : List Written) (w : List ℤ) (r : Refusal) → n ≡ length ring → IsLengthRefusal n (Some w) r →
+    IsUnanswered initial_forms_command (ring, (ws, w)) r
 entries_unanswered n ring ws w r e h = IsUnanswered.in_form (inl (subst (λ k. IsLengthRefusal k (Some w) r) e h))
 
-pub forms_answered : (ring : List (List ℕ)) (ws : List Written) (w : List ℤ) (fs : List Written) (text : List ℕ) → length w ≡ length ring → AreInitialForms w ws fs → IsPrintedSet ring fs text
+pub forms_answered : (ring : List (List ℕ)) (ws : List Written) (w : List ℤ) (fs : List Written) (text : List ℕ) → length w ≡ length ring →
+    AreInitialForms w ws fs → IsPrintedSet ring fs text
     → IsAnswerFor initial_forms_command (ring, (ws, w)) text
 forms_answered ring ws w fs text l h p = record { formed = (l, tt); is_answer = record { forms = fs; are_forms = h; is_text = p } }
 
@@ -128,16 +133,22 @@ stats_exact = record {
   within = λ v r w h. h.1 ∙ ap of_gordan (w h.0 h.2);
 }
 
-pub stats_unanswered : (n : ℕ) (ring : List (List ℕ)) (sets : List MarkedPolynomials) (e : GordanError) → n ≡ length ring → IsStatisticsCause n sets e → IsUnanswered stats_command (ring, sets) (of_gordan e)
+pub stats_unanswered : (n : ℕ) (ring : List (List ℕ)) (sets : List MarkedPolynomials) (e : GordanError) → n ≡ length ring → IsStatisticsCause n sets e →
+    IsUnanswered stats_command (ring, sets) (of_gordan e)
 stats_unanswered n ring sets e q h = IsUnanswered.in_work tt (e, refl, subst (λ k. IsStatisticsCause k sets e) q h)
 
-pub stats_answered : (n : ℕ) (ring : List (List ℕ)) (sets : List MarkedPolynomials) (s : Stats) (text : List ℕ) → n ≡ length ring → AreStatistics n sets s → text ≡ stats_text s → IsAnswerFor stats_command (ring, sets) text
-stats_answered n ring sets s text q h e = record { formed = tt; is_answer = record { stats = s; are_stats = subst (λ k. AreStatistics k sets s) q h; is_text = e } }
+pub stats_answered : (n : ℕ) (ring : List (List ℕ)) (sets : List MarkedPolynomials) (s : Stats) (text : List ℕ) → n ≡ length ring → AreStatistics n sets s →
+    text ≡ stats_text s → IsAnswerFor stats_command (ring, sets) text
+stats_answered n ring sets s text q h e = record {
+  formed = tt;
+  is_answer = record { stats = s; are_stats = subst (λ k. AreStatistics k sets s) q h; is_text = e };
+}
 
 -- ---- lines
 
 -- seven pieces, one behind another
-pub seven_pieces : (a b c d e f g t u v w x y z : List ℕ) → t ≡ a → u ≡ t ++ b → v ≡ u ++ c → w ≡ v ++ d → x ≡ w ++ e → y ≡ x ++ f → z ≡ y ++ g → z ≡ concat (a ∷ b ∷ c ∷ d ∷ e ∷ f ∷ g ∷ [])
+pub seven_pieces : (a b c d e f g t u v w x y z : List ℕ) → t ≡ a → u ≡ t ++ b → v ≡ u ++ c → w ≡ v ++ d → x ≡ w ++ e → y ≡ x ++ f → z ≡ y ++ g →
+    z ≡ concat (a ∷ b ∷ c ∷ d ∷ e ∷ f ∷ g ∷ [])
 seven_pieces a b c d e f g t u v w x y z p q r i j k l =
     let two : u ≡ a ++ b = q ∙ ap (λ n. n ++ b) p in
     let three : v ≡ (a ++ b) ++ c = r ∙ ap (λ n. n ++ c) two in

@@ -42,7 +42,8 @@ use Rattle.gfan_common.proofs.ZipLaws.{zip_there, zip_back}
 -- ---- how they are found
 
 -- the weights of the bases are those of the sets
-pub weights_joined : (sets bases : List MarkedPolynomials) (weights : List (List ℤ)) → AllZip IsReducedAsRead sets bases → AllZip (λ t v. IsPrintedWeight t.variables t.items v) bases weights → AllZip IsWeightOfSet sets weights
+pub weights_joined : (sets bases : List MarkedPolynomials) (weights : List (List ℤ)) → AllZip IsReducedAsRead sets bases →
+    AllZip (λ t v. IsPrintedWeight t.variables t.items v) bases weights → AllZip IsWeightOfSet sets weights
 weights_joined [] [] [] a w = tt
 weights_joined [] [] (v ∷ weights) a w = absurd w
 weights_joined [] (t ∷ bases) weights a w = absurd a
@@ -52,11 +53,13 @@ weights_joined (s ∷ sets) (t ∷ bases) (v ∷ weights) a w = (record { basis 
 
 -- ---- why they aren't
 
-pub set_unweighed : (sets : List MarkedPolynomials) (e : CheckError) (r : Refusal) → IsRefusedFrom 0 sets e ⊎ (e ≡ check_errors.Memory) → r ≡ of_check e → IsUnweighed sets r
+pub set_unweighed : (sets : List MarkedPolynomials) (e : CheckError) (r : Refusal) → IsRefusedFrom 0 sets e ⊎ (e ≡ check_errors.Memory) → r ≡ of_check e →
+    IsUnweighed sets r
 set_unweighed sets e r (inl h) q = IsUnweighed.at_set e h q
 set_unweighed sets e r (inr m) q = IsUnweighed.no_memory (q ∙ ap of_check m)
 
-pub weight_unweighed : (sets bases : List MarkedPolynomials) (e : WeightError) (r : Refusal) → AllZip IsReducedAsRead sets bases → ((t : MarkedPolynomials) × Contains bases t × IsWeightCause t.variables t.items e) ⊎ (e ≡ weight_errors.Memory) → r ≡ of_weight_error e → IsUnweighed sets r
+pub weight_unweighed : (sets bases : List MarkedPolynomials) (e : WeightError) (r : Refusal) → AllZip IsReducedAsRead sets bases →
+    ((t : MarkedPolynomials) × Contains bases t × IsWeightCause t.variables t.items e) ⊎ (e ≡ weight_errors.Memory) → r ≡ of_weight_error e → IsUnweighed sets r
 weight_unweighed sets bases e r a (inl h) q =
     let s = zip_back IsReducedAsRead sets bases h.0 a h.1 in
     IsUnweighed.at_weight e (λ x c. (let t = zip_there IsReducedAsRead sets bases x a c in (t.0, t.2)))
@@ -66,8 +69,10 @@ weight_unweighed sets bases e r a (inr m) q = IsUnweighed.no_memory (q ∙ ap of
 -- ---- what is written
 
 -- one more item is added
-pub items_more : (echoed : Bool) (ring : List (List ℕ)) (sets : List MarkedPolynomials) (weights : List (List ℤ)) (i : ℕ) (s : MarkedPolynomials) (v : List ℤ) (start before comma after : List ℕ) → i < length sets → length weights ≡ length sets → s ≡ get_or sets i s → v ≡ get_or weights i v
-    → before ≡ start ++ flat_map (later_weight_item echoed ring) (take i (zip sets weights)) → comma ≡ before ++ 10 ∷ 44 ∷ 10 ∷ [] → after ≡ comma ++ weight_item echoed ring (s, v)
+pub items_more : (echoed : Bool) (ring : List (List ℕ)) (sets : List MarkedPolynomials) (weights : List (List ℤ)) (i : ℕ) (s : MarkedPolynomials) (v : List ℤ)
+    (start before comma after : List ℕ) → i < length sets → length weights ≡ length sets → s ≡ get_or sets i s → v ≡ get_or weights i v
+    → before ≡ start ++ flat_map (later_weight_item echoed ring) (take i (zip sets weights)) → comma ≡ before ++ 10 ∷ 44 ∷ 10 ∷ [] →
+    after ≡ comma ++ weight_item echoed ring (s, v)
     → after ≡ start ++ flat_map (later_weight_item echoed ring) (take (i + 1) (zip sets weights))
 items_more echoed ring sets weights i s v start before comma after l m es ev b c a =
     let F : MarkedPolynomials × List ℤ → List ℕ = later_weight_item echoed ring in
@@ -75,11 +80,14 @@ items_more echoed ring sets weights i s v start before comma after l m es ev b c
     let here : get_or zs i (s, v) ≡ (s, v) = get_or-zip sets weights i (s, v) l (omega (arith, m)) ∙ (λ w. (sym es w, sym ev w)) in
     let long : i < length zs = omega (arith, m, length-zip sets weights) in
     let more : take (i + 1) zs ≡ take i zs ++ (s, v) ∷ [] = take_more zs i (s, v) long ∙ ap (λ (z : MarkedPolynomials × List ℤ). take i zs ++ z ∷ []) here in
-    let added : flat_map F (take (i + 1) zs) ≡ flat_map F (take i zs) ++ F (s, v) = ap (λ (xs : List (MarkedPolynomials × List ℤ)). flat_map F xs) more ∙ flat_map-append F (take i zs) ((s, v) ∷ []) ∙ ap (λ (t : List ℕ). flat_map F (take i zs) ++ t) (append-nil (F (s, v))) in
+    let added : flat_map F (take (i + 1) zs) ≡ flat_map F (take i zs) ++ F (s, v) = ap (λ (xs : List (MarkedPolynomials × List ℤ)). flat_map F xs) more ∙
+    flat_map-append F (take i zs) ((s, v) ∷ []) ∙ ap (λ (t : List ℕ). flat_map F (take i zs) ++ t) (append-nil (F (s, v))) in
     a ∙ ap (λ (t : List ℕ). t ++ weight_item echoed ring (s, v)) (c ∙ ap (λ (t : List ℕ). t ++ 10 ∷ 44 ∷ 10 ∷ []) b)
-    ∙ append_assoc (start ++ flat_map F (take i zs)) (10 ∷ 44 ∷ 10 ∷ []) (weight_item echoed ring (s, v)) ∙ append_assoc start (flat_map F (take i zs)) (F (s, v)) ∙ ap (λ (t : List ℕ). start ++ t) (sym added)
+    ∙ append_assoc (start ++ flat_map F (take i zs)) (10 ∷ 44 ∷ 10 ∷ []) (weight_item echoed ring (s, v)) ∙ append_assoc start (flat_map F (take i zs))
+    (F (s, v)) ∙ ap (λ (t : List ℕ). start ++ t) (sym added)
 
-pub items_all : (sets : List MarkedPolynomials) (weights : List (List ℤ)) (i : ℕ) → length sets ≤ i → length weights ≡ length sets → take i (zip sets weights) ≡ zip sets weights
+pub items_all : (sets : List MarkedPolynomials) (weights : List (List ℤ)) (i : ℕ) → length sets ≤ i → length weights ≡ length sets →
+    take i (zip sets weights) ≡ zip sets weights
 items_all sets weights i l m = take_all i (zip sets weights) (omega (arith, l, m, length-zip sets weights))
 
 -- ---- the names in lines
@@ -89,7 +97,8 @@ weight_named ring (weight_errors.Cone o) = λ lent is. tt
 weight_named ring (weight_errors.Wide w) = λ lent is. tt
 weight_named ring weight_errors.Memory = λ lent is. tt
 
-unweighed_named : (ring : List (List ℕ)) (sets : List MarkedPolynomials) (r : Refusal) → Each (IsSetKept (length ring)) sets → IsUnweighed sets r → IsNamedBy (Some ring) r
+unweighed_named : (ring : List (List ℕ)) (sets : List MarkedPolynomials) (r : Refusal) → Each (IsSetKept (length ring)) sets → IsUnweighed sets r →
+    IsNamedBy (Some ring) r
 unweighed_named ring sets r v (IsUnweighed.at_set e h q) = subst (IsNamedBy (Some ring)) (sym q) (refused_named 0 ring sets e v h)
 unweighed_named ring sets r v (IsUnweighed.at_weight e a h q) = subst (IsNamedBy (Some ring)) (sym q) (weight_named ring e)
 unweighed_named ring sets r v (IsUnweighed.no_memory m) = subst (IsNamedBy (Some ring)) (sym m) (λ lent is. tt)
@@ -98,18 +107,22 @@ unweighed_named ring sets r v (IsUnweighed.no_memory m) = subst (IsNamedBy (Some
 pub one_read : (source : List ℕ) (v : List (List ℕ) × MarkedPolynomials) → IsTextOf ring_marked_set source v → Each (IsSetKept (length v.0)) (v.1 ∷ [])
 one_read source v read = (one_kept v.0 (from source read.read.behind) read.end v.1 read.read.two, tt)
 
-pub named_one : (source : List ℕ) (ring : List (List ℕ)) (s : MarkedPolynomials) (r : Refusal) → IsTextOf ring_marked_set source (ring, s) → IsUnweighed (s ∷ []) r → IsNamedBy (Some ring) r
+pub named_one : (source : List ℕ) (ring : List (List ℕ)) (s : MarkedPolynomials) (r : Refusal) → IsTextOf ring_marked_set source (ring, s) →
+    IsUnweighed (s ∷ []) r → IsNamedBy (Some ring) r
 named_one source ring s r read h = unweighed_named ring (s ∷ []) r (one_read source (ring, s) read) h
 
-pub named_list : (source : List ℕ) (ring : List (List ℕ)) (sets : List MarkedPolynomials) (r : Refusal) → IsTextOf ring_marked_sets source (ring, sets) → IsUnweighed sets r → IsNamedBy (Some ring) r
+pub named_list : (source : List ℕ) (ring : List (List ℕ)) (sets : List MarkedPolynomials) (r : Refusal) → IsTextOf ring_marked_sets source (ring, sets) →
+    IsUnweighed sets r → IsNamedBy (Some ring) r
 named_list source ring sets r read h = unweighed_named ring sets r (list_read source (ring, sets) read) h
 
 -- ---- from a source on
 
-pub one_unweighed : (echoed : Bool) (source : List ℕ) (ring : List (List ℕ)) (s : MarkedPolynomials) (r : Refusal) → IsTextOf ring_marked_set source (ring, s) → IsUnweighed (s ∷ []) r → IsRefusedOn (weights_command false echoed) (source ∷ []) r
+pub one_unweighed : (echoed : Bool) (source : List ℕ) (ring : List (List ℕ)) (s : MarkedPolynomials) (r : Refusal) → IsTextOf ring_marked_set source (ring, s) →
+    IsUnweighed (s ∷ []) r → IsRefusedOn (weights_command false echoed) (source ∷ []) r
 one_unweighed echoed source ring s r read h = IsRefusedOn.behind_text (ring, s) read (IsUnanswered.in_work tt h)
 
-pub list_unweighed : (echoed : Bool) (source : List ℕ) (ring : List (List ℕ)) (sets : List MarkedPolynomials) (r : Refusal) → IsTextOf ring_marked_sets source (ring, sets) → IsUnweighed sets r → IsRefusedOn (weights_command true echoed) (source ∷ []) r
+pub list_unweighed : (echoed : Bool) (source : List ℕ) (ring : List (List ℕ)) (sets : List MarkedPolynomials) (r : Refusal) →
+    IsTextOf ring_marked_sets source (ring, sets) → IsUnweighed sets r → IsRefusedOn (weights_command true echoed) (source ∷ []) r
 list_unweighed echoed source ring sets r read h = IsRefusedOn.behind_text (ring, sets) read (IsUnanswered.in_work tt h)
 
 -- ---- within limits
@@ -119,9 +132,11 @@ unweighed_work sets r (IsUnweighed.at_set e h q) = subst IsOfWork (sym q) (check
 unweighed_work sets r (IsUnweighed.at_weight e a h q) = subst IsOfWork (sym q) (weight_work e)
 unweighed_work sets r (IsUnweighed.no_memory m) = subst IsOfWork (sym m) tt
 
-unweighed_within : (sets : List MarkedPolynomials) (r : Refusal) → ((s : MarkedPolynomials) → Contains sets s → IsWeighedWithin s) → IsUnweighed sets r → r ≡ refusals.Memory
+unweighed_within : (sets : List MarkedPolynomials) (r : Refusal) → ((s : MarkedPolynomials) → Contains sets s → IsWeighedWithin s) → IsUnweighed sets r →
+    r ≡ refusals.Memory
 unweighed_within sets r w (IsUnweighed.at_set e h q) =
-    q ∙ ap of_check (refused_within 0 sets e (λ s c. (let l = w s c in record { variables = l.variables; basis = l.basis; terms = l.terms; checks = l.checks })) h)
+    q ∙ ap of_check (refused_within 0 sets e (λ s c. (let l = w s c in record { variables = l.variables; basis = l.basis; terms = l.terms; checks = l.checks }))
+    h)
 unweighed_within sets r w (IsUnweighed.at_weight e a h q) = q ∙ ap of_weight_error ((w h.set h.contained).weight h.basis h.read.arranged e h.cause)
 unweighed_within sets r w (IsUnweighed.no_memory m) = m
 
@@ -151,15 +166,18 @@ unweighed_not_listed sets most (IsUnweighed.no_memory m) = cc
 
 -- ---- sets that aren't reduced bases
 
-unweighed_once : (n : ℕ) (sets : List MarkedPolynomials) (r d : Refusal) → Each (IsSetKept n) sets → IsOfTest r → IsUnweighed sets r → IsUnweighed sets d → TellsSame r d ⊎ IsOfNumbers d
+unweighed_once : (n : ℕ) (sets : List MarkedPolynomials) (r d : Refusal) → Each (IsSetKept n) sets → IsOfTest r → IsUnweighed sets r → IsUnweighed sets d →
+    TellsSame r d ⊎ IsOfNumbers d
 unweighed_once n sets r d v t (IsUnweighed.at_set e h q) (IsUnweighed.at_set f k p) =
-    subst (λ x. TellsSame r x ⊎ IsOfNumbers x) (sym p) (subst (λ x. TellsSame x (of_check f) ⊎ IsOfNumbers (of_check f)) (sym q) (refused_once n 0 sets e f v (subst IsOfTest q t) h k))
+    subst (λ x. TellsSame r x ⊎ IsOfNumbers x) (sym p) (subst (λ x. TellsSame x (of_check f) ⊎ IsOfNumbers (of_check f)) (sym q)
+    (refused_once n 0 sets e f v (subst IsOfTest q t) h k))
 unweighed_once n sets r d v t (IsUnweighed.at_set e h q) (IsUnweighed.at_weight f a k p) = inr (subst IsOfNumbers (sym p) (weight_numbers f))
 unweighed_once n sets r d v t (IsUnweighed.at_set e h q) (IsUnweighed.no_memory m) = inr (subst IsOfNumbers (sym m) tt)
 unweighed_once n sets r d v t (IsUnweighed.at_weight e a h q) k = absurd (weight_untested e (subst IsOfTest q t))
 unweighed_once n sets r d v t (IsUnweighed.no_memory m) k = absurd (subst IsOfTest m t)
 
-unweighed_refutes : (n : ℕ) (sets : List MarkedPolynomials) (weights : List (List ℤ)) (r : Refusal) → Each (IsSetKept n) sets → IsOfTest r → IsUnweighed sets r → AllZip IsWeightOfSet sets weights → ⊥
+unweighed_refutes : (n : ℕ) (sets : List MarkedPolynomials) (weights : List (List ℤ)) (r : Refusal) → Each (IsSetKept n) sets → IsOfTest r →
+    IsUnweighed sets r → AllZip IsWeightOfSet sets weights → ⊥
 unweighed_refutes n sets weights r v t (IsUnweighed.at_set e h q) a =
     refused_refutes n 0 sets e v (subst IsOfTest q t) h (λ s c. (let w = zip_there IsWeightOfSet sets weights s a c in (w.2.basis, w.2.read)))
 unweighed_refutes n sets weights r v t (IsUnweighed.at_weight e b h q) a = weight_untested e (subst IsOfTest q t)
@@ -167,21 +185,28 @@ unweighed_refutes n sets weights r v t (IsUnweighed.no_memory m) a = subst IsOfT
 
 weight_vector_tested : (listed echoed : Bool) → IsTestedCommand (weights_command listed echoed)
 weight_vector_tested false echoed = record {
-  tests = λ texts v r d read t h k. of_one_text ring_marked_set _ texts v read (λ source x. unweighed_once (length v.0) (v.1 ∷ []) r d (one_read source v x) t h k);
-  answers = λ texts v r text read t h a. of_one_text ring_marked_set _ texts v read (λ source x. unweighed_refutes (length v.0) (v.1 ∷ []) a.weights r (one_read source v x) t h a.are_weights);
-  wholes = λ texts v r text read t h a. of_one_text ring_marked_set _ texts v read (λ source x. unweighed_refutes (length v.0) (v.1 ∷ []) a.weights r (one_read source v x) t h a.are_weights);
+  tests = λ texts v r d read t h k. of_one_text ring_marked_set _ texts v read (λ source x. unweighed_once (length v.0) (v.1 ∷ []) r d (one_read source v x)
+      t h k);
+  answers = λ texts v r text read t h a. of_one_text ring_marked_set _ texts v read (λ source x. unweighed_refutes (length v.0) (v.1 ∷ []) a.weights r
+      (one_read source v x) t h a.are_weights);
+  wholes = λ texts v r text read t h a. of_one_text ring_marked_set _ texts v read (λ source x. unweighed_refutes (length v.0) (v.1 ∷ []) a.weights r
+      (one_read source v x) t h a.are_weights);
 }
 weight_vector_tested true echoed = record {
   tests = λ texts v r d read t h k. of_one_text ring_marked_sets _ texts v read (λ source x. unweighed_once (length v.0) v.1 r d (list_read source v x) t h k);
-  answers = λ texts v r text read t h a. of_one_text ring_marked_sets _ texts v read (λ source x. unweighed_refutes (length v.0) v.1 a.weights r (list_read source v x) t h a.are_weights);
-  wholes = λ texts v r text read t h a. of_one_text ring_marked_sets _ texts v read (λ source x. unweighed_refutes (length v.0) v.1 a.weights r (list_read source v x) t h a.are_weights);
+  answers = λ texts v r text read t h a. of_one_text ring_marked_sets _ texts v read (λ source x. unweighed_refutes (length v.0) v.1 a.weights r
+      (list_read source v x) t h a.are_weights);
+  wholes = λ texts v r text read t h a. of_one_text ring_marked_sets _ texts v read (λ source x. unweighed_refutes (length v.0) v.1 a.weights r
+      (list_read source v x) t h a.are_weights);
 }
 
 -- ---- its laws
 
 lawful_by : (listed echoed : Bool) → IsLawful (weights_command listed echoed)
-lawful_by false echoed = sound_lawful (weights_command false echoed) (weight_vector_exact false echoed) (weight_vector_tested false echoed) (λ h. h) (λ t. t) (λ a m w. unweighed_not_listed (a.1 ∷ []) m w)
-lawful_by true echoed = sound_lawful (weights_command true echoed) (weight_vector_exact true echoed) (weight_vector_tested true echoed) (λ h. h) (λ t. t) (λ a m w. unweighed_not_listed a.1 m w)
+lawful_by false echoed = sound_lawful (weights_command false echoed) (weight_vector_exact false echoed) (weight_vector_tested false echoed) (λ h. h) (λ t. t)
+    (λ a m w. unweighed_not_listed (a.1 ∷ []) m w)
+lawful_by true echoed = sound_lawful (weights_command true echoed) (weight_vector_exact true echoed) (weight_vector_tested true echoed) (λ h. h) (λ t. t)
+    (λ a m w. unweighed_not_listed a.1 m w)
 
 source_by : (listed echoed : Bool) → (weights_command listed echoed).reads ≡ Origin.the_input ∷ []
 source_by false echoed = refl

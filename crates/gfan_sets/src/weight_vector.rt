@@ -6,7 +6,8 @@ ghost use Rattle.gf_weights.specs.Weights.{IsPrintedWeight};
 ghost use Rattle.gf_weights.specs.Refusals.{IsWeightCause};
 ghost use Rattle.gf_frame.specs.Commands.{IsAnswered, IsRefusedOn};
 ghost use Rattle.gfan_common.specs.Refused.{IsOfSource};
-ghost use Rattle.gfan_sets.specs.WeightVector.{IsWeightOfSet, IsUnweighed, IsWeightsText, weight_item, later_weight_item, weight_items, echoed_ring, enclosed, weights_command, weight_vector_command};
+ghost use Rattle.gfan_sets.specs.WeightVector.{IsWeightOfSet, IsUnweighed, IsWeightsText, weight_item, later_weight_item, weight_items, echoed_ring, enclosed};
+ghost use Rattle.gfan_sets.specs.WeightVector.{weights_command, weight_vector_command};
 
 use gf_front::{Refusal, WeightVectorOptions};
 use gf_items::{ring_and_marked, ring_and_marked_sets};

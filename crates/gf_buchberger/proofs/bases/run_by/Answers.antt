@@ -9,16 +9,25 @@ entered-requires c = record { n = c.args.job.now.n; job = c.requires }
 
 pub returns-in-Err-entered-clause-err : goal.returns-in-Err-entered-clause-err
 returns-in-Err-entered-clause-err c =
-    generators_stop c.args.strategy c.args.job.now.order.now c.args.job.now.n c.args.job.now.pairs c.args.job.now.set.now c.in-Err-entered.refusal c.refused.result c.requires.ring c.in-Err-entered.ensures.cause c.refused.ensures
+    generators_stop c.args.strategy c.args.job.now.order.now c.args.job.now.n c.args.job.now.pairs c.args.job.now.set.now c.in-Err-entered.refusal
+    c.refused.result c.requires.ring c.in-Err-entered.ensures.cause c.refused.ensures
 
 pub settle_all-requires : goal.settle_all-requires
-settle_all-requires c = record { n = c.args.job.now.n; fs = c.args.job.now.set.now; job = c.requires; run = c.in-Ok-entered.ensures.ok.run c.args.job.now.n c.requires.ring }
+settle_all-requires c = record {
+  n = c.args.job.now.n;
+  fs = c.args.job.now.set.now;
+  job = c.requires;
+  run = c.in-Ok-entered.ensures.ok.run c.args.job.now.n c.requires.ring;
+}
 
 pub stopped-requires : goal.stopped-requires
-stopped-requires c = stop_variables c.args.job.now.order.now c.args.job.now.n c.args.job.now.pairs c.args.job.now.set.now (state_of c.in-Ok-entered.start) c.in-Err-settle_all.stop (c.in-Ok-entered.ensures.ok.run c.args.job.now.n c.requires.ring) c.in-Err-settle_all.ensures.stop
+stopped-requires c = stop_variables c.args.job.now.order.now c.args.job.now.n c.args.job.now.pairs c.args.job.now.set.now (state_of c.in-Ok-entered.start)
+    c.in-Err-settle_all.stop (c.in-Ok-entered.ensures.ok.run c.args.job.now.n c.requires.ring) c.in-Err-settle_all.ensures.stop
 
 pub returns-in-Err-settle_all-clause-err : goal.returns-in-Err-settle_all-clause-err
-returns-in-Err-settle_all-clause-err c = stop_stops c.args.job.now.order.now c.args.job.now.n c.args.job.now.pairs c.args.job.now.set.now (state_of c.in-Ok-entered.start) c.in-Err-settle_all.stop c.stopped.result c.in-Ok-entered.ensures.ok.unsettled (c.in-Ok-entered.ensures.ok.run c.args.job.now.n c.requires.ring) c.in-Err-settle_all.ensures.stop c.stopped.ensures
+returns-in-Err-settle_all-clause-err c = stop_stops c.args.job.now.order.now c.args.job.now.n c.args.job.now.pairs c.args.job.now.set.now
+    (state_of c.in-Ok-entered.start) c.in-Err-settle_all.stop c.stopped.result c.in-Ok-entered.ensures.ok.unsettled
+    (c.in-Ok-entered.ensures.ok.run c.args.job.now.n c.requires.ring) c.in-Err-settle_all.ensures.stop c.stopped.ensures
 
 pub new-members-requires : goal.new-members-requires
 new-members-requires c =
@@ -39,23 +48,28 @@ returns-in-Ok-interreduced-clause-ok c =
     let e =
     is_end c.args.strategy c.args.job.now.order.now c.args.job.now.n c.args.job.now.pairs c.args.job.now.set.now (state_of c.in-Ok-entered.start)
     (state_of c.in-Ok-settle_all.run') c.requires c.in-Ok-entered.ensures.ok c.in-Ok-settle_all.ensures.done in
-    arranged_basis c.args.job.now.order.now c.args.job.now.n c.args.job.now.set.now _ c.new-members.result c.in-Ok-interreduced.basis e c.new-members.ensures c.in-Ok-interreduced.ensures.value c.in-Ok-interreduced.ensures.arranged c.in-Ok-interreduced.ensures.marked c.in-Ok-interreduced.ensures.reduced
+    arranged_basis c.args.job.now.order.now c.args.job.now.n c.args.job.now.set.now _ c.new-members.result c.in-Ok-interreduced.basis e c.new-members.ensures
+    c.in-Ok-interreduced.ensures.value c.in-Ok-interreduced.ensures.arranged c.in-Ok-interreduced.ensures.marked c.in-Ok-interreduced.ensures.reduced
 
 pub returns-clause-err : goal.returns-clause-err
 returns-clause-err c =
     let e =
     is_end c.args.strategy c.args.job.now.order.now c.args.job.now.n c.args.job.now.pairs c.args.job.now.set.now (state_of c.in-Ok-entered.start)
     (state_of c.in-Ok-settle_all.run') c.requires c.in-Ok-entered.ensures.ok c.in-Ok-settle_all.ensures.done in
-    autoreduction_stops c.args.job.now.order.now c.args.job.now.n c.args.job.now.pairs c.args.job.now.set.now _ c.new-members.result c.in-Err-interreduced.refusal c.refused-in-Err-interreduced.result e c.new-members.ensures c.in-Err-interreduced.ensures.cause c.refused-in-Err-interreduced.ensures
+    autoreduction_stops c.args.job.now.order.now c.args.job.now.n c.args.job.now.pairs c.args.job.now.set.now _ c.new-members.result
+    c.in-Err-interreduced.refusal c.refused-in-Err-interreduced.result e c.new-members.ensures c.in-Err-interreduced.ensures.cause
+    c.refused-in-Err-interreduced.ensures
 
 pub returns-in-Err-entered-clause-by_rule : goal.returns-in-Err-entered-clause-by_rule
 returns-in-Err-entered-clause-by_rule c =
-    ruled_generators_stop c.args.strategy c.args.job.now.order.now c.args.job.now.set.now c.args.job.now.pairs c.in-Err-entered.refusal c.refused.result c.in-Err-entered.ensures.cause c.refused.ensures
+    ruled_generators_stop c.args.strategy c.args.job.now.order.now c.args.job.now.set.now c.args.job.now.pairs c.in-Err-entered.refusal c.refused.result
+    c.in-Err-entered.ensures.cause c.refused.ensures
 
 pub returns-in-Err-settle_all-clause-by_rule : goal.returns-in-Err-settle_all-clause-by_rule
 returns-in-Err-settle_all-clause-by_rule c =
     ruled_stop c.args.strategy c.args.job.now.order.now c.args.job.now.n c.args.job.now.set.now c.args.job.now.pairs
-    (state_of c.in-Ok-entered.start) c.in-Err-settle_all.stop c.stopped.result c.in-Ok-entered.ensures.ok.unsettled c.in-Ok-entered.ensures.ok.ruled c.in-Err-settle_all.ensures.stop c.stopped.ensures
+    (state_of c.in-Ok-entered.start) c.in-Err-settle_all.stop c.stopped.result c.in-Ok-entered.ensures.ok.unsettled c.in-Ok-entered.ensures.ok.ruled
+    c.in-Err-settle_all.ensures.stop c.stopped.ensures
 
 pub returns-clause-by_rule : goal.returns-clause-by_rule
 returns-clause-by_rule c =
@@ -65,4 +79,5 @@ returns-clause-by_rule c =
     (state_of c.in-Ok-settle_all.run') c.requires c.in-Ok-entered.ensures.ok done in
     ruled_tails_stop c.args.strategy c.args.job.now.order.now c.args.job.now.n c.args.job.now.set.now c.args.job.now.pairs
     (state_of c.in-Ok-settle_all.run') c.new-members.result c.in-Err-interreduced.refusal c.refused-in-Err-interreduced.result
-    (done.settling.ruled c.args.strategy c.args.job.now.set.now c.in-Ok-entered.ensures.ok.ruled) done.none e.work c.new-members.ensures c.in-Err-interreduced.ensures.cause c.refused-in-Err-interreduced.ensures
+    (done.settling.ruled c.args.strategy c.args.job.now.set.now c.in-Ok-entered.ensures.ok.ruled) done.none e.work c.new-members.ensures
+    c.in-Err-interreduced.ensures.cause c.refused-in-Err-interreduced.ensures

@@ -5,7 +5,8 @@ use Rattle.gf_buchberger.specs.Runs.{State, IsAppendable}
 use Rattle.gf_buchberger.proofs.generators.left_of_entry.Goals as goal
 
 pub left_in_wide_run-requires-clause-variables : goal.left_in_wide_run-requires-clause-variables
-left_in_wide_run-requires-clause-variables c = subst (λ (s : State). IsAppendable c.args.order.now c.args.f.now s.members) (sym c.narrow_left.ensures.same) c.requires.variables
+left_in_wide_run-requires-clause-variables c = subst (λ (s : State). IsAppendable c.args.order.now c.args.f.now s.members) (sym c.narrow_left.ensures.same)
+    c.requires.variables
 
 pub left_in_wide_run-requires-clause-marked : goal.left_in_wide_run-requires-clause-marked
 left_in_wide_run-requires-clause-marked c = subst (λ (s : State). HasSomeWeight s.members) (sym c.narrow_left.ensures.same) c.requires.marked

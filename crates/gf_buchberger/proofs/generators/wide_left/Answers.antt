@@ -8,12 +8,15 @@ pub wide_remainder-requires-clause-marked : goal.wide_remainder-requires-clause-
 wide_remainder-requires-clause-marked c = subst HasSomeWeight (sym c.deref.ensures.value) c.requires.marked
 
 pub wide_remainder-requires-clause-variables : goal.wide_remainder-requires-clause-variables
-wide_remainder-requires-clause-variables c = entry_variables c.args.order.now c.args.run.now.members.items c.deref.result.now c.args.f.now c.args.f.now c.deref.ensures.value refl c.requires.variables
+wide_remainder-requires-clause-variables c = entry_variables c.args.order.now c.args.run.now.members.items c.deref.result.now c.args.f.now c.args.f.now
+    c.deref.ensures.value refl c.requires.variables
 
 pub left_of_wide-requires : goal.left_of_wide-requires
-left_of_wide-requires c = left_comparable c.args.order.now c.args.run.now.members.items c.args.f.now c.args.f.now c.in_ok-r.r refl c.requires.variables c.in_ok-r.ensures.variables
+left_of_wide-requires c = left_comparable c.args.order.now c.args.run.now.members.items c.args.f.now c.args.f.now c.in_ok-r.r refl c.requires.variables
+    c.in_ok-r.ensures.variables
 
 pub returns : goal.returns
 returns c =
     if_entry_left c.args.order.now
-    (state_of c.args.run.now) c.deref.result.now c.args.f.now c.args.f.now c.in_ok-r.r c.left_of_wide.result c.deref.ensures.value refl c.in_ok-r.ensures.value c.in_ok-r.ensures.normal_form c.in_ok-r.ensures.variables c.left_of_wide.ensures
+    (state_of c.args.run.now) c.deref.result.now c.args.f.now c.args.f.now c.in_ok-r.r c.left_of_wide.result c.deref.ensures.value refl c.in_ok-r.ensures.value
+    c.in_ok-r.ensures.normal_form c.in_ok-r.ensures.variables c.left_of_wide.ensures

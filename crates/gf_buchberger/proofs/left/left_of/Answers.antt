@@ -14,7 +14,12 @@ leading-at-requires-clause-some c = some_left c.args.r c.terms.result.now c.term
 pub returns-in_err-member-clause-cause : goal.returns-in_err-member-clause-cause
 returns-in_err-member-clause-cause c =
     let p = err_from_is_err_and c.from_residual.result c.from_residual.ensures.1 in
-    rw (p.1, p.2) (append_refused c.args.order.now _ _ _ _ _ c.requires c.terms.ensures.value c.terms.ensures.descending c.leading-at.ensures.inside c.leading-at.ensures.greatest c.mark.ensures c.in_err-member.ensures.cause)
+    rw (p.1, p.2) (append_refused c.args.order.now _ _ _ _ _ c.requires c.terms.ensures.value c.terms.ensures.descending c.leading-at.ensures.inside
+    c.leading-at.ensures.greatest c.mark.ensures c.in_err-member.ensures.cause)
 
 pub returns-clause-ok : goal.returns-clause-ok
-returns-clause-ok c = (λ z. (let q = c.is_zero.ensures.1 z in cc), monic_member c.args.order.now _ _ _ _ _ c.requires c.terms.ensures.value c.terms.ensures.descending c.leading-at.ensures.inside c.leading-at.ensures.greatest c.mark.ensures c.in_ok-member.ensures.value)
+returns-clause-ok c = (
+  λ z. (let q = c.is_zero.ensures.1 z in cc),
+  monic_member c.args.order.now _ _ _ _ _ c.requires c.terms.ensures.value
+      c.terms.ensures.descending c.leading-at.ensures.inside c.leading-at.ensures.greatest c.mark.ensures c.in_ok-member.ensures.value,
+)

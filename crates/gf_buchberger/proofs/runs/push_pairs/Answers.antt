@@ -7,7 +7,9 @@ pub members-init : goal.members-init
 members-init c = pushed_none _ _ _ _ _
 
 pub key-requires : goal.key-requires
-key-requires c = join_entries _ _ _ _ _ _ _ _ _ c.requires.comparable (mark_at _ _ _ _ (omega (arith, c.requires.inside, c.members-test.true)) c.index-members-i.is c.head.ensures.value) (mark_at _ _ _ _ c.requires.inside c.index-members-second.is c.head-head.ensures.value) c.lcm-multiple.ensures
+key-requires c = join_entries _ _ _ _ _ _ _ _ _ c.requires.comparable
+    (mark_at _ _ _ _ (omega (arith, c.requires.inside, c.members-test.true)) c.index-members-i.is c.head.ensures.value)
+    (mark_at _ _ _ _ c.requires.inside c.index-members-second.is c.head-head.ensures.value) c.lcm-multiple.ensures
 
 pub members-preserved-then-covers : goal.members-preserved-then-covers
 members-preserved-then-covers c = passed_more _ _ _ _ _ _ _ (c.covers.ensures c.if-covers.true) c.members.invariant
@@ -18,4 +20,8 @@ members-preserved c =
     multiple_of_marks _ _ _ _ _ _ _ _ (mark_at _ _ _ _ (omega (arith, c.requires.inside, c.members-test.true)) c.index-members-i.is c.head.ensures.value)
     (mark_at _ _ _ _ c.requires.inside c.index-members-second.is c.head-head.ensures.value) c.lcm-multiple.ensures in
     pushed_more _ _ _ _ _ _ _ _ _ refl refl
-    (record { multiple = _; is = multiple; key = record { excess = _; degree = c.key.ensures.degree; level = c.key.ensures.level; exponents = c.key.ensures.exponents } }) c.in_ok-push.ensures.ok c.members.invariant
+    (record {
+      multiple = _;
+      is = multiple;
+      key = record { excess = _; degree = c.key.ensures.degree; level = c.key.ensures.level; exponents = c.key.ensures.exponents };
+    }) c.in_ok-push.ensures.ok c.members.invariant

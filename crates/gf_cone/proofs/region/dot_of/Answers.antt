@@ -15,6 +15,10 @@ entries-preserved c =
     let fy : FitsSigned w128 (get_or ys i (pos 0)) = search rules in
     let fz : FitsSigned w128 z = fits_signed_from_abs w128 z (product_fits z c.product-sum.ensures.small) in
     let s = sum_small i sum z c.entries.invariant.1 c.product-sum.ensures.small in
-    let fs : FitsSigned w128 (sum +ℤ z) = fits_signed_from_abs w128 (sum +ℤ z) (sum_fits i _ (sum +ℤ z) (omega (arith, c.entries-test.true, c.requires.width)) c.requires.few s) in
-    rw (to_z-of_z w128 z fz, to_z-of_z w128 (sum +ℤ z) fs)
-    (dot_step xs ys i sum z _ _ c.entries-test.true (omega (arith, c.entries-test.true, c.requires.width)) (to_z-of_z w128 _ fx) (to_z-of_z w128 _ fy) c.product-sum.ensures.value c.entries.invariant.0, s)
+    let fs : FitsSigned w128 (sum +ℤ z) =
+    fits_signed_from_abs w128 (sum +ℤ z) (sum_fits i _ (sum +ℤ z) (omega (arith, c.entries-test.true, c.requires.width)) c.requires.few s) in
+    rw (to_z-of_z w128 z fz, to_z-of_z w128 (sum +ℤ z) fs) (
+      dot_step xs ys i sum z _ _ c.entries-test.true (omega (arith, c.entries-test.true, c.requires.width)) (to_z-of_z w128 _ fx) (to_z-of_z w128 _ fy)
+          c.product-sum.ensures.value c.entries.invariant.0,
+      s,
+    )

@@ -5,7 +5,8 @@ use Rattle.gf_cone.proofs.spans.is_share.Goals as goal
 
 pub returns : goal.returns
 returns c = λ t. record {
-  inside = place_in_all c.args.cone.now c.kept-kept.result.now c.args.share.place c.kept-kept.ensures.value (inr (omega (arith, c.if-share-kept-2.false, c.variables.ensures)));
+  inside = place_in_all c.args.cone.now c.kept-kept.result.now c.args.share.place c.kept-kept.ensures.value
+      (inr (omega (arith, c.if-share-kept-2.false, c.variables.ensures)));
   other = c.if-share-place.false;
   least = omega (arith, ints, c.if-share-lt0.false);
 }

@@ -4,7 +4,9 @@ use Rattle.gf_frac.proofs.FractionLaws.{one-*ℚ, *ℚ-one, Decides-fraction_eq}
 use Rattle.gf_division.proofs.dividend.product.Goals as goal
 
 pub returns-then-eq-clause-value : goal.returns-then-eq-clause-value
-returns-then-eq-clause-value c = let e = (Decides-fraction_eq c.args.a.now _).0 (sym c.if-eq.ensures) in sym (ap (λ z. z *ℚ c.args.b.now) e ∙ one-*ℚ c.args.b.now)
+returns-then-eq-clause-value c = let e = (Decides-fraction_eq c.args.a.now _).0 (sym c.if-eq.ensures) in
+    sym (ap (λ z. z *ℚ c.args.b.now) e ∙ one-*ℚ c.args.b.now)
 
 pub returns-then-eq-2-clause-value : goal.returns-then-eq-2-clause-value
-returns-then-eq-2-clause-value c = let e = (Decides-fraction_eq c.args.b.now _).0 (sym c.if-eq-2.ensures) in sym (ap (λ z. c.args.a.now *ℚ z) e ∙ *ℚ-one c.args.a.now)
+returns-then-eq-2-clause-value c = let e = (Decides-fraction_eq c.args.b.now _).0 (sym c.if-eq-2.ensures) in
+    sym (ap (λ z. c.args.a.now *ℚ z) e ∙ *ℚ-one c.args.a.now)

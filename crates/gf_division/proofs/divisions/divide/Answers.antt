@@ -13,16 +13,25 @@ divided-requires-clause-variables c = same_variables _ _ _ _ _ c.in_ok-copy.ensu
 pub returns-in_err-sums-clause-cause : goal.returns-in_err-sums-clause-cause
 returns-in_err-sums-clause-cause c =
     let p = err_from_is_err_and c.from_residual-in_err-sums.result c.from_residual-in_err-sums.ensures.1 in
-    rw (p.1, p.2) (sums_refused c.args.by.now.items c.items.result.now c.args.f.now c.in_ok-copy.field-0 c.in_ok-remainder.remainder (lists_of c.in_ok-remainder.quotients.items) c.in_err-sums.field-0.0 c.items.ensures.value c.in_ok-copy.ensures c.in_ok-remainder.ensures.quotients c.in_err-sums.ensures.cause)
+    rw (p.1, p.2) (sums_refused c.args.by.now.items c.items.result.now c.args.f.now c.in_ok-copy.field-0 c.in_ok-remainder.remainder
+    (lists_of c.in_ok-remainder.quotients.items) c.in_err-sums.field-0.0 c.items.ensures.value c.in_ok-copy.ensures c.in_ok-remainder.ensures.quotients
+    c.in_err-sums.ensures.cause)
 
 pub returns-clause-sum : goal.returns-clause-sum
-returns-clause-sum c = sum_at c.args.by.now.items c.items.result.now c.args.f.now c.in_ok-copy.field-0 c.in_ok-remainder.remainder (lists_of c.in_ok-remainder.quotients.items) c.in_ok-sums.field-0.items c.new-cofactors.result c.items.ensures.value c.in_ok-copy.ensures c.new-cofactors.ensures c.in_ok-remainder.ensures.quotients c.in_ok-sums.ensures.value
+returns-clause-sum c = sum_at c.args.by.now.items c.items.result.now c.args.f.now c.in_ok-copy.field-0 c.in_ok-remainder.remainder
+    (lists_of c.in_ok-remainder.quotients.items) c.in_ok-sums.field-0.items c.new-cofactors.result c.items.ensures.value c.in_ok-copy.ensures
+    c.new-cofactors.ensures c.in_ok-remainder.ensures.quotients c.in_ok-sums.ensures.value
 
 pub returns-clause-variables : goal.returns-clause-variables
-returns-clause-variables c = variables_at c.args.by.now.variables c.args.f.now c.in_ok-copy.field-0 c.in_ok-remainder.remainder c.in_ok-copy.ensures c.requires.variables c.in_ok-remainder.ensures.variables
+returns-clause-variables c = variables_at c.args.by.now.variables c.args.f.now c.in_ok-copy.field-0 c.in_ok-remainder.remainder c.in_ok-copy.ensures
+    c.requires.variables c.in_ok-remainder.ensures.variables
 
 pub returns-clause-places : goal.returns-clause-places
-returns-clause-places c = places_at c.args.by.now.items c.items.result.now c.args.f.now c.in_ok-copy.field-0 c.in_ok-remainder.remainder (lists_of c.in_ok-remainder.quotients.items) c.in_ok-sums.field-0.items c.new-cofactors.result c.items.ensures.value c.in_ok-copy.ensures c.new-cofactors.ensures c.in_ok-remainder.ensures.quotients c.in_ok-sums.ensures.value
+returns-clause-places c = places_at c.args.by.now.items c.items.result.now c.args.f.now c.in_ok-copy.field-0 c.in_ok-remainder.remainder
+    (lists_of c.in_ok-remainder.quotients.items) c.in_ok-sums.field-0.items c.new-cofactors.result c.items.ensures.value c.in_ok-copy.ensures
+    c.new-cofactors.ensures c.in_ok-remainder.ensures.quotients c.in_ok-sums.ensures.value
 
 pub returns-clause-forms : goal.returns-clause-forms
-returns-clause-forms c = forms_at c.args.by.now.variables c.args.f.now c.in_ok-copy.field-0 (lists_of c.in_ok-remainder.quotients.items) c.in_ok-sums.field-0.items c.new-cofactors.result c.in_ok-copy.ensures c.new-cofactors.ensures c.requires.variables c.in_ok-remainder.ensures.forms c.in_ok-sums.ensures.forms
+returns-clause-forms c = forms_at c.args.by.now.variables c.args.f.now c.in_ok-copy.field-0 (lists_of c.in_ok-remainder.quotients.items)
+    c.in_ok-sums.field-0.items c.new-cofactors.result c.in_ok-copy.ensures c.new-cofactors.ensures c.requires.variables c.in_ok-remainder.ensures.forms
+    c.in_ok-sums.ensures.forms

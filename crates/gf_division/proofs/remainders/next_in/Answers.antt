@@ -9,9 +9,11 @@ use Rattle.gf_division.proofs.remainders.next_in.Goals as goal
 pub reducer_of-requires-clause-members : goal.reducer_of-requires-clause-members
 reducer_of-requires-clause-members c =
     let v = subst (λ (s : Split). IsSound c.requires.variables.n s) (sym (c.foremost.ensures ∙ c.waiting.invariant)) c.requires.variables.sound in
-    subst (λ (k : ℕ). HaveVariables k c.args.by.now) (sym (cut_length c.requires.variables.n (joined_terms (table_of c.foremost.new.self)) c.in-Some-term_at.t v c.in-Some-term_at.ensures)) c.requires.variables.members
+    subst (λ (k : ℕ). HaveVariables k c.args.by.now) (sym (cut_length c.requires.variables.n (joined_terms (table_of c.foremost.new.self))
+    c.in-Some-term_at.t v c.in-Some-term_at.ensures)) c.requires.variables.members
 
 pub reducer_of-requires-clause-spare : goal.reducer_of-requires-clause-spare
 reducer_of-requires-clause-spare c =
     let v = subst (λ (s : Split). IsSound c.requires.variables.n s) (sym (c.foremost.ensures ∙ c.waiting.invariant)) c.requires.variables.sound in
-    subst (λ (k : ℕ). IsSpareIn k c.args.spared.now) (sym (cut_length c.requires.variables.n (joined_terms (table_of c.foremost.new.self)) c.in-Some-term_at.t v c.in-Some-term_at.ensures)) c.requires.variables.spare
+    subst (λ (k : ℕ). IsSpareIn k c.args.spared.now) (sym (cut_length c.requires.variables.n (joined_terms (table_of c.foremost.new.self))
+    c.in-Some-term_at.t v c.in-Some-term_at.ensures)) c.requires.variables.spare

@@ -6,7 +6,9 @@ use Rattle.gf_fan.proofs.bits.own_bits.Goals as goal
 pub loop-i-preserved : goal.loop-i-preserved
 loop-i-preserved c =
     let x : ℕ = get_or c.args.numbers.now c.loop-i.i-index 0 in
-    own_more c.args.numbers.now c.loop-i.i-index x x c.loop-i.own c.with_bit-own.result c.loop-i-test.true (get_or_default c.args.numbers.now c.loop-i.i-index 0 x c.loop-i-test.true) refl c.with_bit-own.ensures.set c.with_bit-own.ensures.others c.loop-i.invariant
+    own_more c.args.numbers.now c.loop-i.i-index x x c.loop-i.own c.with_bit-own.result c.loop-i-test.true
+    (get_or_default c.args.numbers.now c.loop-i.i-index 0 x c.loop-i-test.true) refl c.with_bit-own.ensures.set c.with_bit-own.ensures.others
+    c.loop-i.invariant
 
 pub returns : goal.returns
 returns c = own_done c.args.numbers.now c.loop-i.i-index _ c.loop-i-test.false c.loop-i.invariant

@@ -33,7 +33,8 @@ returns-in-Err c =
       count = c.if-rows-cones.false;
       within = within;
       before = c.loop-place.invariant;
-      step = wide_at c.args.n cones rows place c.index-cones-place.result c.index-rows-place.result c.index-cones-place.is c.index-rows-place.is of_cones within c.in-Err.wide c.in-Err.ensures.err;
+      step = wide_at c.args.n cones rows place c.index-cones-place.result c.index-rows-place.result c.index-cones-place.is c.index-rows-place.is of_cones within
+          c.in-Err.wide c.in-Err.ensures.err;
     }) refl
 
 pub loop-place-preserved : goal.loop-place-preserved
@@ -47,7 +48,11 @@ loop-place-preserved c =
     let row = c.index-rows-place.result in
     more_inside c.args.n cones rows place cone row c.index-cones-place.is c.index-rows-place.is of_cones within c.loop-place.invariant
     (inside_at c.args.n cones rows place cone row c.index-cones-place.is c.index-rows-place.is of_cones within
-    (ambient_at c.args.n cones rows place cone row c.index-cones-place.is c.index-rows-place.is of_cones within c.requires.ambient) (c.in-Ok-true.ensures.ok.0 c.in-Ok-true.field-0-test))
+    (ambient_at c.args.n cones rows place cone row c.index-cones-place.is c.index-rows-place.is of_cones within c.requires.ambient)
+    (c.in-Ok-true.ensures.ok.0 c.in-Ok-true.field-0-test))
 
 pub returns : goal.returns
-returns c = record { count = c.if-rows-cones.false; each = λ place l. c.loop-place.invariant place (let last = c.loop-place-test.false in omega (arith, l, last)) }
+returns c = record {
+  count = c.if-rows-cones.false;
+  each = λ place l. c.loop-place.invariant place (let last = c.loop-place-test.false in omega (arith, l, last));
+}

@@ -7,4 +7,5 @@ pub returns-then-not-branch-clause-ok : goal.returns-then-not-branch-clause-ok
 returns-then-not-branch-clause-ok c =
     let v = c.args.v.now in
     let all = c.in_ok-all_positive.field-0 in
-    row_refutes c.args.c.now v all c.requires.proper (subst (λ (rows : List (List ℤ)). IsTrue all ↔ All (λ h. pos 0 <ℤ dot h v) rows) c.inequalities.ensures.value c.in_ok-all_positive.ensures.ok) c.if-not-branch.true
+    row_refutes c.args.c.now v all c.requires.proper (subst (λ (rows : List (List ℤ)). IsTrue all ↔ All (λ h. pos 0 <ℤ dot h v) rows)
+    c.inequalities.ensures.value c.in_ok-all_positive.ensures.ok) c.if-not-branch.true

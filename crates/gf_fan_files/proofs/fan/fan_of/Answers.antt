@@ -17,7 +17,8 @@ pub returns-in_err-fan-clause-err : goal.returns-in_err-fan-clause-err
 returns-in_err-fan-clause-err c =
     let p = err_from_is_err_and c.from_residual-in_err-fan.result c.from_residual-in_err-fan.ensures.1 in
     rw p.1 (fan_refused c.args.file.now c.in_ok-cones.cones.items c.in_err-fan.field-0.0 p.0 c.in_ok-cones.ensures.ok
-    (subst (λ (ks : List RowsAndRays). AreCertified c.args.file.now.ambient ks c.args.file.now.interiors) c.deref.ensures.value c.in_ok-check_interiors.ensures.ok) c.in_err-fan.ensures.err p.2)
+    (subst (λ (ks : List RowsAndRays). AreCertified c.args.file.now.ambient ks c.args.file.now.interiors)
+    c.deref.ensures.value c.in_ok-check_interiors.ensures.ok) c.in_err-fan.ensures.err p.2)
 
 pub returns-in_err-check_interiors-clause-err : goal.returns-in_err-check_interiors-clause-err
 returns-in_err-check_interiors-clause-err c =

@@ -31,9 +31,11 @@ returns-clause-err c = fan_refusal c.args.source.now c.in_ok-file.file c.fan_of.
 
 pub returns-clause-complete : goal.returns-clause-complete
 returns-clause-complete c = λ f is sound within certified meeting.
-    fan_complete c.args.source.now f c.in_ok-file.file c.fan_of.result is c.in_ok-file.ensures.file within certified meeting c.fan_of.ensures.ok c.fan_of.ensures.err
+    fan_complete c.args.source.now f c.in_ok-file.file c.fan_of.result is c.in_ok-file.ensures.file within certified meeting c.fan_of.ensures.ok
+    c.fan_of.ensures.err
 
 pub returns-clause-always : goal.returns-clause-always
 returns-clause-always c = λ e refused told.
-    always_refused c.args.source.now e c.fan_of.result told refused (fan_said c.args.source.now c.in_ok-file.file c.fan_of.result c.in_ok-file.ensures.file c.in_ok-file.ensures.sound c.fan_of.ensures.ok)
+    always_refused c.args.source.now e c.fan_of.result told refused (fan_said c.args.source.now c.in_ok-file.file c.fan_of.result c.in_ok-file.ensures.file
+    c.in_ok-file.ensures.sound c.fan_of.ensures.ok)
     (fan_refusal c.args.source.now c.in_ok-file.file c.fan_of.result c.in_ok-file.ensures.file c.in_ok-file.ensures.sound c.fan_of.ensures.err)

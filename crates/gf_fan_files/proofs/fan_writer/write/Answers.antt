@@ -12,10 +12,12 @@ pub returns-clause-ok : goal.returns-clause-ok
 returns-clause-ok c =
     let f = c.args.fan.now in
     c.in_ok-text.ensures
-    ∙ ap fan_text (parts_same f c.ambient-2.result c.rays.result.now c.lineality.result.now c.orthogonal.result.now c.deref-2.result.now c.deref-3.result.now c.deref-4.result.now c.ambient-2.ensures c.rays.ensures c.lineality.ensures c.orthogonal.ensures
+    ∙ ap fan_text (parts_same f c.ambient-2.result c.rays.result.now c.lineality.result.now c.orthogonal.result.now c.deref-2.result.now c.deref-3.result.now
+    c.deref-4.result.now c.ambient-2.ensures c.rays.ensures c.lineality.ensures c.orthogonal.ensures
     (c.deref-2.ensures.value ∙ c.in_ok-cones.ensures ∙ ap listed_cones c.cones.ensures.value)
     (c.deref-3.ensures.value ∙ c.in_ok-maximal.ensures ∙ ap₂ listed_at c.cones-2.ensures.value c.maximal.ensures)
     (c.deref-4.ensures.value ∙ c.in_ok-interiors.ensures.ok))
 
 pub rows_are_writable-requires : goal.rows_are_writable-requires
-rows_are_writable-requires c = fan_interiors c.args.fan.now c.ambient.result c.deref.result.now c.cones.ensures.fan c.ambient.ensures (c.deref.ensures.value ∙ c.in_ok-interiors.ensures.ok)
+rows_are_writable-requires c = fan_interiors c.args.fan.now c.ambient.result c.deref.result.now c.cones.ensures.fan c.ambient.ensures
+    (c.deref.ensures.value ∙ c.in_ok-interiors.ensures.ok)

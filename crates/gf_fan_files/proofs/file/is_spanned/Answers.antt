@@ -7,7 +7,8 @@ use Rattle.gf_fan_files.proofs.file.is_spanned.Goals as goal
 pub returns-in-Point-clause-ok : goal.returns-in-Point-clause-ok
 returns-in-Point-clause-ok c =
     let s = subst (IsAlternative c.args.n c.from_ref.result.now c.args.span.now) c.in-Point.is c.in_ok-strict.ensures.ok in
-    outside_by c.args.n c.args.span.now c.args.vector.now c.in-Point.field-0 c.requires.span (subst (λ (rows : List (List ℤ)). IsSolution c.args.n rows c.args.span.now c.in-Point.field-0) c.from_ref.ensures.value s)
+    outside_by c.args.n c.args.span.now c.args.vector.now c.in-Point.field-0 c.requires.span
+    (subst (λ (rows : List (List ℤ)). IsSolution c.args.n rows c.args.span.now c.in-Point.field-0) c.from_ref.ensures.value s)
 
 pub returns-clause-ok : goal.returns-clause-ok
 returns-clause-ok c =

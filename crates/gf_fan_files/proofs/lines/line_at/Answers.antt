@@ -14,7 +14,8 @@ returns-clause-line c =
     (c.line_length-whole.ensures.size ∙ ap (λ l. length (take_while goes_on_line l)) rest)
     (c.text_length-text.ensures.size ∙ ap (λ l. length (take_while is_no_comment (take whole l))) rest)
     (length source)
-    (let size : length (take (length source - at) (drop at source)) ≡ length source - at = ap length rest ∙ length-drop at source in let k = c.if-whole-rest.false in let within = c.requires in omega arith)
+    (let size : length (take (length source - at) (drop at source)) ≡ length source - at = ap length rest ∙ length-drop at source in let k =
+    c.if-whole-rest.false in let within = c.requires in omega arith)
 
 pub returns-then-whole-rest-clause-line : goal.returns-then-whole-rest-clause-line
 returns-then-whole-rest-clause-line c =
@@ -26,4 +27,5 @@ returns-then-whole-rest-clause-line c =
     (c.line_length-whole.ensures.size ∙ ap (λ l. length (take_while goes_on_line l)) rest)
     (c.text_length-text.ensures.size ∙ ap (λ l. length (take_while is_no_comment (take whole l))) rest)
     (at + whole + 1)
-    (let size : length (take (length source - at) (drop at source)) ≡ length source - at = ap length rest ∙ length-drop at source in let k = c.if-whole-rest.true in let within = c.requires in omega arith)
+    (let size : length (take (length source - at) (drop at source)) ≡ length source - at = ap length rest ∙ length-drop at source in let k =
+    c.if-whole-rest.true in let within = c.requires in omega arith)

@@ -11,5 +11,8 @@ returns-in_default-word_from-clause-line c =
     let s = sections_from source c.args.next in
     let w = c.in-Some.ensures.within in
     c.requires.line
-    ∙ is_name source c.args.from c.args.end s (lexeme (take c.args.end source) c.in-Some.start c.in-Some.behind) (lexemes word_more (take c.args.end source) c.in-Some.behind) c.in-Some.ensures.token c.in_default-word_from.ensures.token (sym c.is_section_name.ensures ∙ c.if-not-is_section_name.false)
-    ∙ ap (λ x. with_name x s) (cut_lexeme source c.args.end c.in-Some.start c.in-Some.behind (let rises = w.1 in omega arith) (let fits = w.2 in let size = length-take c.args.end source in omega arith))
+    ∙ is_name source c.args.from c.args.end s (lexeme (take c.args.end source) c.in-Some.start c.in-Some.behind)
+    (lexemes word_more (take c.args.end source) c.in-Some.behind) c.in-Some.ensures.token c.in_default-word_from.ensures.token
+    (sym c.is_section_name.ensures ∙ c.if-not-is_section_name.false)
+    ∙ ap (λ x. with_name x s) (cut_lexeme source c.args.end c.in-Some.start c.in-Some.behind (let rises = w.1 in omega arith) (let fits = w.2 in let size =
+    length-take c.args.end source in omega arith))

@@ -14,7 +14,9 @@ returns-in_default-token_at c =
     let source = c.args.source.now in
     let l = c.loop-token in
     let content = content_from source c.args.from in
-    read_ended number_step (λ n. the_number n) (length source) (content_read (length source) (number_to c.args.limit) content) Unread content (below_read (length source) c.args.limit content l.invariant.below) l.state (tokens_left source l.place) l.invariant.same c.refused.result c.in_default-token_at.ensures.token c.refused.ensures
+    read_ended number_step (λ n. the_number n) (length source) (content_read (length source) (number_to c.args.limit) content) Unread content
+    (below_read (length source) c.args.limit content l.invariant.below) l.state (tokens_left source l.place) l.invariant.same c.refused.result
+    c.in_default-token_at.ensures.token c.refused.ensures
 
 pub returns-in-Halt : goal.returns-in-Halt
 returns-in-Halt c =
@@ -22,8 +24,10 @@ returns-in-Halt c =
     let l = c.loop-token in
     let content = content_from source c.args.from in
     let stops = ap (number_step l.state) (sym c.text_of.ensures) ∙ sym c.step-taken.ensures ∙ ap (λ m. number_move m) c.in-Halt.is in
-    read_halted number_step (λ n. the_number n) (length source) (content_read (length source) (number_to c.args.limit) content) Unread content (below_read (length source) c.args.limit content l.invariant.below) l.state (tokens_left source l.place) l.invariant.same
-    (lexeme_of source c.in-Some-token_at.token) (tokens_left source c.in-Some-token_at.rest) c.in-Some-token_at.ensures.token c.refused-in-Halt.result c.place_of.result c.in-Halt.reason stops (c.place_of.ensures source) c.refused-in-Halt.ensures
+    read_halted number_step (λ n. the_number n) (length source) (content_read (length source) (number_to c.args.limit) content) Unread content
+    (below_read (length source) c.args.limit content l.invariant.below) l.state (tokens_left source l.place) l.invariant.same
+    (lexeme_of source c.in-Some-token_at.token) (tokens_left source c.in-Some-token_at.rest) c.in-Some-token_at.ensures.token c.refused-in-Halt.result
+    c.place_of.result c.in-Halt.reason stops (c.place_of.ensures source) c.refused-in-Halt.ensures
 
 pub returns-in-Done : goal.returns-in-Done
 returns-in-Done c =
@@ -31,7 +35,8 @@ returns-in-Done c =
     let l = c.loop-token in
     let content = content_from source c.args.from in
     let ends = ap (number_step l.state) (sym c.text_of.ensures) ∙ sym c.step-taken.ensures ∙ ap (λ m. number_move m) c.in-Done.is in
-    read_done number_step (λ n. the_number n) (length source) (content_read (length source) (number_to c.args.limit) content) Unread content (below_read (length source) c.args.limit content l.invariant.below) l.state (tokens_left source l.place) l.invariant.same
+    read_done number_step (λ n. the_number n) (length source) (content_read (length source) (number_to c.args.limit) content) Unread content
+    (below_read (length source) c.args.limit content l.invariant.below) l.state (tokens_left source l.place) l.invariant.same
     (lexeme_of source c.in-Some-token_at.token) (tokens_left source c.in-Some-token_at.rest) c.in-Some-token_at.ensures.token c.in-Done.n ends
 
 pub loop-token-preserved : goal.loop-token-preserved
@@ -42,5 +47,6 @@ loop-token-preserved c =
     record {
       within = c.in-Some-token_at.ensures.rest;
       below = l.invariant.below;
-      same = sym (run_go number_step l.state c.in-Go.next (length source) (tokens_left source l.place) (lexeme_of source c.in-Some-token_at.token) (tokens_left source c.in-Some-token_at.rest) c.in-Some-token_at.ensures.token goes) ∙ l.invariant.same;
+      same = sym (run_go number_step l.state c.in-Go.next (length source) (tokens_left source l.place) (lexeme_of source c.in-Some-token_at.token)
+          (tokens_left source c.in-Some-token_at.rest) c.in-Some-token_at.ensures.token goes) ∙ l.invariant.same;
     }

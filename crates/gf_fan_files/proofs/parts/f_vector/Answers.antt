@@ -7,7 +7,8 @@ use Rattle.gf_fan_files.proofs.parts.f_vector.Goals as goal
 
 pub loop-dim-preserved : goal.loop-dim-preserved
 loop-dim-preserved c =
-    counts_more (count_of c.args.cones.now) c.args.low c.loop-dim.dim c.count_of.result c.loop-dim.counts.items c.push.new.self.items c.loop-dim.auto.dim c.loop-dim.invariant c.count_of.ensures c.in_ok-push.ensures.items
+    counts_more (count_of c.args.cones.now) c.args.low c.loop-dim.dim c.count_of.result c.loop-dim.counts.items c.push.new.self.items c.loop-dim.auto.dim
+    c.loop-dim.invariant c.count_of.ensures c.in_ok-push.ensures.items
 
 pub returns : goal.returns
 returns c =

@@ -10,7 +10,8 @@ abbrev pub invariant-loop-token : goal.invariant-loop-token
 invariant-loop-token l = record {
   within : IsPlaceWithin l.source l.place;
   range : All InRange l.row.items;
-  same : run row_step (row_state l.rows.items l.row.items l.minus) (length l.source) (tokens_left l.source l.place) ≡ run row_step row_start (length l.source) (content_from l.source l.from);
+  same : run row_step (row_state l.rows.items l.row.items l.minus) (length l.source) (tokens_left l.source l.place) ≡ run row_step row_start (length l.source)
+      (content_from l.source l.from);
 }
 
 abbrev pub decreases-loop-token : goal.decreases-loop-token

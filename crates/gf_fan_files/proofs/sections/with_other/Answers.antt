@@ -9,7 +9,8 @@ returns-then-eq c =
     let source = c.args.source.now in
     let name = c.args.name.now in
     let is : bytes_eq file_version name ≡ true = search rules in
-    version_section (length source) name (content_from source c.args.from) c.args.contents c.requires.ambient c.requires.rays c.requires.lineality c.requires.cones is c.with_version.result c.with_version.ensures
+    version_section (length source) name (content_from source c.args.from) c.args.contents c.requires.ambient c.requires.rays c.requires.lineality
+    c.requires.cones is c.with_version.result c.with_version.ensures
 
 pub returns-then-eq-2 : goal.returns-then-eq-2
 returns-then-eq-2 c =
@@ -17,7 +18,8 @@ returns-then-eq-2 c =
     let name = c.args.name.now in
     let no : bytes_eq file_version name ≡ false = search rules in
     let is : bytes_eq maximal_interiors name ≡ true = search rules in
-    interiors_section (length source) name (content_from source c.args.from) c.args.contents c.requires.ambient c.requires.rays c.requires.lineality c.requires.cones no is c.with_interiors.result c.with_interiors.ensures
+    interiors_section (length source) name (content_from source c.args.from) c.args.contents c.requires.ambient c.requires.rays c.requires.lineality
+    c.requires.cones no is c.with_interiors.result c.with_interiors.ensures
 
 pub returns : goal.returns
 returns c =
@@ -25,4 +27,5 @@ returns c =
     let name = c.args.name.now in
     let no : bytes_eq file_version name ≡ false = search rules in
     let none : bytes_eq maximal_interiors name ≡ false = search rules in
-    other_section (length source) name (content_from source c.args.from) c.args.contents c.requires.ambient c.requires.rays c.requires.lineality c.requires.cones no none
+    other_section (length source) name (content_from source c.args.from) c.args.contents c.requires.ambient c.requires.rays c.requires.lineality
+    c.requires.cones no none

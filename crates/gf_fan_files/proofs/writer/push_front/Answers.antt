@@ -6,7 +6,15 @@ use Rattle.gf_fan_files.proofs.writer.push_front.Goals as goal
 
 pub returns : goal.returns
 returns c =
-    let p : FanWords = record { ambient = c.parts.inside.ambient; rays = c.parts.inside.rays.now; lineality = c.parts.inside.lineality.now; orthogonal = c.parts.inside.orthogonal.now; cones = c.parts.inside.cones.now; maximal = c.parts.inside.maximal.now; interiors = c.parts.inside.interiors.now } in
+    let p : FanWords = record {
+      ambient = c.parts.inside.ambient;
+      rays = c.parts.inside.rays.now;
+      lineality = c.parts.inside.lineality.now;
+      orthogonal = c.parts.inside.orthogonal.now;
+      cones = c.parts.inside.cones.now;
+      maximal = c.parts.inside.maximal.now;
+      interiors = c.parts.inside.interiors.now;
+    } in
     let same : p ≡ c.args.parts.now = c.parts.view_is in
     let front = c.args.out.now.items in
     let v : TextSection = section file_version (decimal 2 ∷ []) in
@@ -24,4 +32,5 @@ returns c =
     let at_e = one_more front _ _ (v ∷ a ∷ b ∷ d ∷ []) e at_d c.in_ok-push_rays_section.ensures in
     let at_f = one_more front _ _ (v ∷ a ∷ b ∷ d ∷ e ∷ []) f at_e c.in_ok-push_number_section-4.ensures in
     let at_g = one_more front _ _ (v ∷ a ∷ b ∷ d ∷ e ∷ f ∷ []) g at_f c.in_ok-push_rows_section.ensures in
-    one_more front _ _ (v ∷ a ∷ b ∷ d ∷ e ∷ f ∷ g ∷ []) h at_g c.in_ok-push_rows_section-2.ensures ∙ ap (λ (q : FanWords). front ++ sections_text (front_sections q)) same
+    one_more front _ _ (v ∷ a ∷ b ∷ d ∷ e ∷ f ∷ g ∷ []) h at_g c.in_ok-push_rows_section-2.ensures ∙
+    ap (λ (q : FanWords). front ++ sections_text (front_sections q)) same

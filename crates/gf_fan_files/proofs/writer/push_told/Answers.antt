@@ -6,4 +6,5 @@ use Rattle.gf_fan_files.proofs.writer.push_told.Goals as goal
 pub returns : goal.returns
 returns c =
     three_parts c.args.out.now.items (cone_text c.args.cone.now.rays) (comment (codes "Dimension ")) (decimal c.args.cone.now.dim) _ _ _
-    c.in_ok-push_bare.ensures c.in_ok-extend_from_slice.ensures.items (c.in_ok-push_number.ensures ∙ ap (λ n. c.extend_from_slice.new.self.items ++ decimal n) c.from.ensures)
+    c.in_ok-push_bare.ensures c.in_ok-extend_from_slice.ensures.items (c.in_ok-push_number.ensures ∙ ap (λ n. c.extend_from_slice.new.self.items ++ decimal n)
+    c.from.ensures)

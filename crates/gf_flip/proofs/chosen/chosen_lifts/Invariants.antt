@@ -6,12 +6,14 @@ use Rattle.gf_flip.proofs.chosen.chosen_lifts.Given as goal
 
 abbrev pub invariant-marks : goal.invariant-marks
 invariant-marks l = record {
-  lifted : AreLiftedTo (length l.ground.normal.now) l.ground.by.now l.ground.normal.now (with_monomials l.ground.marks.now (line_members l.ground.normal.now l.lines)) l.flags l.i l.lifts.members.items l.lifts.copied.items;
+  lifted : AreLiftedTo (length l.ground.normal.now) l.ground.by.now l.ground.normal.now (with_monomials l.ground.marks.now
+      (line_members l.ground.normal.now l.lines)) l.flags l.i l.lifts.members.items l.lifts.copied.items;
   within : l.i ≤ length l.ground.marks.now;
 }
 
 abbrev pub invariant-lines : goal.invariant-lines
 invariant-lines l = record {
-  lifted : AreLiftedTo (length l.ground.normal.now) l.ground.by.now l.ground.normal.now (with_monomials l.ground.marks.now (line_members l.ground.normal.now l.lines)) l.flags (l.first + l.j) l.lifts.members.items l.lifts.copied.items;
+  lifted : AreLiftedTo (length l.ground.normal.now) l.ground.by.now l.ground.normal.now (with_monomials l.ground.marks.now
+      (line_members l.ground.normal.now l.lines)) l.flags (l.first + l.j) l.lifts.members.items l.lifts.copied.items;
   within : l.j ≤ length l.lines;
 }

@@ -13,6 +13,10 @@ returns c =
     let fx : FitsSigned w128 c.quotient.result = search rules in
     let fy : FitsSigned w128 c.quotient-2.result = search rules in
     let fn : FitsSigned w128 c.in-Some.numerator = search rules in
-    let eg : c.common-g.result ≡ gcd (unsigned_abs c.args.a) c.args.d = c.common-g.ensures.value ∙ ap (λ z. gcd z c.args.d) (c.unsigned_abs.ensures.value ∙ ap unsigned_abs (to_z-of_z w128 _ fa)) in
-    let eh : c.common-h.result ≡ gcd (unsigned_abs c.args.c) c.args.b = c.common-h.ensures.value ∙ ap (λ z. gcd z c.args.b) (c.unsigned_abs-2.ensures.value ∙ ap unsigned_abs (to_z-of_z w128 _ fc)) in
-    rw (to_z-of_z w128 _ fn) (product_made c.args.a c.args.c _ _ _ _ _ _ _ _ _ _ c.requires.left c.requires.right eg eh (simp to_z-of_z at c.quotient.ensures) (simp to_z-of_z at c.quotient-2.ensures) (simp to_z-of_z at c.in-Some.ensures) c.natural_quotient.ensures c.natural_quotient-2.ensures c.in-Some-common_multiple.ensures)
+    let eg : c.common-g.result ≡ gcd (unsigned_abs c.args.a) c.args.d =
+    c.common-g.ensures.value ∙ ap (λ z. gcd z c.args.d) (c.unsigned_abs.ensures.value ∙ ap unsigned_abs (to_z-of_z w128 _ fa)) in
+    let eh : c.common-h.result ≡ gcd (unsigned_abs c.args.c) c.args.b =
+    c.common-h.ensures.value ∙ ap (λ z. gcd z c.args.b) (c.unsigned_abs-2.ensures.value ∙ ap unsigned_abs (to_z-of_z w128 _ fc)) in
+    rw (to_z-of_z w128 _ fn) (product_made c.args.a c.args.c _ _ _ _ _ _ _ _ _ _ c.requires.left c.requires.right eg eh (simp to_z-of_z at c.quotient.ensures)
+    (simp to_z-of_z at c.quotient-2.ensures) (simp to_z-of_z at c.in-Some.ensures) c.natural_quotient.ensures c.natural_quotient-2.ensures
+    c.in-Some-common_multiple.ensures)

@@ -18,7 +18,12 @@ worked a c l r n b d g s t m eg es et hl hr hn hm =
     let en : n ≡ sum_numerator a b c d = hn.0 ∙ ap₂ ◌+ℤ◌ el er in
     let em : m ≡ sum_denominator b d = hm.0 ∙ ap (λ z. b * z) fs in
     record {
-      fits = record { left = subst InRange el hl.1; right = subst InRange er hr.1; sum = subst InRange en hn.1; denominator = subst (λ z. z < 2 ^ 127) em hm.1 };
+      fits = record {
+        left = subst InRange el hl.1;
+        right = subst InRange er hr.1;
+        sum = subst InRange en hn.1;
+        denominator = subst (λ z. z < 2 ^ 127) em hm.1;
+      };
       numerator = en;
       denominator = em;
       divisor = eg;
@@ -31,12 +36,14 @@ sum_in a c l r b d g s t eg es et el er f =
 pub returns-in_default : goal.returns-in_default
 returns-in_default c =
     let fa : FitsSigned w128 c.args.a = c.ranges.a in
-    λ f. (simp to_z-of_z at c.in_default.ensures) (subst (λ z. InRange (c.args.a *ℤ pos z)) (sym (share_of _ _ _ _ c.common-g.ensures.value c.natural_quotient-share.ensures)) f.left)
+    λ f. (simp to_z-of_z at c.in_default.ensures) (subst (λ z. InRange (c.args.a *ℤ pos z))
+    (sym (share_of _ _ _ _ c.common-g.ensures.value c.natural_quotient-share.ensures)) f.left)
 
 pub returns-in_default-scaled : goal.returns-in_default-scaled
 returns-in_default-scaled c =
     let fc : FitsSigned w128 c.args.c = c.ranges.c in
-    λ f. (simp to_z-of_z at c.in_default-scaled.ensures) (subst (λ z. InRange (c.args.c *ℤ pos z)) (sym (share_of _ _ _ _ c.common-g.ensures.value c.natural_quotient.ensures)) f.right)
+    λ f. (simp to_z-of_z at c.in_default-scaled.ensures) (subst (λ z. InRange (c.args.c *ℤ pos z))
+    (sym (share_of _ _ _ _ c.common-g.ensures.value c.natural_quotient.ensures)) f.right)
 
 pub returns-in_default-total : goal.returns-in_default-total
 returns-in_default-total c =
@@ -46,12 +53,18 @@ returns-in_default-total c =
     let fr : FitsSigned w128 c.in-Some-scaled.right = search rules in
     let hl = simp to_z-of_z at c.in-Some.ensures in
     let hr = simp to_z-of_z at c.in-Some-scaled.ensures in
-    λ f. (simp to_z-of_z at c.in_default-total.ensures) (sum_in c.args.a c.args.c _ _ c.args.b c.args.d _ _ _ c.common-g.ensures.value c.natural_quotient-share.ensures c.natural_quotient.ensures hl.0 hr.0 f)
+    λ f. (simp to_z-of_z at c.in_default-total.ensures) (sum_in c.args.a c.args.c _ _ c.args.b c.args.d _ _ _ c.common-g.ensures.value
+    c.natural_quotient-share.ensures c.natural_quotient.ensures hl.0 hr.0 f)
 
 pub returns-in_default-common_multiple : goal.returns-in_default-common_multiple
 returns-in_default-common_multiple c =
     let n = c.in_default-common_multiple.ensures in
-    λ f. absurd (omega (arith, n, subst (λ z. c.args.b * z < 2 ^ 127) (sym (share_of _ _ _ _ c.common-g.ensures.value c.natural_quotient-share.ensures)) f.denominator))
+    λ f. absurd (omega (
+      arith,
+      n,
+      subst (λ z. c.args.b * z < 2 ^ 127) (sym (share_of _ _ _ _ c.common-g.ensures.value c.natural_quotient-share.ensures))
+          f.denominator,
+    ))
 
 pub returns : goal.returns
 returns c =
@@ -60,5 +73,7 @@ returns c =
     let fl : FitsSigned w128 c.in-Some.left = search rules in
     let fr : FitsSigned w128 c.in-Some-scaled.right = search rules in
     let fn : FitsSigned w128 c.in-Some-total.numerator = search rules in
-    rw (to_z-of_z w128 _ fn) (worked c.args.a c.args.c _ _ _ c.args.b c.args.d _ _ _ _ c.common-g.ensures.value c.natural_quotient-share.ensures c.natural_quotient.ensures
-    (simp to_z-of_z at c.in-Some.ensures) (simp to_z-of_z at c.in-Some-scaled.ensures) (simp to_z-of_z at c.in-Some-total.ensures) c.in-Some-common_multiple.ensures)
+    rw (to_z-of_z w128 _ fn) (worked c.args.a c.args.c _ _ _ c.args.b c.args.d _ _ _ _ c.common-g.ensures.value c.natural_quotient-share.ensures
+    c.natural_quotient.ensures
+    (simp to_z-of_z at c.in-Some.ensures) (simp to_z-of_z at c.in-Some-scaled.ensures) (simp to_z-of_z at c.in-Some-total.ensures)
+    c.in-Some-common_multiple.ensures)

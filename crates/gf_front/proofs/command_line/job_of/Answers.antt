@@ -1,6 +1,7 @@
 use Rattle.std.proofs.Common.{refl}
 use Rattle.clap.specs.Words.{found_of, rows_of}
-use Rattle.gf_front.specs.Table.{buchberger, bases, leading_terms, groebner_cone, weight_vector, to_polyhedral_fan, tropical_intersection, fan_common_refinement, generated, saturation, interactive}
+use Rattle.gf_front.specs.Table.{buchberger, bases, leading_terms, groebner_cone, weight_vector, to_polyhedral_fan, tropical_intersection}
+use Rattle.gf_front.specs.Table.{fan_common_refinement, generated, saturation, interactive}
 use Rattle.gf_front.proofs.JobLaws.{choices_hold}
 use Rattle.gf_front.proofs.command_line.job_of.Goals as goal
 

@@ -12,5 +12,6 @@ returns g c =
     let left : to_z w128 (of_z w128 b.left) ≡ b.left = grind (arith, to_z-of_z) in
     let right : to_z w128 (of_z w128 b.right) ≡ b.right = grind (arith, to_z-of_z) in
     told_as c.write_pieces.result _ _ _ _ _ _
-    (ap (λ x. message [] (refusals.ConeOverflow b.row b.op x (to_z w128 (of_z w128 b.right)))) left ∙ ap (λ x. message [] (refusals.ConeOverflow b.row b.op b.left x)) right)
+    (ap (λ x. message [] (refusals.ConeOverflow b.row b.op x (to_z w128 (of_z w128 b.right)))) left ∙
+    ap (λ x. message [] (refusals.ConeOverflow b.row b.op b.left x)) right)
     c.write_pieces.ensures

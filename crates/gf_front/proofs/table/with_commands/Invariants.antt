@@ -8,4 +8,5 @@ use Rattle.gf_front.proofs.table.with_commands.Given as goal
 -- the program has the commands so far
 abbrev pub invariant-loop-name : goal.invariant-loop-name
 invariant-loop-name l =
-    (app_of l.program ≡ fold with_subcommand (app_of l.initial.program) (map listed_shape (take l.name-index l.commands))) × ((fields_of l.program).has_globals ≡ false)
+    (app_of l.program ≡ fold with_subcommand (app_of l.initial.program) (map listed_shape (take l.name-index l.commands))) ×
+    ((fields_of l.program).has_globals ≡ false)

@@ -30,10 +30,12 @@ returns-clause-value c = gcd-same _ _ _ (c.steps.invariant.0 _ (IsGcd-from_zero 
 
 pub returns-in-Ok-Ok-clause-meaning : goal.returns-in-Ok-Ok-clause-meaning
 returns-in-Ok-Ok-clause-meaning c =
-    let here : IsGcd c.steps.x c.steps.y c.from.result = rw (c.from.ensures, sym c.in-Ok-Ok.ensures.1, sym c.in-Ok-Ok.ensures'.1) c.narrow_gcd.ensures.meaning in
+    let here : IsGcd c.steps.x c.steps.y c.from.result = rw (c.from.ensures, sym c.in-Ok-Ok.ensures.1, sym c.in-Ok-Ok.ensures'.1)
+    c.narrow_gcd.ensures.meaning in
     c.steps.invariant.0 _ here
 
 pub returns-in-Ok-Ok-clause-value : goal.returns-in-Ok-Ok-clause-value
 returns-in-Ok-Ok-clause-value c =
-    let here : IsGcd c.steps.x c.steps.y c.from.result = rw (c.from.ensures, sym c.in-Ok-Ok.ensures.1, sym c.in-Ok-Ok.ensures'.1) c.narrow_gcd.ensures.meaning in
+    let here : IsGcd c.steps.x c.steps.y c.from.result = rw (c.from.ensures, sym c.in-Ok-Ok.ensures.1, sym c.in-Ok-Ok.ensures'.1)
+    c.narrow_gcd.ensures.meaning in
     gcd-same _ _ _ (c.steps.invariant.0 _ here)

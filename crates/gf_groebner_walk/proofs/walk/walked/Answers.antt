@@ -15,4 +15,5 @@ pub returns-in-Arrived : goal.returns-in-Arrived
 returns-in-Arrived c = walk_ends c.args.weight.now c.args.start c.steps.here c.in_ok-told.told c.steps.invariant c.in_ok-told.ensures c.in-Arrived.is
 
 pub steps-preserved : goal.steps-preserved
-steps-preserved c = walked_more c.args.weight.now c.args.start c.steps.here c.in-Across.next c.in_ok-told.told c.steps.invariant c.in_ok-told.ensures c.in-Across.is
+steps-preserved c = walked_more c.args.weight.now c.args.start c.steps.here c.in-Across.next c.in_ok-told.told c.steps.invariant c.in_ok-told.ensures
+    c.in-Across.is

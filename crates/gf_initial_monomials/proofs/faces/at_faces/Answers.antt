@@ -29,33 +29,42 @@ pub returns-in_err-v-clause-err : goal.returns-in_err-v-clause-err
 returns-in_err-v-clause-err c =
     let f : Face = c.index-faces-i.result in
     let p = err_from_is_err_and c.from_residual.result c.from_residual.ensures.1 in
-    let w = subst (λ (z : List ℕ). IfWide (λ e. IsFirstWide e (adding_steps (zeros c.args.cone.now.ambient) (numbered c.args.cone.now.rays z))) c.in_err-v.field-0.0) (c.as_slice.ensures ∙ ap (λ (g : Face). g.rays) (sym c.index-faces-i.is)) c.in_err-v.ensures.wide in
-    rw (p.1, p.2) (IsFaceRefusal.at_face f (reached (PassesAt c.args.basis.now.items c.args.cone.now) c.args.faces.now c.faces.i f c.faces-test.true c.index-faces-i.is c.faces.invariant.0) (wide_refused c.args.basis.now.items c.args.cone.now c.args.pairs f _ w))
+    let w = subst (λ (z : List ℕ). IfWide (λ e. IsFirstWide e (adding_steps (zeros c.args.cone.now.ambient) (numbered c.args.cone.now.rays z)))
+    c.in_err-v.field-0.0) (c.as_slice.ensures ∙ ap (λ (g : Face). g.rays) (sym c.index-faces-i.is)) c.in_err-v.ensures.wide in
+    rw (p.1, p.2) (IsFaceRefusal.at_face f (reached (PassesAt c.args.basis.now.items c.args.cone.now) c.args.faces.now c.faces.i f c.faces-test.true
+    c.index-faces-i.is c.faces.invariant.0) (wide_refused c.args.basis.now.items c.args.cone.now c.args.pairs f _ w))
 
 pub returns-in_err-fails-clause-err : goal.returns-in_err-fails-clause-err
 returns-in_err-fails-clause-err c =
     let f : Face = c.index-faces-i.result in
-    let q : c.in_ok-v.v ≡ vector_of c.args.cone.now f = c.in_ok-v.ensures.value ∙ ap (λ (z : List ℕ). sum_of c.args.cone.now.ambient (numbered c.args.cone.now.rays z)) (c.as_slice.ensures ∙ ap (λ (g : Face). g.rays) (sym c.index-faces-i.is)) in
+    let q : c.in_ok-v.v ≡ vector_of c.args.cone.now f = c.in_ok-v.ensures.value ∙ ap (λ (z : List ℕ). sum_of c.args.cone.now.ambient
+    (numbered c.args.cone.now.rays z)) (c.as_slice.ensures ∙ ap (λ (g : Face). g.rays) (sym c.index-faces-i.is)) in
     let p = err_from_is_err_and c.from_residual-in_err-fails.result c.from_residual-in_err-fails.ensures.1 in
     rw p.1 (subst (IsFaceRefusal c.args.basis.now.items c.args.cone.now c.args.faces.now c.args.pairs) (sym p.2)
-    (IsFaceRefusal.at_face f (reached (PassesAt c.args.basis.now.items c.args.cone.now) c.args.faces.now c.faces.i f c.faces-test.true c.index-faces-i.is c.faces.invariant.0)
-    (vector_refused c.args.basis.now.variables c.args.basis.now.items c.args.cone.now c.args.pairs f c.in_ok-v.v _ c.requires.ambient q c.in_err-fails.ensures.err)))
+    (IsFaceRefusal.at_face f (reached (PassesAt c.args.basis.now.items c.args.cone.now) c.args.faces.now c.faces.i f c.faces-test.true c.index-faces-i.is
+    c.faces.invariant.0)
+    (vector_refused c.args.basis.now.variables c.args.basis.now.items c.args.cone.now c.args.pairs f c.in_ok-v.v _ c.requires.ambient q
+    c.in_err-fails.ensures.err)))
 
 pub returns-then-fails-clause-ok : goal.returns-then-fails-clause-ok
 returns-then-fails-clause-ok c =
     let f : Face = c.index-faces-i.result in
-    let q : c.in_ok-v.v ≡ vector_of c.args.cone.now f = c.in_ok-v.ensures.value ∙ ap (λ (z : List ℕ). sum_of c.args.cone.now.ambient (numbered c.args.cone.now.rays z)) (c.as_slice.ensures ∙ ap (λ (g : Face). g.rays) (sym c.index-faces-i.is)) in (
+    let q : c.in_ok-v.v ≡ vector_of c.args.cone.now f = c.in_ok-v.ensures.value ∙ ap (λ (z : List ℕ). sum_of c.args.cone.now.ambient
+    (numbered c.args.cone.now.rays z)) (c.as_slice.ensures ∙ ap (λ (g : Face). g.rays) (sym c.index-faces-i.is)) in (
       f,
       reached (PassesAt c.args.basis.now.items c.args.cone.now) c.args.faces.now c.faces.i f c.faces-test.true c.index-faces-i.is c.faces.invariant.0,
-      fails_by c.args.basis.now.variables c.args.basis.now.items c.args.cone.now f c.in_ok-v.v c.in_ok-fails.fails c.requires.ambient q c.if-fails.true c.in_ok-fails.ensures.ok,
+      fails_by c.args.basis.now.variables c.args.basis.now.items c.args.cone.now f c.in_ok-v.v c.in_ok-fails.fails c.requires.ambient q c.if-fails.true
+          c.in_ok-fails.ensures.ok,
     )
 
 pub faces-preserved : goal.faces-preserved
 faces-preserved c =
     let f : Face = c.index-faces-i.result in
-    let q : c.in_ok-v.v ≡ vector_of c.args.cone.now f = c.in_ok-v.ensures.value ∙ ap (λ (z : List ℕ). sum_of c.args.cone.now.ambient (numbered c.args.cone.now.rays z)) (c.as_slice.ensures ∙ ap (λ (g : Face). g.rays) (sym c.index-faces-i.is)) in (
+    let q : c.in_ok-v.v ≡ vector_of c.args.cone.now f = c.in_ok-v.ensures.value ∙ ap (λ (z : List ℕ). sum_of c.args.cone.now.ambient
+    (numbered c.args.cone.now.rays z)) (c.as_slice.ensures ∙ ap (λ (g : Face). g.rays) (sym c.index-faces-i.is)) in (
       pass_more (PassesAt c.args.basis.now.items c.args.cone.now) c.args.faces.now c.faces.i f c.faces-test.true c.index-faces-i.is
-          (passes_by c.args.basis.now.variables c.args.basis.now.items c.args.cone.now f c.in_ok-v.v c.in_ok-fails.fails c.requires.ambient q c.if-fails.false c.in_ok-fails.ensures.ok) c.faces.invariant.0,
+          (passes_by c.args.basis.now.variables c.args.basis.now.items c.args.cone.now f c.in_ok-v.v c.in_ok-fails.fails c.requires.ambient q c.if-fails.false
+          c.in_ok-fails.ensures.ok) c.faces.invariant.0,
       c.in_ok-fails.ensures.seen ∙ c.faces.invariant.1,
     )
 

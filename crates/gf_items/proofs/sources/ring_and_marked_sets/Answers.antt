@@ -10,13 +10,17 @@ pub returns-in_err-sets-clause-err : goal.returns-in_err-sets-clause-err
 returns-in_err-sets-clause-err c =
     let p = err_from_is_err_and c.from_residual-in_err-sets.result c.from_residual-in_err-sets.ensures.1 in
     rw (p.1, p.2) (items_refused ring_marked_sets c.args.source.now c.new-reader.result c.new-reader.ensures c.in_err-sets.field-0.0
-    (pair_refused a_ring a_list_of_marked_sets_in c.new-reader.result c.read_ring.new.self c.in_ok-ring.ring c.in_ok-ring.ensures.ok c.in_ok-ring.ensures.source c.in_err-sets.field-0.0 c.in_err-sets.ensures.err))
+    (pair_refused a_ring a_list_of_marked_sets_in c.new-reader.result c.read_ring.new.self c.in_ok-ring.ring c.in_ok-ring.ensures.ok c.in_ok-ring.ensures.source
+    c.in_err-sets.field-0.0 c.in_err-sets.ensures.err))
 
 pub returns-in-Err-clause-err : goal.returns-in-Err-clause-err
 returns-in-Err-clause-err c =
-    end_refused ring_marked_sets c.args.source.now c.new-reader.result c.new-reader.ensures c.read_marked_sets.new.self (c.in_ok-sets.ensures.source ∙ c.in_ok-ring.ensures.source) (c.in_ok-ring.ring, c.in_ok-sets.sets.items)
-    (pair_read a_ring a_list_of_marked_sets_in c.new-reader.result c.read_ring.new.self c.in_ok-ring.ring c.in_ok-ring.ensures.ok c.in_ok-ring.ensures.source c.read_marked_sets.new.self.at c.in_ok-sets.sets.items c.in_ok-sets.ensures.ok)
+    end_refused ring_marked_sets c.args.source.now c.new-reader.result c.new-reader.ensures c.read_marked_sets.new.self
+    (c.in_ok-sets.ensures.source ∙ c.in_ok-ring.ensures.source) (c.in_ok-ring.ring, c.in_ok-sets.sets.items)
+    (pair_read a_ring a_list_of_marked_sets_in c.new-reader.result c.read_ring.new.self c.in_ok-ring.ring c.in_ok-ring.ensures.ok c.in_ok-ring.ensures.source
+    c.read_marked_sets.new.self.at c.in_ok-sets.sets.items c.in_ok-sets.ensures.ok)
     c.in-Err.more c.in-Err.ensures.more
 
 pub returns-in-Ok-clause-variables : goal.returns-in-Ok-clause-variables
-returns-in-Ok-clause-variables c = marked_sets_variables c.in_ok-ring.ring c.read_ring.new.self c.read_marked_sets.new.self.at c.in_ok-sets.sets.items c.in_ok-sets.ensures.ok
+returns-in-Ok-clause-variables c = marked_sets_variables c.in_ok-ring.ring c.read_ring.new.self c.read_marked_sets.new.self.at c.in_ok-sets.sets.items
+    c.in_ok-sets.ensures.ok

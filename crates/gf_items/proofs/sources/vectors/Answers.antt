@@ -10,4 +10,5 @@ returns-in_err-list-clause-err c =
 
 pub returns-in-Err-clause-err : goal.returns-in-Err-clause-err
 returns-in-Err-clause-err c =
-    end_refused vectors_alone c.args.source.now c.new-reader.result c.new-reader.ensures c.read_vectors.new.self c.in_ok-list.ensures.source c.in_ok-list.list.items c.in_ok-list.ensures.ok c.in-Err.more c.in-Err.ensures.more
+    end_refused vectors_alone c.args.source.now c.new-reader.result c.new-reader.ensures c.read_vectors.new.self c.in_ok-list.ensures.source
+    c.in_ok-list.list.items c.in_ok-list.ensures.ok c.in-Err.more c.in-Err.ensures.more

@@ -4,21 +4,28 @@ use Rattle.gf_lifts.proofs.LiftSteps.{place_variables, place_there, lift_at, lif
 use Rattle.gf_lifts.proofs.literal.lift.Goals as goal
 
 pub place_of-place-requires-clause-variables : goal.place_of-place-requires-clause-variables
-place_of-place-requires-clause-variables c = place_variables c.args.by.now.variables c.args.member.now _ _ _ _ c.head-head.result.now c.poly-2.ensures c.in_ok-poly.ensures.variables c.requires.variables c.in_ok-rest.ensures.variables c.terms.ensures.value c.head-head.ensures.value c.head-head.ensures.marked
+place_of-place-requires-clause-variables c = place_variables c.args.by.now.variables c.args.member.now _ _ _ _ c.head-head.result.now c.poly-2.ensures
+    c.in_ok-poly.ensures.variables c.requires.variables c.in_ok-rest.ensures.variables c.terms.ensures.value c.head-head.ensures.value
+    c.head-head.ensures.marked
 
 pub place_of-place-requires-clause-there : goal.place_of-place-requires-clause-there
-place_of-place-requires-clause-there c = place_there c.args.by.now.items c.args.member.now _ _ _ _ _ c.head-head.result.now c.poly.ensures c.poly-2.ensures c.requires.liftable c.in_ok-rest.ensures.value c.in_ok-poly.ensures.difference c.terms.ensures.value c.head-head.ensures.value
+place_of-place-requires-clause-there c = place_there c.args.by.now.items c.args.member.now _ _ _ _ _ c.head-head.result.now c.poly.ensures c.poly-2.ensures
+    c.requires.liftable c.in_ok-rest.ensures.value c.in_ok-poly.ensures.difference c.terms.ensures.value c.head-head.ensures.value
 
 pub returns-clause-value : goal.returns-clause-value
-returns-clause-value c = lift_at c.args.by.now.items c.args.member.now c.mark.result _ _ _ _ _ c.head-head.result.now _ c.poly.ensures c.poly-2.ensures c.in_ok-rest.ensures.value c.in_ok-poly.ensures.difference c.terms.ensures.value c.head-head.ensures.value c.place_of-place.ensures.head c.mark.ensures
+returns-clause-value c = lift_at c.args.by.now.items c.args.member.now c.mark.result _ _ _ _ _ c.head-head.result.now _ c.poly.ensures c.poly-2.ensures
+    c.in_ok-rest.ensures.value c.in_ok-poly.ensures.difference c.terms.ensures.value c.head-head.ensures.value c.place_of-place.ensures.head c.mark.ensures
 
 pub returns-clause-variables : goal.returns-clause-variables
-returns-clause-variables c = lift_variables c.args.by.now.variables c.args.member.now c.mark.result _ _ _ _ c.poly-2.ensures c.in_ok-poly.ensures.variables c.requires.variables c.in_ok-rest.ensures.variables c.mark.ensures
+returns-clause-variables c = lift_variables c.args.by.now.variables c.args.member.now c.mark.result _ _ _ _ c.poly-2.ensures c.in_ok-poly.ensures.variables
+    c.requires.variables c.in_ok-rest.ensures.variables c.mark.ensures
 
 pub returns-in_err-poly-clause-cause : goal.returns-in_err-poly-clause-cause
 returns-in_err-poly-clause-cause c =
     let p = err_from_is_err_and c.from_residual-in_err-poly.result c.from_residual-in_err-poly.ensures.1 in
-    rw (p.1, p.2) (difference_refused c.args.by.now.variables c.args.by.now.items c.args.member.now _ _ _ c.in_err-poly.field-0.0 c.poly.ensures c.poly-2.ensures c.requires.variables c.head-head.ensures.marked c.in_ok-rest.ensures.variables c.in_ok-rest.ensures.descending c.in_ok-rest.ensures.value c.in_err-poly.ensures.cause)
+    rw (p.1, p.2) (difference_refused c.args.by.now.variables c.args.by.now.items c.args.member.now _ _ _ c.in_err-poly.field-0.0 c.poly.ensures
+    c.poly-2.ensures c.requires.variables c.head-head.ensures.marked c.in_ok-rest.ensures.variables c.in_ok-rest.ensures.descending
+    c.in_ok-rest.ensures.value c.in_err-poly.ensures.cause)
 
 pub returns-in_err-rest-clause-cause : goal.returns-in_err-rest-clause-cause
 returns-in_err-rest-clause-cause c =

@@ -12,4 +12,5 @@ pub bounds-copied-j : goal.bounds-copied-j
 bounds-copied-j c = omega (arith, c.lifts-test.true, c.requires.tried.within)
 
 pub returns : goal.returns
-returns c = λ _. undivided-end c.args.lifts.now c.args.copied.now c.args.of_copy c.args.x.now c.args.tried.first c.args.tried.end c.lifts.j c.requires.flags c.requires.tried c.lifts-test.false c.lifts.invariant
+returns c = λ _. undivided-end c.args.lifts.now c.args.copied.now c.args.of_copy c.args.x.now c.args.tried.first c.args.tried.end c.lifts.j c.requires.flags
+    c.requires.tried c.lifts-test.false c.lifts.invariant

@@ -14,7 +14,16 @@ pub reduced_lift-requires-clause-marked : goal.reduced_lift-requires-clause-mark
 reduced_lift-requires-clause-marked c = subst HasSomeWeight (sym c.deref-2.ensures.value) c.requires.marked
 
 pub returns-then-stays : goal.returns-then-stays
-returns-then-stays c = inl (refl, subst (λ (z : List MarkedPolynomial). HasUndividedTailAt z c.args.copied.now c.args.at) c.deref.ensures.value (c.stays.ensures c.if-stays.true))
+returns-then-stays c = inl (
+  refl,
+  subst (λ (z : List MarkedPolynomial). HasUndividedTailAt z c.args.copied.now c.args.at) c.deref.ensures.value
+      (c.stays.ensures c.if-stays.true),
+)
 
 pub returns : goal.returns
-returns c = inr (c.in_ok-member.member, subst (λ (z : List MarkedPolynomial). IsReducedLiftAt z c.args.at c.in_ok-member.member) c.deref-2.ensures.value c.in_ok-member.ensures, refl)
+returns c = inr (
+  c.in_ok-member.member,
+  subst (λ (z : List MarkedPolynomial). IsReducedLiftAt z c.args.at c.in_ok-member.member)
+      c.deref-2.ensures.value c.in_ok-member.ensures,
+  refl,
+)

@@ -8,4 +8,5 @@ abbrev pub invariant-marks : goal.invariant-marks
 invariant-marks l = AreFlagsTo (with_monomials l.marks (line_members l.fn.ground.normal.now l.lines)) l.flags.items l.i
 
 abbrev pub invariant-lines : goal.invariant-lines
-invariant-lines l = AreFlagsTo (with_monomials l.fn.ground.marks.now (line_members l.fn.ground.normal.now l.lines)) l.flags.items (length l.fn.ground.marks.now + l.j)
+invariant-lines l = AreFlagsTo (with_monomials l.fn.ground.marks.now (line_members l.fn.ground.normal.now l.lines)) l.flags.items
+    (length l.fn.ground.marks.now + l.j)

@@ -5,16 +5,23 @@ use Rattle.gf_line_runs.proofs.SettlingLaws.{tail_kept, tail_reduced, lines_put}
 use Rattle.gf_line_runs.proofs.reduction.settle_tail.Goals as goal
 
 pub returns-then-are_left-clause-settled : goal.returns-then-are_left-clause-settled
-returns-then-are_left-clause-settled c = tail_kept c.args.ground.now.normal.now c.args.ground.now.marks.now c.args.lines.now.items c.deref-2.result.now c.args.j c.index-line.result.now c.deref.result.now c.index-line.ensures c.deref-2.ensures.value c.deref.ensures.value (c.are_left.ensures c.if-are_left.true)
+returns-then-are_left-clause-settled c = tail_kept c.args.ground.now.normal.now c.args.ground.now.marks.now c.args.lines.now.items c.deref-2.result.now c.args.j
+    c.index-line.result.now c.deref.result.now c.index-line.ensures c.deref-2.ensures.value c.deref.ensures.value (c.are_left.ensures c.if-are_left.true)
 
 pub returns-clause-settled : goal.returns-clause-settled
 returns-clause-settled c =
-    let same : c.index_mut-line.result.now ≡ c.index-line.result.now = c.index_mut-line.ensures.value ∙ get_or_default c.args.lines.now.items c.args.j c.index_mut-line.result.now c.index-line.result.now c.requires.within ∙ sym c.index-line.ensures in
-    tail_reduced c.args.ground.now.normal.now c.args.ground.now.marks.now c.args.lines.now.items c.deref-4.result.now c.args.j c.index-line.result.now (record { mark = c.index_mut-line.result.now.mark; rest = c.in_ok-rest.rest; origin = None }) c.in_ok-points.points.items
-    c.requires.within c.index-line.ensures c.deref-4.ensures.value (c.in_ok-points.ensures ∙ c.deref-3.ensures.value) (ap (λ (z : Line). z.mark) same) c.in_ok-rest.ensures.value
+    let same : c.index_mut-line.result.now ≡ c.index-line.result.now = c.index_mut-line.ensures.value ∙ get_or_default c.args.lines.now.items c.args.j
+    c.index_mut-line.result.now c.index-line.result.now c.requires.within ∙ sym c.index-line.ensures in
+    tail_reduced c.args.ground.now.normal.now c.args.ground.now.marks.now c.args.lines.now.items c.deref-4.result.now c.args.j c.index-line.result.now
+    (record { mark = c.index_mut-line.result.now.mark; rest = c.in_ok-rest.rest; origin = None }) c.in_ok-points.points.items
+    c.requires.within c.index-line.ensures c.deref-4.ensures.value (c.in_ok-points.ensures ∙ c.deref-3.ensures.value) (ap (λ (z : Line). z.mark) same)
+    c.in_ok-rest.ensures.value
 
 pub returns-clause-lines : goal.returns-clause-lines
 returns-clause-lines c =
-    let same : c.index_mut-line.result.now ≡ c.index-line.result.now = c.index_mut-line.ensures.value ∙ get_or_default c.args.lines.now.items c.args.j c.index_mut-line.result.now c.index-line.result.now c.requires.within ∙ sym c.index-line.ensures in
-    lines_put c.args.ground.now.normal.now c.args.ground.now.by.now c.args.lines.now.items c.args.j c.index-line.result.now (record { mark = c.index_mut-line.result.now.mark; rest = c.in_ok-rest.rest; origin = None }) c.in_ok-points.points.items
-    c.requires.lines c.requires.within c.index-line.ensures (c.in_ok-points.ensures ∙ c.deref-3.ensures.value) (ap (λ (z : Line). z.mark) same) refl c.in_ok-rest.ensures.on c.in_ok-rest.ensures.further c.in_ok-rest.ensures.falling
+    let same : c.index_mut-line.result.now ≡ c.index-line.result.now = c.index_mut-line.ensures.value ∙ get_or_default c.args.lines.now.items c.args.j
+    c.index_mut-line.result.now c.index-line.result.now c.requires.within ∙ sym c.index-line.ensures in
+    lines_put c.args.ground.now.normal.now c.args.ground.now.by.now c.args.lines.now.items c.args.j c.index-line.result.now
+    (record { mark = c.index_mut-line.result.now.mark; rest = c.in_ok-rest.rest; origin = None }) c.in_ok-points.points.items
+    c.requires.lines c.requires.within c.index-line.ensures (c.in_ok-points.ensures ∙ c.deref-3.ensures.value) (ap (λ (z : Line). z.mark) same)
+    refl c.in_ok-rest.ensures.on c.in_ok-rest.ensures.further c.in_ok-rest.ensures.falling

@@ -5,7 +5,9 @@ use Rattle.gf_line_runs.proofs.LineTurns.{chained_line}
 use Rattle.gf_line_runs.proofs.turns.is_chained.Goals as goal
 
 pub returns-then-is_covered : goal.returns-then-is_covered
-returns-then-is_covered c = λ a _. cover_chain c.args.marks.now (line_members a c.args.before.now) c.args.multiple.now (c.is_covered.ensures.yes c.if-is_covered.true)
+returns-then-is_covered c = λ a _. cover_chain c.args.marks.now (line_members a c.args.before.now) c.args.multiple.now
+    (c.is_covered.ensures.yes c.if-is_covered.true)
 
 pub returns : goal.returns
-returns c = λ a t. chained_behind c.args.marks.now (line_members a c.args.before.now) c.args.multiple.now (chained_line a c.args.before.now c.args.multiple.now c.line_below.result c.line_below.ensures.found (sym c.is_some.ensures ∙ t))
+returns c = λ a t. chained_behind c.args.marks.now (line_members a c.args.before.now) c.args.multiple.now
+    (chained_line a c.args.before.now c.args.multiple.now c.line_below.result c.line_below.ensures.found (sym c.is_some.ensures ∙ t))

@@ -6,6 +6,7 @@ use Rattle.gf_line_runs.proofs.turns.lines_in_turn.Given as goal
 
 abbrev pub invariant-turns : goal.invariant-turns
 invariant-turns l = record {
-  settled : AreSettledTo (facet_order l.ground.normal.now) (length l.ground.normal.now) (terms_of_parts l.ground.normal.now l.fn.list.items) (with_monomials l.ground.marks.now []) l.ground.marks.now (line_members l.ground.normal.now l.lines.items) l.j;
+  settled : AreSettledTo (facet_order l.ground.normal.now) (length l.ground.normal.now) (terms_of_parts l.ground.normal.now l.fn.list.items)
+      (with_monomials l.ground.marks.now []) l.ground.marks.now (line_members l.ground.normal.now l.lines.items) l.j;
   lines : AreLinesOf l.ground.normal.now l.ground.by.now l.lines.items;
 }

@@ -12,11 +12,24 @@ use Rattle.gf_line_runs.proofs.turns.take_monomial.Goals as goal
 
 pub are_coprime-requires : goal.are_coprime-requires
 are_coprime-requires c =
-    let q = (contained_each (IsLineOf c.args.ground.now.normal.now c.args.ground.now.by.now) c.args.lines.now.items c.requires.lines c.index-c.result.now (c.args.j, c.requires.second, sym c.index-c.ensures)).0 in
-    let w = front_variables (length c.args.ground.now.normal.now) c.args.ground.now.marks.now [] c.args.i c.index-ground-i.result c.requires.ground.marks c.requires.first c.index-ground-i.is in
+    let q = (contained_each (IsLineOf c.args.ground.now.normal.now c.args.ground.now.by.now) c.args.lines.now.items c.requires.lines c.index-c.result.now
+    (c.args.j, c.requires.second, sym c.index-c.ensures)).0 in
+    let w = front_variables (length c.args.ground.now.normal.now) c.args.ground.now.marks.now [] c.args.i c.index-ground-i.result c.requires.ground.marks
+    c.requires.first c.index-ground-i.is in
     ap length (sym c.index-ground-i.is) ∙ w ∙ sym q.width
 
 pub returns-then-are_coprime-clause-turning : goal.returns-then-are_coprime-clause-turning
 returns-then-are_coprime-clause-turning c =
-    let r = read_line c.args.ground.now.normal.now c.args.ground.now.marks.now c.args.lines.now.items c.args.i c.args.j c.index-ground-i.result c.index-c.result.now c.requires.first c.index-ground-i.is c.requires.second c.index-c.ensures in
-    record { at = λ fs t. (turned_on (facet_order c.args.ground.now.normal.now) (length c.args.ground.now.normal.now) fs (with_monomials c.args.ground.now.marks.now (line_members c.args.ground.now.normal.now c.args.lines.now.items)) (with_monomials c.args.ground.now.marks.now (line_members c.args.ground.now.normal.now c.args.lines.now.items)) c.args.i (length c.args.ground.now.marks.now + c.args.j) (first_behind c.args.ground.now.marks.now c.args.i c.args.j c.requires.first) (behind_second c.args.ground.now.marks.now (line_members c.args.ground.now.normal.now c.args.lines.now.items) c.args.j (line_within c.args.ground.now.normal.now c.args.lines.now.items c.args.j c.requires.second)) t (IsPairTaken.excused (monomial_member c.index-ground-i.result) (line_member c.args.ground.now.normal.now c.index-c.result.now) r.at_i r.at_j (inr (subst (λ (z : Exponents). AreCoprime z c.index-c.result.now.mark) (sym c.index-ground-i.is) (c.are_coprime.ensures c.if-are_coprime.true))) refl)).turning }
+    let r = read_line c.args.ground.now.normal.now c.args.ground.now.marks.now c.args.lines.now.items c.args.i c.args.j c.index-ground-i.result
+    c.index-c.result.now c.requires.first c.index-ground-i.is c.requires.second c.index-c.ensures in
+    record {
+      at = λ fs t. (turned_on (facet_order c.args.ground.now.normal.now) (length c.args.ground.now.normal.now) fs
+          (with_monomials c.args.ground.now.marks.now (line_members c.args.ground.now.normal.now c.args.lines.now.items))
+          (with_monomials c.args.ground.now.marks.now (line_members c.args.ground.now.normal.now c.args.lines.now.items)) c.args.i
+          (length c.args.ground.now.marks.now + c.args.j) (first_behind c.args.ground.now.marks.now c.args.i c.args.j c.requires.first)
+          (behind_second c.args.ground.now.marks.now (line_members c.args.ground.now.normal.now c.args.lines.now.items) c.args.j
+          (line_within c.args.ground.now.normal.now c.args.lines.now.items c.args.j c.requires.second)) t
+          (IsPairTaken.excused (monomial_member c.index-ground-i.result) (line_member c.args.ground.now.normal.now c.index-c.result.now) r.at_i r.at_j
+          (inr (subst (λ (z : Exponents). AreCoprime z c.index-c.result.now.mark) (sym c.index-ground-i.is) (c.are_coprime.ensures c.if-are_coprime.true)))
+          refl)).turning;
+    }

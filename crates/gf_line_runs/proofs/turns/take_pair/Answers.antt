@@ -7,66 +7,142 @@ use Rattle.gf_lines.specs.declared.lines.Point.{Point}
 use Rattle.gf_lines.specs.Lines.{IsLineOf, IsSubtracted, facet_order, line_member, line_members}
 use Rattle.gf_lines.specs.Monomials.{with_monomials}
 use Rattle.gf_line_runs.specs.Turns.{IsChained, IsPairTaken}
-use Rattle.gf_line_runs.proofs.LineTurns.{line_within, lines_more, read_lines, front_width, chained_lines, wide_join, whole_is, two_lines, two_lines_on, turned_line}
+use Rattle.gf_line_runs.proofs.LineTurns.{line_within, lines_more, read_lines, front_width, chained_lines, wide_join, whole_is, two_lines, two_lines_on}
+use Rattle.gf_line_runs.proofs.LineTurns.{turned_line}
 use Rattle.gf_line_runs.proofs.TurnLaws.{turned_on}
 use Rattle.gf_line_runs.proofs.JoinedTurns.{pair_behind, behind_second, behind_size}
 use Rattle.gf_line_runs.proofs.turns.take_pair.Goals as goal
 
 pub is_chained-requires-clause-monomials : goal.is_chained-requires-clause-monomials
 is_chained-requires-clause-monomials c =
-    let p = (contained_each (IsLineOf c.args.ground.now.normal.now c.args.ground.now.by.now) c.args.lines.now.items c.requires.lines c.index-b.result.now (c.args.i, omega (arith, c.requires.pair, c.requires.second), sym c.index-b.ensures)).0 in
-    let q = (contained_each (IsLineOf c.args.ground.now.normal.now c.args.ground.now.by.now) c.args.lines.now.items c.requires.lines c.index-c.result.now (c.args.j, c.requires.second, sym c.index-c.ensures)).0 in
-    subst (λ (k : ℕ). HaveVariables k (with_monomials c.args.ground.now.marks.now [])) (sym (ap (λ (z : Exponents). length z) c.lcm-multiple.ensures ∙ wide_join (length c.args.ground.now.normal.now) c.index-b.result.now.mark c.index-c.result.now.mark p.width q.width)) c.requires.ground.marks
+    let p = (contained_each (IsLineOf c.args.ground.now.normal.now c.args.ground.now.by.now) c.args.lines.now.items c.requires.lines c.index-b.result.now
+    (c.args.i, omega (arith, c.requires.pair, c.requires.second), sym c.index-b.ensures)).0 in
+    let q = (contained_each (IsLineOf c.args.ground.now.normal.now c.args.ground.now.by.now) c.args.lines.now.items c.requires.lines c.index-c.result.now
+    (c.args.j, c.requires.second, sym c.index-c.ensures)).0 in
+    subst (λ (k : ℕ). HaveVariables k (with_monomials c.args.ground.now.marks.now [])) (sym (ap (λ (z : Exponents). length z) c.lcm-multiple.ensures ∙
+    wide_join (length c.args.ground.now.normal.now) c.index-b.result.now.mark c.index-c.result.now.mark p.width q.width)) c.requires.ground.marks
 
 pub is_chained-requires-clause-lines : goal.is_chained-requires-clause-lines
 is_chained-requires-clause-lines c =
-    let p = (contained_each (IsLineOf c.args.ground.now.normal.now c.args.ground.now.by.now) c.args.lines.now.items c.requires.lines c.index-b.result.now (c.args.i, omega (arith, c.requires.pair, c.requires.second), sym c.index-b.ensures)).0 in
-    let q = (contained_each (IsLineOf c.args.ground.now.normal.now c.args.ground.now.by.now) c.args.lines.now.items c.requires.lines c.index-c.result.now (c.args.j, c.requires.second, sym c.index-c.ensures)).0 in
-    front_width c.args.ground.now.normal.now c.args.ground.now.by.now c.args.lines.now.items c.deref.result.now c.args.i c.lcm-multiple.result c.deref.ensures.value (ap (λ (z : Exponents). length z) c.lcm-multiple.ensures ∙ wide_join (length c.args.ground.now.normal.now) c.index-b.result.now.mark c.index-c.result.now.mark p.width q.width) c.requires.lines
+    let p = (contained_each (IsLineOf c.args.ground.now.normal.now c.args.ground.now.by.now) c.args.lines.now.items c.requires.lines c.index-b.result.now
+    (c.args.i, omega (arith, c.requires.pair, c.requires.second), sym c.index-b.ensures)).0 in
+    let q = (contained_each (IsLineOf c.args.ground.now.normal.now c.args.ground.now.by.now) c.args.lines.now.items c.requires.lines c.index-c.result.now
+    (c.args.j, c.requires.second, sym c.index-c.ensures)).0 in
+    front_width c.args.ground.now.normal.now c.args.ground.now.by.now c.args.lines.now.items c.deref.result.now c.args.i c.lcm-multiple.result
+    c.deref.ensures.value (ap (λ (z : Exponents). length z) c.lcm-multiple.ensures ∙ wide_join (length c.args.ground.now.normal.now)
+    c.index-b.result.now.mark c.index-c.result.now.mark p.width q.width) c.requires.lines
 
 pub returns-then-is_chained-clause-turning : goal.returns-then-is_chained-clause-turning
 returns-then-is_chained-clause-turning c =
-    let r = read_lines c.args.ground.now.normal.now c.args.ground.now.marks.now c.args.lines.now.items c.args.i c.args.j c.index-b.result.now c.index-c.result.now c.requires.pair c.requires.second c.index-b.ensures c.index-c.ensures in
-    let k = chained_lines c.args.ground.now.normal.now c.args.ground.now.marks.now c.args.lines.now.items c.deref.result.now c.args.i (join c.index-b.result.now.mark c.index-c.result.now.mark) c.deref.ensures.value (subst (IsChained (with_monomials c.args.ground.now.marks.now (line_members c.args.ground.now.normal.now (take c.args.i c.deref.result.now)))) c.lcm-multiple.ensures (c.is_chained.ensures c.args.ground.now.normal.now c.if-is_chained.true)) in
-    record { at = λ fs t. (turned_on (facet_order c.args.ground.now.normal.now) (length c.args.ground.now.normal.now) fs (with_monomials c.args.ground.now.marks.now (line_members c.args.ground.now.normal.now c.args.lines.now.items)) (with_monomials c.args.ground.now.marks.now (line_members c.args.ground.now.normal.now c.args.lines.now.items)) (length c.args.ground.now.marks.now + c.args.i) (length c.args.ground.now.marks.now + c.args.j) (pair_behind c.args.ground.now.marks.now c.args.i c.args.j c.requires.pair) (behind_second c.args.ground.now.marks.now (line_members c.args.ground.now.normal.now c.args.lines.now.items) c.args.j (line_within c.args.ground.now.normal.now c.args.lines.now.items c.args.j c.requires.second)) t (IsPairTaken.chained (line_member c.args.ground.now.normal.now c.index-b.result.now) (line_member c.args.ground.now.normal.now c.index-c.result.now) r.at_i r.at_j k refl)).turning }
+    let r = read_lines c.args.ground.now.normal.now c.args.ground.now.marks.now c.args.lines.now.items c.args.i c.args.j c.index-b.result.now
+    c.index-c.result.now c.requires.pair c.requires.second c.index-b.ensures c.index-c.ensures in
+    let k = chained_lines c.args.ground.now.normal.now c.args.ground.now.marks.now c.args.lines.now.items c.deref.result.now c.args.i
+    (join c.index-b.result.now.mark c.index-c.result.now.mark) c.deref.ensures.value
+    (subst (IsChained (with_monomials c.args.ground.now.marks.now (line_members c.args.ground.now.normal.now (take c.args.i c.deref.result.now))))
+    c.lcm-multiple.ensures (c.is_chained.ensures c.args.ground.now.normal.now c.if-is_chained.true)) in
+    record {
+      at = λ fs t. (turned_on (facet_order c.args.ground.now.normal.now) (length c.args.ground.now.normal.now) fs
+          (with_monomials c.args.ground.now.marks.now (line_members c.args.ground.now.normal.now c.args.lines.now.items))
+          (with_monomials c.args.ground.now.marks.now (line_members c.args.ground.now.normal.now c.args.lines.now.items))
+          (length c.args.ground.now.marks.now + c.args.i) (length c.args.ground.now.marks.now + c.args.j) (pair_behind c.args.ground.now.marks.now c.args.i
+          c.args.j c.requires.pair) (behind_second c.args.ground.now.marks.now (line_members c.args.ground.now.normal.now c.args.lines.now.items) c.args.j
+          (line_within c.args.ground.now.normal.now c.args.lines.now.items c.args.j c.requires.second)) t
+          (IsPairTaken.chained (line_member c.args.ground.now.normal.now c.index-b.result.now) (line_member c.args.ground.now.normal.now c.index-c.result.now)
+          r.at_i r.at_j k refl)).turning;
+    }
 
 pub take_in-requires-clause-base : goal.take_in-requires-clause-base
 take_in-requires-clause-base c =
-    let p = (contained_each (IsLineOf c.args.ground.now.normal.now c.args.ground.now.by.now) c.args.lines.now.items c.requires.lines c.index-b.result.now (c.args.i, omega (arith, c.requires.pair, c.requires.second), sym c.index-b.ensures)).0 in
-    let q = (contained_each (IsLineOf c.args.ground.now.normal.now c.args.ground.now.by.now) c.args.lines.now.items c.requires.lines c.index-c.result.now (c.args.j, c.requires.second, sym c.index-c.ensures)).0 in
-    ap (λ (z : Exponents). length z) c.lcm-multiple.ensures ∙ wide_join (length c.args.ground.now.normal.now) c.index-b.result.now.mark c.index-c.result.now.mark p.width q.width
+    let p = (contained_each (IsLineOf c.args.ground.now.normal.now c.args.ground.now.by.now) c.args.lines.now.items c.requires.lines c.index-b.result.now
+    (c.args.i, omega (arith, c.requires.pair, c.requires.second), sym c.index-b.ensures)).0 in
+    let q = (contained_each (IsLineOf c.args.ground.now.normal.now c.args.ground.now.by.now) c.args.lines.now.items c.requires.lines c.index-c.result.now
+    (c.args.j, c.requires.second, sym c.index-c.ensures)).0 in
+    ap (λ (z : Exponents). length z) c.lcm-multiple.ensures ∙ wide_join (length c.args.ground.now.normal.now)
+    c.index-b.result.now.mark c.index-c.result.now.mark p.width q.width
 
 pub take_in-requires-clause-on : goal.take_in-requires-clause-on
 take_in-requires-clause-on c =
-    let p = (contained_each (IsLineOf c.args.ground.now.normal.now c.args.ground.now.by.now) c.args.lines.now.items c.requires.lines c.index-b.result.now (c.args.i, omega (arith, c.requires.pair, c.requires.second), sym c.index-b.ensures)).0 in
-    let q = (contained_each (IsLineOf c.args.ground.now.normal.now c.args.ground.now.by.now) c.args.lines.now.items c.requires.lines c.index-c.result.now (c.args.j, c.requires.second, sym c.index-c.ensures)).0 in
-    let s = subst (λ (z : List Point). IsSubtracted c.whole.result z c.index-b.result.now.rest.items c.subtract.new.work.items) c.deref-3.ensures.value (subst (λ (z : List Point). IsSubtracted c.whole.result c.deref-3.result.now z c.subtract.new.work.items) (c.in_ok-points.ensures ∙ c.deref-2.ensures.value) c.in_ok-subtract.ensures) in
+    let p = (contained_each (IsLineOf c.args.ground.now.normal.now c.args.ground.now.by.now) c.args.lines.now.items c.requires.lines c.index-b.result.now
+    (c.args.i, omega (arith, c.requires.pair, c.requires.second), sym c.index-b.ensures)).0 in
+    let q = (contained_each (IsLineOf c.args.ground.now.normal.now c.args.ground.now.by.now) c.args.lines.now.items c.requires.lines c.index-c.result.now
+    (c.args.j, c.requires.second, sym c.index-c.ensures)).0 in
+    let s = subst (λ (z : List Point). IsSubtracted c.whole.result z c.index-b.result.now.rest.items c.subtract.new.work.items) c.deref-3.ensures.value
+    (subst (λ (z : List Point). IsSubtracted c.whole.result c.deref-3.result.now z c.subtract.new.work.items)
+    (c.in_ok-points.ensures ∙ c.deref-2.ensures.value) c.in_ok-subtract.ensures) in
     let one = whole_is c.whole.result c.whole.ensures.k c.whole.ensures.coef in
-    two_lines_on c.args.ground.now.normal.now c.lcm-multiple.result c.index-b.result.now c.index-c.result.now c.whole.result c.subtract.new.work.items (p.width ∙ sym q.width) c.lcm-multiple.ensures p.on q.on one s
+    two_lines_on c.args.ground.now.normal.now c.lcm-multiple.result c.index-b.result.now c.index-c.result.now c.whole.result c.subtract.new.work.items
+    (p.width ∙ sym q.width) c.lcm-multiple.ensures p.on q.on one s
 
 pub returns-clause-turning : goal.returns-clause-turning
 returns-clause-turning c =
-    let r = read_lines c.args.ground.now.normal.now c.args.ground.now.marks.now c.args.lines.now.items c.args.i c.args.j c.index-b.result.now c.index-c.result.now c.requires.pair c.requires.second c.index-b.ensures c.index-c.ensures in
-    let p = (contained_each (IsLineOf c.args.ground.now.normal.now c.args.ground.now.by.now) c.args.lines.now.items c.requires.lines c.index-b.result.now (c.args.i, omega (arith, c.requires.pair, c.requires.second), sym c.index-b.ensures)).0 in
-    let q = (contained_each (IsLineOf c.args.ground.now.normal.now c.args.ground.now.by.now) c.args.lines.now.items c.requires.lines c.index-c.result.now (c.args.j, c.requires.second, sym c.index-c.ensures)).0 in
-    let s = subst (λ (z : List Point). IsSubtracted c.whole.result z c.index-b.result.now.rest.items c.subtract.new.work.items) c.deref-3.ensures.value (subst (λ (z : List Point). IsSubtracted c.whole.result c.deref-3.result.now z c.subtract.new.work.items) (c.in_ok-points.ensures ∙ c.deref-2.ensures.value) c.in_ok-subtract.ensures) in
+    let r = read_lines c.args.ground.now.normal.now c.args.ground.now.marks.now c.args.lines.now.items c.args.i c.args.j c.index-b.result.now
+    c.index-c.result.now c.requires.pair c.requires.second c.index-b.ensures c.index-c.ensures in
+    let p = (contained_each (IsLineOf c.args.ground.now.normal.now c.args.ground.now.by.now) c.args.lines.now.items c.requires.lines c.index-b.result.now
+    (c.args.i, omega (arith, c.requires.pair, c.requires.second), sym c.index-b.ensures)).0 in
+    let q = (contained_each (IsLineOf c.args.ground.now.normal.now c.args.ground.now.by.now) c.args.lines.now.items c.requires.lines c.index-c.result.now
+    (c.args.j, c.requires.second, sym c.index-c.ensures)).0 in
+    let s = subst (λ (z : List Point). IsSubtracted c.whole.result z c.index-b.result.now.rest.items c.subtract.new.work.items) c.deref-3.ensures.value
+    (subst (λ (z : List Point). IsSubtracted c.whole.result c.deref-3.result.now z c.subtract.new.work.items)
+    (c.in_ok-points.ensures ∙ c.deref-2.ensures.value) c.in_ok-subtract.ensures) in
     let one = whole_is c.whole.result c.whole.ensures.k c.whole.ensures.coef in
-    IfSome_then c.take_in.result c.take_in.ensures.taken (λ _ h. record { at = λ fs t. (turned_line (facet_order c.args.ground.now.normal.now) (length c.args.ground.now.normal.now) fs (with_monomials c.args.ground.now.marks.now (line_members c.args.ground.now.normal.now c.args.lines.now.items)) (with_monomials c.args.ground.now.marks.now (line_members c.args.ground.now.normal.now c.take_in.new.lines.items)) (length c.args.ground.now.marks.now + c.args.i) (length c.args.ground.now.marks.now + c.args.j) (line_member c.args.ground.now.normal.now c.index-b.result.now) (line_member c.args.ground.now.normal.now c.index-c.result.now) c.args.ground.now.normal.now c.lcm-multiple.result c.subtract.new.work.items (pair_behind c.args.ground.now.marks.now c.args.i c.args.j c.requires.pair) (behind_second c.args.ground.now.marks.now (line_members c.args.ground.now.normal.now c.args.lines.now.items) c.args.j (line_within c.args.ground.now.normal.now c.args.lines.now.items c.args.j c.requires.second)) t r (p.width ∙ sym q.width) c.lcm-multiple.ensures (two_lines c.args.ground.now.normal.now c.lcm-multiple.result c.index-b.result.now c.index-c.result.now c.whole.result c.subtract.new.work.items (p.width ∙ sym q.width) c.lcm-multiple.ensures p.on q.on one s) h).turning })
+    IfSome_then c.take_in.result c.take_in.ensures.taken (λ _ h. record {
+      at = λ fs t. (turned_line (facet_order c.args.ground.now.normal.now) (length c.args.ground.now.normal.now) fs
+          (with_monomials c.args.ground.now.marks.now (line_members c.args.ground.now.normal.now c.args.lines.now.items))
+          (with_monomials c.args.ground.now.marks.now (line_members c.args.ground.now.normal.now c.take_in.new.lines.items))
+          (length c.args.ground.now.marks.now + c.args.i) (length c.args.ground.now.marks.now + c.args.j) (line_member c.args.ground.now.normal.now
+          c.index-b.result.now) (line_member c.args.ground.now.normal.now c.index-c.result.now) c.args.ground.now.normal.now c.lcm-multiple.result
+          c.subtract.new.work.items (pair_behind c.args.ground.now.marks.now c.args.i c.args.j c.requires.pair)
+          (behind_second c.args.ground.now.marks.now (line_members c.args.ground.now.normal.now c.args.lines.now.items) c.args.j
+          (line_within c.args.ground.now.normal.now c.args.lines.now.items c.args.j c.requires.second)) t r (p.width ∙ sym q.width) c.lcm-multiple.ensures
+          (two_lines c.args.ground.now.normal.now c.lcm-multiple.result c.index-b.result.now c.index-c.result.now c.whole.result c.subtract.new.work.items
+          (p.width ∙ sym q.width) c.lcm-multiple.ensures p.on q.on one s) h).turning;
+    })
 
 pub returns-clause-kept : goal.returns-clause-kept
 returns-clause-kept c =
-    let r = read_lines c.args.ground.now.normal.now c.args.ground.now.marks.now c.args.lines.now.items c.args.i c.args.j c.index-b.result.now c.index-c.result.now c.requires.pair c.requires.second c.index-b.ensures c.index-c.ensures in
-    let p = (contained_each (IsLineOf c.args.ground.now.normal.now c.args.ground.now.by.now) c.args.lines.now.items c.requires.lines c.index-b.result.now (c.args.i, omega (arith, c.requires.pair, c.requires.second), sym c.index-b.ensures)).0 in
-    let q = (contained_each (IsLineOf c.args.ground.now.normal.now c.args.ground.now.by.now) c.args.lines.now.items c.requires.lines c.index-c.result.now (c.args.j, c.requires.second, sym c.index-c.ensures)).0 in
-    let s = subst (λ (z : List Point). IsSubtracted c.whole.result z c.index-b.result.now.rest.items c.subtract.new.work.items) c.deref-3.ensures.value (subst (λ (z : List Point). IsSubtracted c.whole.result c.deref-3.result.now z c.subtract.new.work.items) (c.in_ok-points.ensures ∙ c.deref-2.ensures.value) c.in_ok-subtract.ensures) in
+    let r = read_lines c.args.ground.now.normal.now c.args.ground.now.marks.now c.args.lines.now.items c.args.i c.args.j c.index-b.result.now
+    c.index-c.result.now c.requires.pair c.requires.second c.index-b.ensures c.index-c.ensures in
+    let p = (contained_each (IsLineOf c.args.ground.now.normal.now c.args.ground.now.by.now) c.args.lines.now.items c.requires.lines c.index-b.result.now
+    (c.args.i, omega (arith, c.requires.pair, c.requires.second), sym c.index-b.ensures)).0 in
+    let q = (contained_each (IsLineOf c.args.ground.now.normal.now c.args.ground.now.by.now) c.args.lines.now.items c.requires.lines c.index-c.result.now
+    (c.args.j, c.requires.second, sym c.index-c.ensures)).0 in
+    let s = subst (λ (z : List Point). IsSubtracted c.whole.result z c.index-b.result.now.rest.items c.subtract.new.work.items) c.deref-3.ensures.value
+    (subst (λ (z : List Point). IsSubtracted c.whole.result c.deref-3.result.now z c.subtract.new.work.items)
+    (c.in_ok-points.ensures ∙ c.deref-2.ensures.value) c.in_ok-subtract.ensures) in
     let one = whole_is c.whole.result c.whole.ensures.k c.whole.ensures.coef in
-    IfSome_then c.take_in.result c.take_in.ensures.taken (λ _ h. (turned_line (facet_order c.args.ground.now.normal.now) (length c.args.ground.now.normal.now) c.requires.turning.polynomials (with_monomials c.args.ground.now.marks.now (line_members c.args.ground.now.normal.now c.args.lines.now.items)) (with_monomials c.args.ground.now.marks.now (line_members c.args.ground.now.normal.now c.take_in.new.lines.items)) (length c.args.ground.now.marks.now + c.args.i) (length c.args.ground.now.marks.now + c.args.j) (line_member c.args.ground.now.normal.now c.index-b.result.now) (line_member c.args.ground.now.normal.now c.index-c.result.now) c.args.ground.now.normal.now c.lcm-multiple.result c.subtract.new.work.items (pair_behind c.args.ground.now.marks.now c.args.i c.args.j c.requires.pair) (behind_second c.args.ground.now.marks.now (line_members c.args.ground.now.normal.now c.args.lines.now.items) c.args.j (line_within c.args.ground.now.normal.now c.args.lines.now.items c.args.j c.requires.second)) c.requires.turning.turning r (p.width ∙ sym q.width) c.lcm-multiple.ensures (two_lines c.args.ground.now.normal.now c.lcm-multiple.result c.index-b.result.now c.index-c.result.now c.whole.result c.subtract.new.work.items (p.width ∙ sym q.width) c.lcm-multiple.ensures p.on q.on one s) h).kept)
+    IfSome_then c.take_in.result c.take_in.ensures.taken (λ _ h. (turned_line (facet_order c.args.ground.now.normal.now) (length c.args.ground.now.normal.now)
+    c.requires.turning.polynomials (with_monomials c.args.ground.now.marks.now (line_members c.args.ground.now.normal.now c.args.lines.now.items))
+    (with_monomials c.args.ground.now.marks.now (line_members c.args.ground.now.normal.now c.take_in.new.lines.items))
+    (length c.args.ground.now.marks.now + c.args.i) (length c.args.ground.now.marks.now + c.args.j) (line_member c.args.ground.now.normal.now
+    c.index-b.result.now) (line_member c.args.ground.now.normal.now c.index-c.result.now) c.args.ground.now.normal.now c.lcm-multiple.result
+    c.subtract.new.work.items (pair_behind c.args.ground.now.marks.now c.args.i c.args.j c.requires.pair)
+    (behind_second c.args.ground.now.marks.now (line_members c.args.ground.now.normal.now c.args.lines.now.items) c.args.j
+    (line_within c.args.ground.now.normal.now c.args.lines.now.items c.args.j c.requires.second)) c.requires.turning.turning r (p.width ∙ sym q.width)
+    c.lcm-multiple.ensures (two_lines c.args.ground.now.normal.now c.lcm-multiple.result c.index-b.result.now c.index-c.result.now c.whole.result
+    c.subtract.new.work.items (p.width ∙ sym q.width) c.lcm-multiple.ensures p.on q.on one s) h).kept)
 
 pub returns-clause-size : goal.returns-clause-size
 returns-clause-size c =
-    let r = read_lines c.args.ground.now.normal.now c.args.ground.now.marks.now c.args.lines.now.items c.args.i c.args.j c.index-b.result.now c.index-c.result.now c.requires.pair c.requires.second c.index-b.ensures c.index-c.ensures in
-    let p = (contained_each (IsLineOf c.args.ground.now.normal.now c.args.ground.now.by.now) c.args.lines.now.items c.requires.lines c.index-b.result.now (c.args.i, omega (arith, c.requires.pair, c.requires.second), sym c.index-b.ensures)).0 in
-    let q = (contained_each (IsLineOf c.args.ground.now.normal.now c.args.ground.now.by.now) c.args.lines.now.items c.requires.lines c.index-c.result.now (c.args.j, c.requires.second, sym c.index-c.ensures)).0 in
-    let s = subst (λ (z : List Point). IsSubtracted c.whole.result z c.index-b.result.now.rest.items c.subtract.new.work.items) c.deref-3.ensures.value (subst (λ (z : List Point). IsSubtracted c.whole.result c.deref-3.result.now z c.subtract.new.work.items) (c.in_ok-points.ensures ∙ c.deref-2.ensures.value) c.in_ok-subtract.ensures) in
+    let r = read_lines c.args.ground.now.normal.now c.args.ground.now.marks.now c.args.lines.now.items c.args.i c.args.j c.index-b.result.now
+    c.index-c.result.now c.requires.pair c.requires.second c.index-b.ensures c.index-c.ensures in
+    let p = (contained_each (IsLineOf c.args.ground.now.normal.now c.args.ground.now.by.now) c.args.lines.now.items c.requires.lines c.index-b.result.now
+    (c.args.i, omega (arith, c.requires.pair, c.requires.second), sym c.index-b.ensures)).0 in
+    let q = (contained_each (IsLineOf c.args.ground.now.normal.now c.args.ground.now.by.now) c.args.lines.now.items c.requires.lines c.index-c.result.now
+    (c.args.j, c.requires.second, sym c.index-c.ensures)).0 in
+    let s = subst (λ (z : List Point). IsSubtracted c.whole.result z c.index-b.result.now.rest.items c.subtract.new.work.items) c.deref-3.ensures.value
+    (subst (λ (z : List Point). IsSubtracted c.whole.result c.deref-3.result.now z c.subtract.new.work.items)
+    (c.in_ok-points.ensures ∙ c.deref-2.ensures.value) c.in_ok-subtract.ensures) in
     let one = whole_is c.whole.result c.whole.ensures.k c.whole.ensures.coef in
-    IfSome_then c.take_in.result c.take_in.ensures.taken (λ _ h. lines_more c.args.ground.now.normal.now c.args.lines.now.items c.take_in.new.lines.items (behind_size c.args.ground.now.marks.now (line_members c.args.ground.now.normal.now c.args.lines.now.items) (line_members c.args.ground.now.normal.now c.take_in.new.lines.items) (turned_line (facet_order c.args.ground.now.normal.now) (length c.args.ground.now.normal.now) c.requires.turning.polynomials (with_monomials c.args.ground.now.marks.now (line_members c.args.ground.now.normal.now c.args.lines.now.items)) (with_monomials c.args.ground.now.marks.now (line_members c.args.ground.now.normal.now c.take_in.new.lines.items)) (length c.args.ground.now.marks.now + c.args.i) (length c.args.ground.now.marks.now + c.args.j) (line_member c.args.ground.now.normal.now c.index-b.result.now) (line_member c.args.ground.now.normal.now c.index-c.result.now) c.args.ground.now.normal.now c.lcm-multiple.result c.subtract.new.work.items (pair_behind c.args.ground.now.marks.now c.args.i c.args.j c.requires.pair) (behind_second c.args.ground.now.marks.now (line_members c.args.ground.now.normal.now c.args.lines.now.items) c.args.j (line_within c.args.ground.now.normal.now c.args.lines.now.items c.args.j c.requires.second)) c.requires.turning.turning r (p.width ∙ sym q.width) c.lcm-multiple.ensures (two_lines c.args.ground.now.normal.now c.lcm-multiple.result c.index-b.result.now c.index-c.result.now c.whole.result c.subtract.new.work.items (p.width ∙ sym q.width) c.lcm-multiple.ensures p.on q.on one s) h).size))
+    IfSome_then c.take_in.result c.take_in.ensures.taken (λ _ h. lines_more c.args.ground.now.normal.now c.args.lines.now.items c.take_in.new.lines.items
+    (behind_size c.args.ground.now.marks.now (line_members c.args.ground.now.normal.now c.args.lines.now.items)
+    (line_members c.args.ground.now.normal.now c.take_in.new.lines.items) (turned_line (facet_order c.args.ground.now.normal.now)
+    (length c.args.ground.now.normal.now) c.requires.turning.polynomials
+    (with_monomials c.args.ground.now.marks.now (line_members c.args.ground.now.normal.now c.args.lines.now.items))
+    (with_monomials c.args.ground.now.marks.now (line_members c.args.ground.now.normal.now c.take_in.new.lines.items))
+    (length c.args.ground.now.marks.now + c.args.i) (length c.args.ground.now.marks.now + c.args.j) (line_member c.args.ground.now.normal.now
+    c.index-b.result.now) (line_member c.args.ground.now.normal.now c.index-c.result.now) c.args.ground.now.normal.now c.lcm-multiple.result
+    c.subtract.new.work.items (pair_behind c.args.ground.now.marks.now c.args.i c.args.j c.requires.pair)
+    (behind_second c.args.ground.now.marks.now (line_members c.args.ground.now.normal.now c.args.lines.now.items) c.args.j
+    (line_within c.args.ground.now.normal.now c.args.lines.now.items c.args.j c.requires.second)) c.requires.turning.turning r (p.width ∙ sym q.width)
+    c.lcm-multiple.ensures (two_lines c.args.ground.now.normal.now c.lcm-multiple.result c.index-b.result.now c.index-c.result.now c.whole.result
+    c.subtract.new.work.items (p.width ∙ sym q.width) c.lcm-multiple.ensures p.on q.on one s) h).size))

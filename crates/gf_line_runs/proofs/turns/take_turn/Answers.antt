@@ -9,5 +9,15 @@ use Rattle.gf_line_runs.proofs.turns.take_turn.Goals as goal
 
 pub returns-then-is_excused-clause-turning : goal.returns-then-is_excused-clause-turning
 returns-then-is_excused-clause-turning c =
-    let r = read_lines c.args.ground.now.normal.now c.args.ground.now.marks.now c.args.lines.now.items c.args.i c.args.j c.index.result.now c.index-2.result.now c.requires.pair c.requires.second c.index.ensures c.index-2.ensures in
-    record { at = λ fs t. (turned_on (facet_order c.args.ground.now.normal.now) (length c.args.ground.now.normal.now) fs (with_monomials c.args.ground.now.marks.now (line_members c.args.ground.now.normal.now c.args.lines.now.items)) (with_monomials c.args.ground.now.marks.now (line_members c.args.ground.now.normal.now c.args.lines.now.items)) (length c.args.ground.now.marks.now + c.args.i) (length c.args.ground.now.marks.now + c.args.j) (pair_behind c.args.ground.now.marks.now c.args.i c.args.j c.requires.pair) (behind_second c.args.ground.now.marks.now (line_members c.args.ground.now.normal.now c.args.lines.now.items) c.args.j (line_within c.args.ground.now.normal.now c.args.lines.now.items c.args.j c.requires.second)) t (IsPairTaken.excused (line_member c.args.ground.now.normal.now c.index.result.now) (line_member c.args.ground.now.normal.now c.index-2.result.now) r.at_i r.at_j (c.is_excused.ensures c.args.ground.now.normal.now c.if-is_excused.true) refl)).turning }
+    let r = read_lines c.args.ground.now.normal.now c.args.ground.now.marks.now c.args.lines.now.items c.args.i c.args.j c.index.result.now c.index-2.result.now
+    c.requires.pair c.requires.second c.index.ensures c.index-2.ensures in
+    record {
+      at = λ fs t. (turned_on (facet_order c.args.ground.now.normal.now) (length c.args.ground.now.normal.now) fs
+          (with_monomials c.args.ground.now.marks.now (line_members c.args.ground.now.normal.now c.args.lines.now.items))
+          (with_monomials c.args.ground.now.marks.now (line_members c.args.ground.now.normal.now c.args.lines.now.items))
+          (length c.args.ground.now.marks.now + c.args.i) (length c.args.ground.now.marks.now + c.args.j) (pair_behind c.args.ground.now.marks.now c.args.i
+          c.args.j c.requires.pair) (behind_second c.args.ground.now.marks.now (line_members c.args.ground.now.normal.now c.args.lines.now.items) c.args.j
+          (line_within c.args.ground.now.normal.now c.args.lines.now.items c.args.j c.requires.second)) t
+          (IsPairTaken.excused (line_member c.args.ground.now.normal.now c.index.result.now) (line_member c.args.ground.now.normal.now c.index-2.result.now)
+          r.at_i r.at_j (c.is_excused.ensures c.args.ground.now.normal.now c.if-is_excused.true) refl)).turning;
+    }

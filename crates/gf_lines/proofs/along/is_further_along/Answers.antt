@@ -9,4 +9,5 @@ pub is_apart-requires-clause-same_variables : goal.is_apart-requires-clause-same
 is_apart-requires-clause-same_variables c = ap length c.exponents-2.ensures.value ∙ c.requires.same_variables
 
 pub returns : goal.returns
-returns c = λ f e m. c.is_apart.ensures.no f ((same_apart c.args.normal.now c.exponents.result.now c.exponents-2.result.now c.args.x.now c.args.head.now c.exponents.ensures.value c.exponents-2.ensures.value).1 m)
+returns c = λ f e m. c.is_apart.ensures.no f ((same_apart c.args.normal.now c.exponents.result.now c.exponents-2.result.now c.args.x.now c.args.head.now
+    c.exponents.ensures.value c.exponents-2.ensures.value).1 m)

@@ -5,5 +5,6 @@ use Rattle.gf_lines.proofs.along.multiple.Goals as goal
 
 pub returns : goal.returns
 returns c =
-    let f : FitsSigned w64 (c.args.k *ℤ c.args.a) = fits_signed_mul w64 c.args.k c.args.a (2 ^ 32) 2147483647 c.requires.factor (omega (arith, c.requires.small)) (omega arith) in
+    let f : FitsSigned w64 (c.args.k *ℤ c.args.a) = fits_signed_mul w64 c.args.k c.args.a (2 ^ 32) 2147483647 c.requires.factor
+    (omega (arith, c.requires.small)) (omega arith) in
     grind (arith, to_z-of_z)

@@ -9,8 +9,10 @@ members-init c = record {
 
 pub members-preserved : goal.members-preserved
 members-preserved c = record {
-  split = split_more c.args.normal.now c.args.items.now c.members.i c.index-items-i.result c.members.all c.add.new.all c.members-test.true c.index-items-i.is (c.in_ok-add.ensures) c.members.invariant.split;
-  parts = parts_more c.args.normal.now c.args.items.now c.members.i c.index-items-i.result c.members.all c.add.new.all c.members-test.true c.index-items-i.is (c.in_ok-add.ensures) c.members.invariant.parts;
+  split = split_more c.args.normal.now c.args.items.now c.members.i c.index-items-i.result c.members.all c.add.new.all c.members-test.true c.index-items-i.is
+      (c.in_ok-add.ensures) c.members.invariant.split;
+  parts = parts_more c.args.normal.now c.args.items.now c.members.i c.index-items-i.result c.members.all c.add.new.all c.members-test.true c.index-items-i.is
+      (c.in_ok-add.ensures) c.members.invariant.parts;
 }
 
 pub returns-clause-split : goal.returns-clause-split

@@ -14,8 +14,10 @@ is_left-requires c = moved_width c.args.normal.now c.args.base.now c.args.lines.
 pub points-preserved : goal.points-preserved
 points-preserved c =
     let fits : FitsSigned w32 (get_or c.args.points.now c.points.i c.index-points-i.result).k = search rules in
-    left_more c.args.normal.now c.args.base.now c.args.lines.now c.args.from c.args.points.now c.points.i c.index-points-i.result c.in-Some.x c.points-test.true c.index-points-i.is
-    (c.in-Some.ensures.value ∙ ap (moved c.args.normal.now c.args.base.now) (to_z-of_z w32 _ fits ∙ ap (λ (p : Point). p.k) (sym c.index-points-i.is))) (c.is_left.ensures.left c.if-not-is_left.false) c.points.invariant
+    left_more c.args.normal.now c.args.base.now c.args.lines.now c.args.from c.args.points.now c.points.i c.index-points-i.result c.in-Some.x c.points-test.true
+    c.index-points-i.is
+    (c.in-Some.ensures.value ∙ ap (moved c.args.normal.now c.args.base.now) (to_z-of_z w32 _ fits ∙ ap (λ (p : Point). p.k) (sym c.index-points-i.is)))
+    (c.is_left.ensures.left c.if-not-is_left.false) c.points.invariant
 
 pub returns : goal.returns
 returns c = λ _. left_end c.args.normal.now c.args.base.now c.args.lines.now c.args.from c.args.points.now c.points.i c.points-test.false c.points.invariant

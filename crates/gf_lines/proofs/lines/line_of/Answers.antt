@@ -22,7 +22,8 @@ points-preserved c =
 
 -- all points are counted anew
 ended : (f : Point → Point) (old new : List Point) (i : ℕ) → length old ≤ i → new ≡ map f (take i old) ++ drop i old → new ≡ map f old
-ended f old new i l e = e ∙ ap (λ (z : List Point). map f z ++ drop i old) (take_all i old l) ∙ ap (λ (z : List Point). map f old ++ z) (drop_all i old l) ∙ append-nil (map f old)
+ended f old new i l e = e ∙ ap (λ (z : List Point). map f z ++ drop i old) (take_all i old l) ∙ ap (λ (z : List Point). map f old ++ z) (drop_all i old l) ∙
+    append-nil (map f old)
 
 pub returns-clause-value : goal.returns-clause-value
 returns-clause-value c =
@@ -30,7 +31,8 @@ returns-clause-value c =
     let old = c.pop.new.self.items in
     let f : FitsSigned w32 first.k = search rules in
     let l : length old ≤ c.points.i = omega (arith, c.points-test.false, c.len-i-end.ensures, c.pop.new.self.ok.0) in
-    line_from c.args.normal.now c.args.base.now c.args.points.items old first _ c.in_ok-first.ensures.items c.requires.nonzero c.requires.base c.requires.on c.requires.falling
+    line_from c.args.normal.now c.args.base.now c.args.points.items old first _ c.in_ok-first.ensures.items c.requires.nonzero c.requires.base c.requires.on
+    c.requires.falling
     (λ e. false≢true (c.if-is_zero.ensures.1 e))
     (c.in_ok-mark.ensures.value ∙ ap (moved c.args.normal.now c.args.base.now) (to_z-of_z w32 first.k f))
     (ended (relative_point first) old c.points.rest.items c.points.i l c.points.invariant)

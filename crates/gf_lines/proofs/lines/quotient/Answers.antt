@@ -14,4 +14,5 @@ returns-then-eq-2 c =
     let a = c.args.a.now in
     let b = c.args.by.now in
     let e : neg_ℚ b ≡ one_ℚ = sym c.neg.ensures ∙ (Decides-fraction_eq c.neg.result _).0 (sym c.if-eq-2.ensures) in
-    quotient_is a b c.neg-then-eq-2.result c.requires (ap (λ z. z *ℚ b) c.neg-then-eq-2.ensures ∙ neg_ℚ-*ℚ a b ∙ sym (*ℚ-neg_ℚ a b) ∙ ap (λ z. a *ℚ z) e ∙ *ℚ-one a)
+    quotient_is a b c.neg-then-eq-2.result c.requires (ap (λ z. z *ℚ b) c.neg-then-eq-2.ensures ∙ neg_ℚ-*ℚ a b ∙ sym (*ℚ-neg_ℚ a b) ∙ ap (λ z. a *ℚ z) e ∙
+    *ℚ-one a)

@@ -6,4 +6,5 @@ use Rattle.gf_order.specs.Comparisons.{IsOutcome}
 use Rattle.gf_order.proofs.comparisons.lex.Goals as goal
 
 pub returns : goal.returns
-returns c = subst (λ (o : Ordering). IsOutcome MonomialOrder.lex c.args.x.now c.args.y.now o) (sym c.cmp.ensures) (lex-compares c.args.x.now c.args.y.now c.requires)
+returns c = subst (λ (o : Ordering). IsOutcome MonomialOrder.lex c.args.x.now c.args.y.now o) (sym c.cmp.ensures)
+    (lex-compares c.args.x.now c.args.y.now c.requires)

@@ -7,4 +7,5 @@ use Rattle.gf_order.proofs.weights.difference.Goals as goal
 pub loop-i-preserved : goal.loop-i-preserved
 loop-i-preserved c =
     let fw : FitsSigned w128 (get_or c.args.weight.now c.loop-i.i (pos 0)) = search rules in
-    Added-more _ _ _ _ _ c.share-sum.result _ c.loop-i-test.true c.requires.left c.requires.right (simp to_z-of_z at c.share-sum.ensures.value) c.share-sum.ensures.bound (omega (arith, ints, c.loop-i.invariant.bound)) c.loop-i.invariant
+    Added-more _ _ _ _ _ c.share-sum.result _ c.loop-i-test.true c.requires.left c.requires.right (simp to_z-of_z at c.share-sum.ensures.value)
+    c.share-sum.ensures.bound (omega (arith, ints, c.loop-i.invariant.bound)) c.loop-i.invariant

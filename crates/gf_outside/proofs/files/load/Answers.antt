@@ -20,7 +20,8 @@ all_of (Some w) None c xs k t e = absurd k
 all_of (Some w) (Some v) None xs k t e = absurd t
 all_of (Some w) (Some v) (Some u) xs k t e = sym (sym k ∙ t ∙ ap (λ z. xs ++ z) e ∙ append-nil xs)
 
-whole_of : {T E : Type 0} (items : T → List ℕ) (r : Result T E) (a b c : Option (List ℕ)) (m n : ℕ) → Keeps a b → IfOk r (λ x. Took b c m n (items x)) → OnOk r (IsAtEnd c) → IfOk r (λ x. Keeps a (Some (items x)))
+whole_of : {T E : Type 0} (items : T → List ℕ) (r : Result T E) (a b c : Option (List ℕ)) (m n : ℕ) → Keeps a b → IfOk r (λ x. Took b c m n (items x)) →
+    OnOk r (IsAtEnd c) → IfOk r (λ x. Keeps a (Some (items x)))
 whole_of items (Ok x) a b c m n k t e = all_of a b c (items x) k t.bytes_left e
 whole_of items (Err x) a b c m n k t e = tt
 
@@ -28,13 +29,23 @@ pub returns-clause-whole : goal.returns-clause-whole
 returns-clause-whole g c = whole_of (λ v. v.items) c.chosen.result _ _ _ _ _ c.in-Ok.ensures.chosen c.chosen.ensures.all c.chosen.ensures.end
 
 pub returns-clause-all : goal.returns-clause-all
-returns-clause-all g c = IfOk-weaker c.chosen.result _ _ (λ v t. of_name _ _ _ _ _ _ v.items c.in-Ok.ensures.chosen c.in-Ok.ensures.gives_nothing t) c.chosen.ensures.all
+returns-clause-all g c = IfOk-weaker c.chosen.result _ _ (λ v t. of_name _ _ _ _ _ _ v.items c.in-Ok.ensures.chosen c.in-Ok.ensures.gives_nothing t)
+    c.chosen.ensures.all
 
 pub returns-clause-long : goal.returns-clause-long
-returns-clause-long g c = λ h. let t = c.chosen.ensures.long h in record { bytes = t.bytes; took = of_name _ _ _ _ _ _ t.bytes c.in-Ok.ensures.chosen c.in-Ok.ensures.gives_nothing t.took; exactly = t.exactly }
+returns-clause-long g c = λ h. let t = c.chosen.ensures.long h in record {
+  bytes = t.bytes;
+  took = of_name _ _ _ _ _ _ t.bytes c.in-Ok.ensures.chosen c.in-Ok.ensures.gives_nothing t.took;
+  exactly = t.exactly;
+}
 
 pub returns-clause-before_fault : goal.returns-clause-before_fault
-returns-clause-before_fault g c = λ h. let t = c.chosen.ensures.before_fault h in record { bytes = t.bytes; took = of_name _ _ _ _ _ _ t.bytes c.in-Ok.ensures.chosen c.in-Ok.ensures.gives_nothing t.took; at_most = t.at_most }
+returns-clause-before_fault g c = λ h. let t = c.chosen.ensures.before_fault h in record {
+  bytes = t.bytes;
+  took = of_name _ _ _ _ _ _ t.bytes c.in-Ok.ensures.chosen c.in-Ok.ensures.gives_nothing t.took;
+  at_most = t.at_most;
+}
 
 pub returns-clause-before_memory : goal.returns-clause-before_memory
-returns-clause-before_memory g c = λ h. let t = c.chosen.ensures.before_memory h in inr (record { bytes = t.bytes; took = of_name _ _ _ _ _ _ t.bytes c.in-Ok.ensures.chosen c.in-Ok.ensures.gives_nothing t.took; at_most = t.at_most })
+returns-clause-before_memory g c = λ h. let t = c.chosen.ensures.before_memory h in
+    inr (record { bytes = t.bytes; took = of_name _ _ _ _ _ _ t.bytes c.in-Ok.ensures.chosen c.in-Ok.ensures.gives_nothing t.took; at_most = t.at_most })

@@ -6,7 +6,8 @@ use Rattle.gf_poly.proofs.MarkingLaws.{nonzero_at}
 pub terms-preserved : goal.terms-preserved
 terms-preserved c =
     let both = c.follows.ensures.0 c.if-not-follows.false in
-    below_next c.args.terms.now c.terms.i (c.terms.i - 1) c.index-terms-i.result c.index-terms-i-in-terms.result (omega (arith, c.terms.auto.i)) c.terms-test.true c.index-terms-i.is c.index-terms-i-in-terms.is both.0 both.1 c.terms.invariant
+    below_next c.args.terms.now c.terms.i (c.terms.i - 1) c.index-terms-i.result c.index-terms-i-in-terms.result
+    (omega (arith, c.terms.auto.i)) c.terms-test.true c.index-terms-i.is c.index-terms-i-in-terms.is both.0 both.1 c.terms.invariant
 
 pub returns-then-not-follows : goal.returns-then-not-follows
 returns-then-not-follows c = (

@@ -12,7 +12,9 @@ returns-then-left-right c = record {
 }
 
 pub entries-preserved : goal.entries-preserved
-entries-preserved c = FitsBelow-more c.args.x.now c.args.y.now c.entries.i (omega (arith, entry-get_or c.args.x.now c.entries.i, entry-get_or c.args.y.now c.entries.i)) c.entries.invariant
+entries-preserved c = FitsBelow-more c.args.x.now c.args.y.now c.entries.i
+    (omega (arith, entry-get_or c.args.x.now c.entries.i, entry-get_or c.args.y.now c.entries.i)) c.entries.invariant
 
 pub unreachable-requires : goal.unreachable-requires
-unreachable-requires c = c.requires.some (FitsBelow-end c.args.x.now c.args.y.now c.entries.i (c.requires.left ∙ sym c.requires.right) (omega (arith, c.requires.left)) c.entries.invariant)
+unreachable-requires c = c.requires.some (FitsBelow-end c.args.x.now c.args.y.now c.entries.i (c.requires.left ∙ sym c.requires.right)
+    (omega (arith, c.requires.left)) c.entries.invariant)

@@ -11,7 +11,8 @@ entries-preserved c =
     let x = c.args.exponents.now in
     let i = c.entries.i in
     elim c.if-exponents-i-ne0.branch [
-      | then-exponents-i-ne0 w ↦ rw w.word-is (word_set (take i x) (take (i + 1) x) i c.entries.word (omega arith) (omega (arith, entry-take_last x i, entry-get_or x i)) (entry-take_more x i) c.entries.invariant)
+      | then-exponents-i-ne0 w ↦ rw w.word-is (word_set (take i x) (take (i + 1) x) i c.entries.word (omega arith)
+          (omega (arith, entry-take_last x i, entry-get_or x i)) (entry-take_more x i) c.entries.invariant)
       | else-exponents-i-ne0 w ↦ rw w.word-is (word_kept x i c.entries.word (omega (arith, entry-get_or x i)) c.entries.invariant)
     ]
 

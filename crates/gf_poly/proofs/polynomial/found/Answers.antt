@@ -9,4 +9,5 @@ pub returns-in-Equal : goal.returns-in-Equal
 returns-in-Equal c = found_at _ _ _ c.index-terms-i.result c.terms-test.true c.index-terms-i.is (sym c.in-Equal.ensures) c.terms.invariant
 
 pub returns-in-Less : goal.returns-in-Less
-returns-in-Less c = c.zero_coefficient.ensures ∙ passed_at _ _ _ c.index-terms-i.result c.terms-test.true c.index-terms-i.is (sym c.in-Less.ensures) c.terms.invariant
+returns-in-Less c = c.zero_coefficient.ensures ∙ passed_at _ _ _ c.index-terms-i.result c.terms-test.true c.index-terms-i.is (sym c.in-Less.ensures)
+    c.terms.invariant

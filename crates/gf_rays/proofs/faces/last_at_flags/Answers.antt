@@ -13,8 +13,10 @@ pub part_at_flag-requires-clause-parts : goal.part_at_flag-requires-clause-parts
 part_at_flag-requires-clause-parts c = (c.args.m, c.requires.parts.faces)
 
 pub loop-k-preserved : goal.loop-k-preserved
-loop-k-preserved c = rw c.later-last.ensures (last_more c.loop-k.k c.args.rays.now c.args.parts.now.keys c.args.i c.loop-k.last _ c.loop-k.invariant c.in_ok-part_at_flag.ensures)
+loop-k-preserved c = rw c.later-last.ensures (last_more c.loop-k.k c.args.rays.now c.args.parts.now.keys c.args.i c.loop-k.last _ c.loop-k.invariant
+    c.in_ok-part_at_flag.ensures)
 
 pub returns : goal.returns
 returns c = next_of c.args.m c.args.rays.now c.args.parts.now.keys c.args.i c.loop-k.last c.requires.parts c.requires.place
-    (subst (λ m. IsLastAtFlags m c.args.rays.now c.args.parts.now.keys c.args.i c.loop-k.last) (let e : c.loop-k.k ≡ c.args.m = omega (arith, c.loop-k-test.false, c.loop-k.auto.k-end) in e) c.loop-k.invariant)
+    (subst (λ m. IsLastAtFlags m c.args.rays.now c.args.parts.now.keys c.args.i c.loop-k.last) (let e : c.loop-k.k ≡ c.args.m =
+    omega (arith, c.loop-k-test.false, c.loop-k.auto.k-end) in e) c.loop-k.invariant)

@@ -17,7 +17,9 @@ pub loop-ray-preserved : goal.loop-ray-preserved
 loop-ray-preserved c =
     let fv : FitsSigned w128 c.in_ok-v.v = search rules in
     let en = simp to_z-of_z at c.in_ok-push.ensures.items in
-    values_more c.args.h.now c.args.rays.now c.loop-ray.ray-index c.ray-item.result c.in_ok-v.v c.loop-ray.values.items _ c.loop-ray-test.true c.ray-item.is c.in_ok-v.ensures.ok.0 c.in_ok-v.ensures.ok.1 en c.loop-ray.invariant
+    values_more c.args.h.now c.args.rays.now c.loop-ray.ray-index c.ray-item.result c.in_ok-v.v c.loop-ray.values.items _ c.loop-ray-test.true c.ray-item.is
+    c.in_ok-v.ensures.ok.0 c.in_ok-v.ensures.ok.1 en c.loop-ray.invariant
 
 pub returns-clause-ok : goal.returns-clause-ok
-returns-clause-ok c = subst (λ (l : List Ray). AreValues c.args.h.now l c.loop-ray.values.items) (take_all c.loop-ray.ray-index c.args.rays.now (omega (arith, c.loop-ray-test.false))) c.loop-ray.invariant
+returns-clause-ok c = subst (λ (l : List Ray). AreValues c.args.h.now l c.loop-ray.values.items)
+    (take_all c.loop-ray.ray-index c.args.rays.now (omega (arith, c.loop-ray-test.false))) c.loop-ray.invariant

@@ -7,4 +7,5 @@ use Rattle.gf_reduced.proofs.CriteriaLaws.{vanish_passed}
 use Rattle.gf_reduced.proofs.bases.require_pairs.Goals as goal
 
 pub returns-in-None-clause-ok : goal.returns-in-None-clause-ok
-returns-in-None-clause-ok c = vanish_passed c.args.by.now (subst (λ (o : Option FailingPair). IfNone o (DoAllVanish c.args.by.now)) c.in-None.is c.in_ok-first_failing.ensures.none)
+returns-in-None-clause-ok c =
+    vanish_passed c.args.by.now (subst (λ (o : Option FailingPair). IfNone o (DoAllVanish c.args.by.now)) c.in-None.is c.in_ok-first_failing.ensures.none)

@@ -8,4 +8,5 @@ returns-in_err-form-clause-cause c =
     rw (p.1, p.2) c.in_err-form.ensures.cause
 
 pub returns-clause-value : goal.returns-clause-value
-returns-clause-value c = monic_exact c.requires.n c.args.b.now c.in_ok-form.form c.requires.each c.head.ensures.marked c.head-2.ensures.marked c.in_ok-form.ensures.value
+returns-clause-value c = monic_exact c.requires.n c.args.b.now c.in_ok-form.form c.requires.each c.head.ensures.marked c.head-2.ensures.marked
+    c.in_ok-form.ensures.value

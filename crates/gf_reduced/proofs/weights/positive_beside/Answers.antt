@@ -12,4 +12,5 @@ pub returns-in-Point-clause-ok : goal.returns-in-Point-clause-ok
 returns-in-Point-clause-ok c = found_beside c.args.marked.now.variables c.args.beside.now c.args.marked.now.items _ _ c.in-Point.is c.in_ok-answer.ensures.ok
 
 pub returns-in-Farkas-clause-err : goal.returns-in-Farkas-clause-err
-returns-in-Farkas-clause-err c = (refl, refused_beside c.args.marked.now.variables c.args.beside.now c.args.marked.now.items _ _ _ c.in-Farkas.is c.in_ok-answer.ensures.ok)
+returns-in-Farkas-clause-err c =
+    (refl, refused_beside c.args.marked.now.variables c.args.beside.now c.args.marked.now.items _ _ _ c.in-Farkas.is c.in_ok-answer.ensures.ok)

@@ -9,13 +9,17 @@ pub loop-h-init : goal.loop-h-init
 loop-h-init c = zero_none c.args.rays.now c.args.lineality.now
 
 pub is_zero-requires-clause-rays : goal.is_zero-requires-clause-rays
-is_zero-requires-clause-rays c = subst (λ m. AreRows m c.args.rays.now) (sym (row_long c.requires.0 c.loop-h.h-index c.args.rows.now c.h-item.result c.loop-h-test.true c.h-item.is c.requires.1.0)) c.requires.1.1
+is_zero-requires-clause-rays c = subst (λ m. AreRows m c.args.rays.now)
+    (sym (row_long c.requires.0 c.loop-h.h-index c.args.rows.now c.h-item.result c.loop-h-test.true c.h-item.is c.requires.1.0)) c.requires.1.1
 
 pub is_zero-requires-clause-lineality : goal.is_zero-requires-clause-lineality
-is_zero-requires-clause-lineality c = subst (λ m. AreRows m c.args.lineality.now) (sym (row_long c.requires.0 c.loop-h.h-index c.args.rows.now c.h-item.result c.loop-h-test.true c.h-item.is c.requires.1.0)) c.requires.1.2
+is_zero-requires-clause-lineality c = subst (λ m. AreRows m c.args.lineality.now)
+    (sym (row_long c.requires.0 c.loop-h.h-index c.args.rows.now c.h-item.result c.loop-h-test.true c.h-item.is c.requires.1.0)) c.requires.1.2
 
 pub loop-h-preserved : goal.loop-h-preserved
-loop-h-preserved c = let t : IsTrue c.is_zero.result = search rules in let b = c.is_zero.ensures t in zero_more c.args.rows.now c.args.rays.now c.args.lineality.now c.h-item.result c.loop-h.h-index c.loop-h-test.true c.h-item.is b.0 b.1 c.loop-h.invariant
+loop-h-preserved c = let t : IsTrue c.is_zero.result = search rules in let b = c.is_zero.ensures t in
+    zero_more c.args.rows.now c.args.rays.now c.args.lineality.now c.h-item.result c.loop-h.h-index c.loop-h-test.true c.h-item.is b.0 b.1 c.loop-h.invariant
 
 pub returns : goal.returns
-returns c = λ t. subst (λ (z : List (List ℤ)). AreZeroOn z c.args.rays.now c.args.lineality.now) (take_all c.loop-h.h-index c.args.rows.now (omega (arith, c.loop-h-test.false))) c.loop-h.invariant
+returns c = λ t. subst (λ (z : List (List ℤ)). AreZeroOn z c.args.rays.now c.args.lineality.now)
+    (take_all c.loop-h.h-index c.args.rows.now (omega (arith, c.loop-h-test.false))) c.loop-h.invariant

@@ -9,9 +9,13 @@ pub loop-i-init : goal.loop-i-init
 loop-i-init c = rw c.in_ok-out.ensures.items (holders_none c.args.other.now.ambient (maximal_of c.args.fan.now) (maximal_of c.args.other.now) c.args.held.now)
 
 pub loop-i-preserved : goal.loop-i-preserved
-loop-i-preserved c = holders_more c.args.other.now.ambient (maximal_of c.args.fan.now) (maximal_of c.args.other.now) c.args.held.now c.loop-i.i (rows_of c.maximal_cone.result.now) c.holder.result c.loop-i.out.items _ (ap rows_of c.maximal_cone.ensures.value) c.in_ok-push.ensures.items c.holder.ensures c.loop-i.invariant
+loop-i-preserved c = holders_more c.args.other.now.ambient (maximal_of c.args.fan.now) (maximal_of c.args.other.now) c.args.held.now c.loop-i.i
+    (rows_of c.maximal_cone.result.now) c.holder.result c.loop-i.out.items _ (ap rows_of c.maximal_cone.ensures.value)
+    c.in_ok-push.ensures.items c.holder.ensures c.loop-i.invariant
 
 pub returns : goal.returns
 returns c =
-    let e : c.loop-i.i ≡ length (maximal_of c.args.fan.now) = omega (arith, c.loop-i-test.false, c.loop-i.auto.i-end, ap length c.maximal-i-end.ensures, maximal_long c.args.fan.now) in
-    holders_all c.args.other.now.ambient c.loop-i.i (maximal_of c.args.fan.now) (maximal_of c.args.other.now) c.args.held.now c.loop-i.out.items e c.loop-i.invariant
+    let e : c.loop-i.i ≡ length (maximal_of c.args.fan.now) =
+    omega (arith, c.loop-i-test.false, c.loop-i.auto.i-end, ap length c.maximal-i-end.ensures, maximal_long c.args.fan.now) in
+    holders_all c.args.other.now.ambient c.loop-i.i (maximal_of c.args.fan.now) (maximal_of c.args.other.now) c.args.held.now c.loop-i.out.items e
+    c.loop-i.invariant

@@ -18,7 +18,8 @@ loop-k-preserved c =
       | then-is_met+in_ok-push w ↦ rw w.out-is (met_taken held others width k c.loop-k.out.items _ w.in_ok-push.ensures.items c.loop-k.invariant)
       | else-is_met w ↦ rw w.out-is (met_left held others width k c.loop-k.out.items
           (λ t.
-          let f : c.is_met.result ≡ true = c.is_met.ensures.1 (subst (λ z. IsMet z c.deref-in-loop-k-2.result.now (k / width) (k % width)) (sym c.deref-in-loop-k.ensures.value) (subst (λ z. IsMet held z (k / width) (k % width)) (sym c.deref-in-loop-k-2.ensures.value) t)) in
+          let f : c.is_met.result ≡ true = c.is_met.ensures.1 (subst (λ z. IsMet z c.deref-in-loop-k-2.result.now (k / width) (k % width))
+          (sym c.deref-in-loop-k.ensures.value) (subst (λ z. IsMet held z (k / width) (k % width)) (sym c.deref-in-loop-k-2.ensures.value) t)) in
           let z : true ≡ false = sym f ∙ w.if-is_met.false in absurd (search rules)) c.loop-k.invariant)
     ]
 
@@ -32,7 +33,8 @@ returns-clause-pairs c =
     pairs_met f.ambient c.args.count cs ds c.deref.result.now held others c.loop-k.out.items (pairs_of_cones f h c.args.count c.requires.count)
     (subst (λ n. AreHolders n cs ds c.deref.result.now held) c.requires.ambient c.in_ok-held.ensures)
     (subst (λ z. AreHolders f.ambient ds cs z others) c.deref-2.ensures.value c.in_ok-others.ensures)
-    (subst (λ z. MetSoFar held others (length ds) z c.loop-k.out.items) k (subst (λ z. MetSoFar held others z c.loop-k.k c.loop-k.out.items) w c.loop-k.invariant))
+    (subst (λ z. MetSoFar held others (length ds) z c.loop-k.out.items) k (subst (λ z. MetSoFar held others z c.loop-k.k c.loop-k.out.items)
+    w c.loop-k.invariant))
 
 pub returns-clause-long : goal.returns-clause-long
 returns-clause-long c = omega (arith, c.loop-k.invariant.long, c.loop-k.auto.k-end)

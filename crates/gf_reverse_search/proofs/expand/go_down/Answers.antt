@@ -13,4 +13,6 @@ returns-clause-down g c =
     let ps = c.list_children-listed.new.pieces.items in
     let f = c.push_rest.ensures.follows in
     rw (← c.walker.view_is)
-    (goes_down lt up (RefusesAt up g.T.Tree.refuses) c.args.most _ (record { tree = w.tree; here = w.here; mark = w.mark; depth = w.depth }) c.list_children-listed.new.mark ps f.0 c.push_rest.new.pieces.items f.1 (subst (λ v. IsBelowMark lt v.mark [] → ⊥) (sym c.walker.view_is) c.requires.listed) e.below e.few refl f.2)
+    (goes_down lt up (RefusesAt up g.T.Tree.refuses) c.args.most _ (record { tree = w.tree; here = w.here; mark = w.mark; depth = w.depth })
+    c.list_children-listed.new.mark ps f.0 c.push_rest.new.pieces.items f.1 (subst (λ v. IsBelowMark lt v.mark [] → ⊥) (sym c.walker.view_is)
+    c.requires.listed) e.below e.few refl f.2)

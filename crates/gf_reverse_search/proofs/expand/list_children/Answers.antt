@@ -27,9 +27,11 @@ loop-labels-preserved-then-branch g c =
     let less : length l.pieces.items + 1 ≤ c.args.most = search rules in
     record {
       listed = λ k. k;
-      below = subst (λ ps. ArePiecesBelow lt g.T.Tree.up t u c.args.mark.now ps (After label)) (sym a.2) (below_more lt g.T.Tree.up t u c.args.mark.now l.mark l.pieces.items (subtree t a.0) label i.below refl h.0 h.1);
+      below = subst (λ ps. ArePiecesBelow lt g.T.Tree.up t u c.args.mark.now ps (After label)) (sym a.2)
+          (below_more lt g.T.Tree.up t u c.args.mark.now l.mark l.pieces.items (subtree t a.0) label i.below refl h.0 h.1);
       few = omega (arith, less, ap length a.2, length_push l.pieces.items (Under (subtree t a.0)));
-      room = (let r : vec_capacity c.args.pieces.now ≤ vec_capacity l.pieces = i.room in let q : vec_capacity l.pieces ≤ vec_capacity c.add_child.new.pieces = c.in_ok-add_child.ensures.room in omega arith);
+      room = (let r : vec_capacity c.args.pieces.now ≤ vec_capacity l.pieces = i.room in let q : vec_capacity l.pieces ≤ vec_capacity c.add_child.new.pieces =
+          c.in_ok-add_child.ensures.room in omega arith);
       rises = rises_next lt up u l.mark label l.labels.items rs is i.rises i.among;
       among = among_after lt up u l.mark label l.labels.items rs is i.rises i.among g.met.T.Tree.strict past;
     }

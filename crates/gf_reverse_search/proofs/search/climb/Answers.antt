@@ -11,8 +11,10 @@ returns-in-Child-clause-next g c =
     let lt = g.T.Tree.before in
     let up = g.T.Tree.up c.args.tree.now in
     let l = c.loop-depth in
-    λ top r at. Stands-child lt up g.met.T.Tree.strict (g.met.T.Tree.tree c.args.tree.now) top (After c.args.label) r l.node l.mark l.depth c.raise.new.self c.in-Child.child
-    (l.invariant.stands top r at) l.invariant.past (subst (IsTurn lt up l.node l.mark l.depth) c.in-Child.is c.in_ok-child.ensures.ok) c.in_ok-raise-in-Child.ensures.ok
+    λ top r at. Stands-child lt up g.met.T.Tree.strict (g.met.T.Tree.tree c.args.tree.now) top (After c.args.label) r l.node l.mark l.depth c.raise.new.self
+    c.in-Child.child
+    (l.invariant.stands top r at) l.invariant.past (subst (IsTurn lt up l.node l.mark l.depth) c.in-Child.is c.in_ok-child.ensures.ok)
+    c.in_ok-raise-in-Child.ensures.ok
 
 pub loop-depth-preserved : goal.loop-depth-preserved
 loop-depth-preserved g c =
@@ -24,7 +26,8 @@ loop-depth-preserved g c =
       past = λ h. h;
       way = (c.in-Up.label ∷ l.invariant.way.0, (l.node, t.1, l.invariant.way.1), let e = l.invariant.way.2 in let f = c.lower.ensures in omega arith);
       is_node = (g.met.T.Tree.nodes c.args.tree.now l.node c.in-Up.label c.in-Up.parent t.1).1;
-      stands = λ top r at. Stands-up lt up g.met.T.Tree.strict (g.met.T.Tree.tree c.args.tree.now) top (After c.args.label) r l.node l.mark l.depth c.lower.new.self c.in-Up.label c.in-Up.parent
+      stands = λ top r at. Stands-up lt up g.met.T.Tree.strict (g.met.T.Tree.tree c.args.tree.now) top (After c.args.label)
+          r l.node l.mark l.depth c.lower.new.self c.in-Up.label c.in-Up.parent
           (l.invariant.stands top r at) l.invariant.past t.0 t.1 c.lower.ensures;
     }
 
@@ -49,4 +52,5 @@ returns-in_err-raise-in-Child-clause-err g c =
     let w = l.invariant.way in
     let t = c.args.tree.now in
     let p = err_from_is_err_and c.from_residual-in_err-raise-in-Child.result c.from_residual-in_err-raise-in-Child.ensures.1 in
-    rw p.1 (refused_at (g.T.Tree.up t) (g.T.Tree.refuses t) l.node c.args.start w.0 l.depth c.args.start_depth p.0 w.1 w.2 (g.met.T.Tree.memory t l.node p.0 (g.met.T.Tree.from_memory c.in_err-raise-in-Child.field-0.0 p.0 p.2)))
+    rw p.1 (refused_at (g.T.Tree.up t) (g.T.Tree.refuses t) l.node c.args.start w.0 l.depth c.args.start_depth p.0 w.1 w.2
+    (g.met.T.Tree.memory t l.node p.0 (g.met.T.Tree.from_memory c.in_err-raise-in-Child.field-0.0 p.0 p.2)))

@@ -12,8 +12,10 @@ returns-in_ok-raise-in-Child-clause-next g c =
     let lt = g.T.Tree.before in
     let up = g.T.Tree.up c.args.tree.now in
     let a = c.args in
-    λ top r at. Stands-child lt up g.met.T.Tree.strict (g.met.T.Tree.tree c.args.tree.now) top a.mark.now r a.node.now a.mark.now a.depth.now c.raise.new.self c.in-Child.child
-    (Stands-start lt up top a.mark.now r a.node.now a.depth.now at) c.requires.listed (subst (IsTurn lt up a.node.now a.mark.now a.depth.now) c.in-Child.is c.in_ok-child.ensures.ok)
+    λ top r at. Stands-child lt up g.met.T.Tree.strict (g.met.T.Tree.tree c.args.tree.now) top a.mark.now r a.node.now a.mark.now a.depth.now c.raise.new.self
+    c.in-Child.child
+    (Stands-start lt up top a.mark.now r a.node.now a.depth.now at) c.requires.listed (subst (IsTurn lt up a.node.now a.mark.now a.depth.now)
+    c.in-Child.is c.in_ok-child.ensures.ok)
     (c.in_ok-raise-in-Child.ensures.ok ∙ ap (λ n. n + 1) c.in_ok-below-in-Child.ensures)
 
 pub returns-in_ok-above-in-Up-clause-next : goal.returns-in_ok-above-in-Up-clause-next
@@ -23,7 +25,8 @@ returns-in_ok-above-in-Up-clause-next g c =
     let a = c.args in
     let t = subst (IsTurn lt up a.node.now a.mark.now a.depth.now) c.in-Up.is c.in_ok-child.ensures.ok in
     IfOk-weaker c.climb.result (FindsNext lt up c.in-Up.parent (After c.in-Up.label) c.lower.new.self) (FindsNext lt up a.node.now a.mark.now a.depth.now)
-    (λ o h top r at. let s = Stands-up lt up g.met.T.Tree.strict (g.met.T.Tree.tree c.args.tree.now) top a.mark.now r a.node.now a.mark.now a.depth.now c.lower.new.self c.in-Up.label c.in-Up.parent
+    (λ o h top r at. let s = Stands-up lt up g.met.T.Tree.strict (g.met.T.Tree.tree c.args.tree.now) top a.mark.now r a.node.now a.mark.now a.depth.now
+    c.lower.new.self c.in-Up.label c.in-Up.parent
     (Stands-start lt up top a.mark.now r a.node.now a.depth.now at) c.requires.listed t.0 t.1 (c.lower.ensures ∙ c.in_ok-above-in-Up.ensures) in
     Finds-same lt up top a.mark.now r c.in-Up.parent (After c.in-Up.label) c.lower.new.self s o (h top s.path s.at))
     c.climb.ensures.next
@@ -56,11 +59,13 @@ returns-in_ok-above-in-Up-clause-err g c =
     let refuses = g.T.Tree.refuses a.tree.now in
     let t = subst (IsTurn g.T.Tree.before up a.node.now a.mark.now a.depth.now) c.in-Up.is c.in_ok-child.ensures.ok in
     IfErr-weaker c.climb.result (IsRefused up refuses c.in-Up.parent c.lower.new.self) (IsRefused up refuses a.node.now a.depth.now)
-    (λ e h. refused_above up refuses a.node.now c.in-Up.parent c.in-Up.label c.lower.new.self a.depth.now e t.1 (c.lower.ensures ∙ c.in_ok-above-in-Up.ensures) h) c.climb.ensures.err
+    (λ e h. refused_above up refuses a.node.now c.in-Up.parent c.in-Up.label c.lower.new.self a.depth.now e t.1
+    (c.lower.ensures ∙ c.in_ok-above-in-Up.ensures) h) c.climb.ensures.err
 
 pub returns-in_err-below-in-Child-clause-err : goal.returns-in_err-below-in-Child-clause-err
 returns-in_err-below-in-Child-clause-err g c =
     let t = c.args.tree.now in
     let v = c.args.node.now in
     let p = err_from_is_err_and c.from_residual-in_err-below-in-Child.result c.from_residual-in_err-below-in-Child.ensures.1 in
-    rw p.1 (refused_here (g.T.Tree.up t) (g.T.Tree.refuses t) v c.args.depth.now p.0 (g.met.T.Tree.memory t v p.0 (g.met.T.Tree.from_memory c.in_err-below-in-Child.field-0.0 p.0 p.2)))
+    rw p.1 (refused_here (g.T.Tree.up t) (g.T.Tree.refuses t) v c.args.depth.now p.0
+    (g.met.T.Tree.memory t v p.0 (g.met.T.Tree.from_memory c.in_err-below-in-Child.field-0.0 p.0 p.2)))

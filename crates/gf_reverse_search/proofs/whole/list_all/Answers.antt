@@ -10,14 +10,19 @@ use Rattle.gf_reverse_search.proofs.GrowingLaws.{one_more, fewer, all_there}
 use Rattle.gf_reverse_search.proofs.whole.list_all.Goals as goal
 
 pub loop-all-init : goal.loop-all-init
-loop-all-init g c = rw (c.at-walker.ensures, c.new-all.ensures.items) (record { tree = refl; at = ([], record { leads = refl; long = refl }); rest = λ nodes w. (nodes, refl, w) })
+loop-all-init g c = rw (c.at-walker.ensures, c.new-all.ensures.items) (record {
+  tree = refl;
+  at = ([], record { leads = refl; long = refl });
+  rest = λ nodes w. (nodes, refl, w);
+})
 
 pub loop-all-smaller : goal.loop-all-smaller
 loop-all-smaller g c =
     let n = g.met.T.FiniteTree.finite c.args.tree c.args.top c.requires in
     let r = c.loop-all.invariant.rest n.nodes n.leaves in
     let f = subst (IsFirstOf (IsLeftAt g.T.Tree.before g.T.Tree.up c.advance.new.self) r.0) c.in-Some.is (c.in_ok-node.ensures.list r.0 r.2) in
-    fewer n.nodes c.loop-all.all.items r.0 f.0 c.push.new.self.items c.in-Some.node (g.T.FiniteTree.count c.args.tree c.args.top) r.1 f.1 c.in_default-push.ensures.items n.few
+    fewer n.nodes c.loop-all.all.items r.0 f.0 c.push.new.self.items c.in-Some.node (g.T.FiniteTree.count c.args.tree c.args.top)
+    r.1 f.1 c.in_default-push.ensures.items n.few
 
 pub loop-all-preserved : goal.loop-all-preserved
 loop-all-preserved g c =
@@ -45,8 +50,10 @@ returns-in_err-node-clause-refused g c =
     let refuses = g.T.Tree.refuses in
     let p = err_from_is_err_and c.from_residual.result c.from_residual.ensures.1 in
     let down = subst (λ t. StandsBelow (up t) c.args.top i.at.0 w.here w.depth) (sym i.tree) i.at.1 in
-    let below = refused_below (up w.tree) (refuses w.tree) (g.met.T.Tree.tree w.tree) c.args.top w.here i.at.0 w.depth c.in_err-node.field-0.0 down.leads down.long c.in_err-node.ensures.refused in
-    rw p.1 (subst (λ e. IsRefusedBelow (up c.args.tree) (refuses c.args.tree) c.args.top e) (sym p.2) (subst (λ t. IsRefusedBelow (up t) (refuses t) c.args.top c.in_err-node.field-0.0) i.tree below))
+    let below = refused_below (up w.tree) (refuses w.tree) (g.met.T.Tree.tree w.tree) c.args.top w.here i.at.0 w.depth c.in_err-node.field-0.0 down.leads
+    down.long c.in_err-node.ensures.refused in
+    rw p.1 (subst (λ e. IsRefusedBelow (up c.args.tree) (refuses c.args.tree) c.args.top e) (sym p.2)
+    (subst (λ t. IsRefusedBelow (up t) (refuses t) c.args.top c.in_err-node.field-0.0) i.tree below))
 
 pub returns-clause-whole : goal.returns-clause-whole
 returns-clause-whole g c =
@@ -56,4 +63,5 @@ returns-clause-whole g c =
     let r = c.loop-all.invariant.rest n.nodes n.leaves in
     let f = subst (IsFirstOf (IsLeftAt g.T.Tree.before g.T.Tree.up c.advance.new.self) r.0) c.in_default.is (c.in_ok-node.ensures.list r.0 r.2) in
     subst (IsWholeList lt up c.args.top) (all_there n.nodes c.loop-all.all.items r.0 r.1 f.0)
-    (whole_below lt up g.met.T.Tree.strict (g.met.T.Tree.tree c.args.tree) c.args.top (no_loop-rank up (g.T.FiniteTree.rank c.args.tree) (g.met.T.FiniteTree.falls c.args.tree) c.args.top) n.nodes n.leaves)
+    (whole_below lt up g.met.T.Tree.strict (g.met.T.Tree.tree c.args.tree) c.args.top (no_loop-rank up (g.T.FiniteTree.rank c.args.tree)
+    (g.met.T.FiniteTree.falls c.args.tree) c.args.top) n.nodes n.leaves)

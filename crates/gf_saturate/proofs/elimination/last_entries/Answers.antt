@@ -12,10 +12,12 @@ pub from_slice-requires : goal.from_slice-requires
 from_slice-requires c = entries-all InRange (record { within = omega arith }) (record { within = omega arith }) c.args.n ROOM c.requires
 
 pub returns-clause-gains : goal.returns-clause-gains
-returns-clause-gains c = IfOk-weaker c.from_slice.result _ (λ (w : List ℤ). gains w ≡ last_weight c.args.n) (λ w e. entries-gains c.args.n ROOM w c.requires e) c.from_slice.ensures
+returns-clause-gains c = IfOk-weaker c.from_slice.result _ (λ (w : List ℤ). gains w ≡ last_weight c.args.n) (λ w e. entries-gains c.args.n ROOM w c.requires e)
+    c.from_slice.ensures
 
 pub returns-clause-bounded : goal.returns-clause-bounded
 returns-clause-bounded c = IfOk-weaker c.from_slice.result _ AreBounded (λ w e. bounded-of c.args.n ROOM w c.requires e) c.from_slice.ensures
 
 pub returns-clause-long : goal.returns-clause-long
-returns-clause-long c = IfOk-weaker c.from_slice.result _ (λ (w : List ℤ). length w ≡ c.args.n + 1) (λ w e. entries-long c.args.n ROOM w c.requires e) c.from_slice.ensures
+returns-clause-long c = IfOk-weaker c.from_slice.result _ (λ (w : List ℤ). length w ≡ c.args.n + 1) (λ w e. entries-long c.args.n ROOM w c.requires e)
+    c.from_slice.ensures

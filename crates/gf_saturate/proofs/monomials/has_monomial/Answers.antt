@@ -6,7 +6,8 @@ pub returns-then-has_one_term-clause-ok : goal.returns-then-has_one_term-clause-
 returns-then-has_one_term-clause-ok c = (λ t. c.has_one_term.ensures.member (search rules), λ m. search rules)
 
 pub returns-in-Ok-clause-ok : goal.returns-in-Ok-clause-ok
-returns-in-Ok-clause-ok c = told_as c.args.n c.args.set.now c.in-Ok.saturation c.has_unit_mark.result c.requires.variables c.in-Ok.ensures.ok c.has_unit_mark.ensures
+returns-in-Ok-clause-ok c = told_as c.args.n c.args.set.now c.in-Ok.saturation c.has_unit_mark.result c.requires.variables c.in-Ok.ensures.ok
+    c.has_unit_mark.ensures
 
 pub returns-in-Ok-clause-at_once : goal.returns-in-Ok-clause-at_once
 returns-in-Ok-clause-at_once c = λ h. let t = c.has_one_term.ensures.exact.1 h in absurd (search rules)

@@ -25,7 +25,11 @@ polynomials-preserved c =
     (is_not_one (length f) (sym c.is_of_one_term.ensures.told ∙ c.if-is_of_one_term.false)) c.polynomials.invariant
 
 pub returns-clause-exact : goal.returns-clause-exact
-returns-clause-exact c = (λ t. absurd (search rules), λ h. absurd (nowhere (λ (g : Terms). length g ≡ 1) c.args.set.now c.polynomials.i c.polynomials-test.false c.polynomials.invariant h))
+returns-clause-exact c = (
+  λ t. absurd (search rules),
+  λ h. absurd (nowhere (λ (g : Terms). length g ≡ 1) c.args.set.now c.polynomials.i c.polynomials-test.false
+      c.polynomials.invariant h),
+)
 
 pub returns-clause-member : goal.returns-clause-member
 returns-clause-member c = λ t. absurd (search rules)

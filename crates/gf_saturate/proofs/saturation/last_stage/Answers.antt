@@ -9,8 +9,10 @@ use Rattle.gf_saturate.proofs.saturation.last_stage.Goals as goal
 
 pub variables-preserved-then-exponents-k-eq0 : goal.variables-preserved-then-exponents-k-eq0
 variables-preserved-then-exponents-k-eq0 c =
-    let z : entry c.variables.stage.marks c.variables.k ≡ 0 = sym (entry-get_or c.variables.stage.marks c.variables.k) ∙ ap (λ (x : Exponents). slice_index_or x c.variables.k 0) (sym c.exponents.ensures.value) ∙ c.if-exponents-k-eq0.true in (
-      way_next c.args.n c.args.set.now c.variables.k c.variables.stage.polys.items c.variables.stage.polys.items c.variables.invariant.0 (inr (c.variables.invariant.1.spared c.variables.k c.variables-test.true z, refl)),
+    let z : entry c.variables.stage.marks c.variables.k ≡ 0 = sym (entry-get_or c.variables.stage.marks c.variables.k) ∙
+    ap (λ (x : Exponents). slice_index_or x c.variables.k 0) (sym c.exponents.ensures.value) ∙ c.if-exponents-k-eq0.true in (
+      way_next c.args.n c.args.set.now c.variables.k c.variables.stage.polys.items c.variables.stage.polys.items c.variables.invariant.0
+          (inr (c.variables.invariant.1.spared c.variables.k c.variables-test.true z, refl)),
       c.variables.invariant.1,
     )
 
@@ -25,6 +27,7 @@ returns-in-Err-clause-err c =
 pub variables-preserved : goal.variables-preserved
 variables-preserved c = (
   way_next c.args.n c.args.set.now c.variables.k c.variables.stage.polys.items c.in-Ok-step.next.polys.items c.variables.invariant.0
-      (inl (subst (λ (fs : List Terms). IsVariableStep c.args.n c.variables.k fs c.in-Ok-step.next.polys.items) c.deref.ensures.value c.in-Ok-step.ensures.step)),
+      (inl (subst (λ (fs : List Terms). IsVariableStep c.args.n c.variables.k fs c.in-Ok-step.next.polys.items)
+      c.deref.ensures.value c.in-Ok-step.ensures.step)),
   c.in-Ok-step.ensures.stage,
 )

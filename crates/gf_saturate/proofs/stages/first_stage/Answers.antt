@@ -10,7 +10,8 @@ pub basis-requires-clause-entries : goal.basis-requires-clause-entries
 basis-requires-clause-entries c = subst (HasEntries c.args.n) (sym c.deglex.ensures) tt
 
 pub basis-requires-clause-suited : goal.basis-requires-clause-suited
-basis-requires-clause-suited c = subst (λ (o : MonomialOrder). IsSuited o c.args.n c.args.set.now) (sym c.deglex.ensures) (orders_that_suit.deglex c.args.n c.args.set.now c.requires.variables)
+basis-requires-clause-suited c = subst (λ (o : MonomialOrder). IsSuited o c.args.n c.args.set.now) (sym c.deglex.ensures)
+    (orders_that_suit.deglex c.args.n c.args.set.now c.requires.variables)
 
 pub reduced-requires-clause-basis : goal.reduced-requires-clause-basis
 reduced-requires-clause-basis c = subst (λ (o : MonomialOrder). IsArrangedBasis o c.args.n c.args.set.now c.in-Ok.first) c.deglex.ensures c.in-Ok.ensures.ok

@@ -36,7 +36,8 @@ returns-then-taken-eq-MAX_INPUT-clause-long g c =
       record {
         bytes = bytes ++ get_or c.read.new.into 0 0 ∷ [];
         begun = IsBegun-more bytes (get_or c.read.new.into 0 0) so.pure;
-        took = Took-byte _ _ _ _ _ _ c.in-Ok.count bytes c.read.new.into so.took one (omega (arith, c.read.auto.into)) c.in-Ok.ensures.bytes.0 c.in-Ok.ensures.count;
+        took = Took-byte _ _ _ _ _ _ c.in-Ok.count bytes c.read.new.into so.took one (omega (arith, c.read.auto.into)) c.in-Ok.ensures.bytes.0
+            c.in-Ok.ensures.count;
         exactly = refl;
       },
     )
@@ -60,7 +61,8 @@ loop-count-preserved g c =
       record {
         pure = HasNoFeed-more bytes byte so.pure c.if-byte-eq10.false;
         kept = c.push.ensures ∙ ap (λ k. take 81 (k ++ byte ∷ [])) so.kept ∙ kept-next bytes byte;
-        took = Took-byte _ _ _ _ _ _ c.in-Ok.count bytes c.read.new.into so.took one (omega (arith, c.read.auto.into)) c.in-Ok.ensures.bytes.0 c.in-Ok.ensures.count;
+        took = Took-byte _ _ _ _ _ _ c.in-Ok.count bytes c.read.new.into so.took one (omega (arith, c.read.auto.into)) c.in-Ok.ensures.bytes.0
+            c.in-Ok.ensures.count;
         count = count-more bytes byte _ _ so.count;
         short = omega (arith, so.short, c.if-taken-eq-MAX_INPUT.false);
         calm = c.in-Ok.ensures.calm ∙ so.calm;

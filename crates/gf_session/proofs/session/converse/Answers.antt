@@ -1,7 +1,8 @@
 use Rattle.std.proofs.Common.{◌+◌, refl, inl, inr, sym, arith, ap, Err, ◌∙◌}
 use Rattle.std.proofs.KnownBytes.{Keeps-refl}
 use Rattle.std.proofs.lemmas.Result.{err_from_is_err_and}
-use Rattle.gf_session.proofs.SessionLaws.{talk-nothing, ended-by-line, ended-by-input, heard-on, talk-more, cut-off, turn-cause, cut-short, line-short, within-input, read-calm, write-calm-from}
+use Rattle.gf_session.proofs.SessionLaws.{talk-nothing, ended-by-line, ended-by-input, heard-on, talk-more, cut-off, turn-cause, cut-short, line-short}
+use Rattle.gf_session.proofs.SessionLaws.{within-input, read-calm, write-calm-from}
 use Rattle.gf_session.proofs.session.converse.Goals as goal
 
 pub loop-heard-init : goal.loop-heard-init
@@ -40,20 +41,23 @@ pub returns-in_err-turn-clause-cause : goal.returns-in_err-turn-clause-cause
 returns-in_err-turn-clause-cause g c =
     let so = c.loop-heard.invariant in
     let p = err_from_is_err_and c.from_residual.result c.from_residual.ensures.1 in
-    rw (p.1, p.2) (turn-cause _ _ _ _ _ _ _ _ _ _ _ _ _ _ _ _ _ _ _ _ c.loop-heard.taken c.in-Ok.heard c.in_err-turn.field-0.0 so.talking c.in-Ok.ensures.heard so.output_calm c.in_err-turn.ensures.cause)
+    rw (p.1, p.2) (turn-cause _ _ _ _ _ _ _ _ _ _ _ _ _ _ _ _ _ _ _ _ c.loop-heard.taken c.in-Ok.heard c.in_err-turn.field-0.0 so.talking c.in-Ok.ensures.heard
+    so.output_calm c.in_err-turn.ensures.cause)
 
 pub returns-then-heard-clause-ended : goal.returns-then-heard-clause-ended
 returns-then-heard-clause-ended g c =
     let so = c.loop-heard.invariant in
     let on = heard-on _ _ _ _ _ _ _ _ _ _ _ _ _ c.loop-heard.taken c.in-Ok.heard so.talking c.in-Ok.ensures.heard in
-    inl (ended-by-input _ _ _ _ _ _ _ _ _ _ _ _ _ _ _ _ c.loop-heard.taken c.in-Ok.heard so.talking c.in-Ok.ensures.heard c.if-heard.true (c.in_ok-turn.ensures.taken _ _ on))
+    inl (ended-by-input _ _ _ _ _ _ _ _ _ _ _ _ _ _ _ _ c.loop-heard.taken c.in-Ok.heard so.talking c.in-Ok.ensures.heard c.if-heard.true
+    (c.in_ok-turn.ensures.taken _ _ on))
 
 pub loop-heard-preserved : goal.loop-heard-preserved
 loop-heard-preserved g c =
     let so = c.loop-heard.invariant in
     let on = heard-on _ _ _ _ _ _ _ _ _ _ _ _ _ c.loop-heard.taken c.in-Ok.heard so.talking c.in-Ok.ensures.heard in
     record {
-      talking = talk-more _ _ _ _ _ _ _ _ _ _ _ _ _ _ _ _ c.loop-heard.taken c.in-Ok.heard so.talking c.in-Ok.ensures.heard c.if-heard.false (c.in_ok-turn.ensures.taken _ _ on);
+      talking = talk-more _ _ _ _ _ _ _ _ _ _ _ _ _ _ _ _ c.loop-heard.taken c.in-Ok.heard so.talking c.in-Ok.ensures.heard c.if-heard.false
+          (c.in_ok-turn.ensures.taken _ _ on);
       place = c.in_ok-turn.ensures.place;
       short = c.in-Ok.ensures.short;
       source_calm = c.in-Ok.ensures.calm (λ e. cc e) ∙ so.source_calm;

@@ -5,7 +5,8 @@ use Rattle.gf_session.proofs.session.converse.Given as goal
 -- what was written is the answer to the lines that were taken, in turn, and no count of faults rose
 abbrev pub invariant-loop-heard : goal.invariant-loop-heard
 invariant-loop-heard g l = record {
-  talking : IsTalking (g.M.Moves.rules l.moves) (g.M.Moves.joins l.moves) (record { here = l.fn.start; before = [] }) l.here l.crossed.items (g.S.Source.left l.initial.source) (g.S.Source.left l.source)
+  talking : IsTalking (g.M.Moves.rules l.moves) (g.M.Moves.joins l.moves) (record { here = l.fn.start; before = [] }) l.here l.crossed.items
+      (g.S.Source.left l.initial.source) (g.S.Source.left l.source)
       (g.S.Source.given l.initial.source) (g.S.Source.given l.source) (g.K.Sink.held l.initial.output) (g.K.Sink.held l.output) l.taken;
   place : g.M.Moves.is_place l.moves l.here;
   short : l.taken ≤ 67108864;

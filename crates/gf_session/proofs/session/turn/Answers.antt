@@ -1,4 +1,5 @@
-use Rattle.gf_session.proofs.TurnLaws.{turn-blank, taken, led-on, led-nowhere, led-back, led-nowhere_back, led-unknown, on-ok, if-err, on-as, cause-offer, cause-prompt, cause-back, cause-no_way_back, near-across}
+use Rattle.gf_session.proofs.TurnLaws.{turn-blank, taken, led-on, led-nowhere, led-back, led-nowhere_back, led-unknown, on-ok, if-err, on-as, cause-offer}
+use Rattle.gf_session.proofs.TurnLaws.{cause-prompt, cause-back, cause-no_way_back, near-across}
 use Rattle.std.proofs.lemmas.Result.{err_from_is_err_and}
 use Rattle.gf_session.proofs.session.turn.Goals as goal
 
@@ -9,14 +10,16 @@ pub returns-then-branch-clause-taken : goal.returns-then-branch-clause-taken
 returns-then-branch-clause-taken g c =
     let gone = rw c.if-branch.true at c.in_ok-go_on-in-Across.ensures.ok in
     on-ok c.prompt.result c.prompt.ensures.ok (λ p s asked on. taken _ _ s asked _ _ p.text _ _
-    (led-on _ _ _ _ _ _ _ c.in-Across.number s asked p.text gone (rw (c.len.ensures, c.go_on.new.crossed.ok.0) at p.told) (on-as _ _ _ _ _ s asked c.in-Across.is on)) p.gained)
+    (led-on _ _ _ _ _ _ _ c.in-Across.number s asked p.text gone (rw (c.len.ensures, c.go_on.new.crossed.ok.0) at p.told)
+    (on-as _ _ _ _ _ s asked c.in-Across.is on)) p.gained)
 
 pub returns-then-branch-clause-cause : goal.returns-then-branch-clause-cause
 returns-then-branch-clause-cause g c =
     let gone = rw c.if-branch.true at c.in_ok-go_on-in-Across.ensures.ok in
     if-err _ _ c.prompt.result c.prompt.ensures.err (λ e cause. cause-prompt _ _ _ _ _ _ _ _ _ _ _ _ e
     (λ text told s asked on. led-on _ _ _ _ _ _ _ c.in-Across.number s asked text gone told (on-as _ _ _ _ _ s asked c.in-Across.is on))
-    (λ s asked on. near-across _ _ _ _ _ _ _ c.in-Across.number s asked gone (on-as _ _ _ _ _ s asked c.in-Across.is on)) (rw (c.len.ensures, c.go_on.new.crossed.ok.0) at cause))
+    (λ s asked on. near-across _ _ _ _ _ _ _ c.in-Across.number s asked gone (on-as _ _ _ _ _ s asked c.in-Across.is on))
+    (rw (c.len.ensures, c.go_on.new.crossed.ok.0) at cause))
 
 pub returns-else-branch-clause-taken : goal.returns-else-branch-clause-taken
 returns-else-branch-clause-taken g c =
@@ -34,7 +37,8 @@ pub returns-then-branch-2-clause-taken : goal.returns-then-branch-2-clause-taken
 returns-then-branch-2-clause-taken g c =
     let back = rw c.if-branch-2.true at c.in_ok-go_back-in-Undo.ensures.ok in
     on-ok c.prompt-then-branch-2.result c.prompt-then-branch-2.ensures.ok (λ p s asked on. taken _ _ s asked _ _ p.text _ _
-    (led-back _ _ _ _ _ _ _ s asked p.text back (rw (c.len-then-branch-2.ensures, c.go_back.new.crossed.ok.0) at p.told) (on-as _ _ _ _ _ s asked c.in-Undo.is on)) p.gained)
+    (led-back _ _ _ _ _ _ _ s asked p.text back (rw (c.len-then-branch-2.ensures, c.go_back.new.crossed.ok.0) at p.told)
+    (on-as _ _ _ _ _ s asked c.in-Undo.is on)) p.gained)
 
 pub returns-then-branch-2-clause-cause : goal.returns-then-branch-2-clause-cause
 returns-then-branch-2-clause-cause g c =

@@ -4,10 +4,12 @@ use Rattle.gf_small.proofs.InitialFormsLaws.{here_not_zero}
 use Rattle.gf_small.proofs.initial.place_or_first.Goals as goal
 
 pub returns-in-Equal-clause-there : goal.returns-in-Equal-clause-there
-returns-in-Equal-clause-there c = λ _. head_at_place c.args.x.now c.args.terms.now c.terms.i c.index-terms-i.result c.terms-test.true c.index-terms-i.is (sym c.compare.ensures ∙ c.in-Equal.is)
+returns-in-Equal-clause-there c = λ _. head_at_place c.args.x.now c.args.terms.now c.terms.i c.index-terms-i.result c.terms-test.true c.index-terms-i.is
+    (sym c.compare.ensures ∙ c.in-Equal.is)
 
 pub returns-in-Equal-clause-elsewhere : goal.returns-in-Equal-clause-elsewhere
-returns-in-Equal-clause-elsewhere c = λ z. absurd (here_not_zero (length c.args.x.now) c.args.terms.now c.args.x.now c.terms.i c.index-terms-i.result c.requires.same_variables c.requires.descending c.terms-test.true c.index-terms-i.is (sym c.compare.ensures ∙ c.in-Equal.is) z)
+returns-in-Equal-clause-elsewhere c = λ z. absurd (here_not_zero (length c.args.x.now) c.args.terms.now c.args.x.now c.terms.i c.index-terms-i.result
+    c.requires.same_variables c.requires.descending c.terms-test.true c.index-terms-i.is (sym c.compare.ensures ∙ c.in-Equal.is) z)
 
 pub returns-clause-there : goal.returns-clause-there
 returns-clause-there c = λ n. absurd (elsewhere_end c.args.x.now c.terms.i c.args.terms.now c.requires.same_variables n c.terms-test.false c.terms.invariant)

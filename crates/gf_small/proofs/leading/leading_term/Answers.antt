@@ -13,4 +13,5 @@ returns-clause-value c =
     let poly = c.from_descending.ensures ∙ c.in_ok-push.ensures.items ∙ ap (λ (l : Terms). l ++ t ∷ []) c.in_ok-terms.ensures.items in
     let mono = c.copy-mono.ensures ∙ c.head-head.ensures.value in
     leading_exact c.args.b.now c.mark.result k c.requires c.head-head.ensures.marked c.coefficient-coef.ensures.term
-    (c.mark.ensures ∙ ap (λ (f : Terms). record { poly = f; head = head_of f 0 }) poly ∙ ap (λ (m : Exponents). record { poly = record { coef = k; mono = m } ∷ []; head = m }) mono)
+    (c.mark.ensures ∙ ap (λ (f : Terms). record { poly = f; head = head_of f 0 }) poly ∙
+    ap (λ (m : Exponents). record { poly = record { coef = k; mono = m } ∷ []; head = m }) mono)

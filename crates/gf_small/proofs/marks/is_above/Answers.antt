@@ -22,8 +22,9 @@ returns-in_default c =
     let e = simp to_z-of_z at c.cmp.ensures in
     record {
       above = λ q. absurd (cc);
-      below = λ _. elim (not_above c.args.x.now c.args.y.now c.cmp-in-Equal.result (lex_by c.args.x.now c.args.y.now c.cmp-in-Equal.result c.requires c.cmp-in-Equal.ensures) c.in_default.not-Greater) [
-        | inl q ↦ inl q
-        | inr b ↦ inr (inr (by_equal c.args.weight c.args.other c.cmp.result e c.in-Equal.is, b))
-      ];
+      below = λ _. elim (not_above c.args.x.now c.args.y.now c.cmp-in-Equal.result
+          (lex_by c.args.x.now c.args.y.now c.cmp-in-Equal.result c.requires c.cmp-in-Equal.ensures) c.in_default.not-Greater) [
+            | inl q ↦ inl q
+            | inr b ↦ inr (inr (by_equal c.args.weight c.args.other c.cmp.result e c.in-Equal.is, b))
+          ];
     }

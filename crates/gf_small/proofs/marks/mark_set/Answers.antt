@@ -8,11 +8,14 @@ marked_by-requires-clause-some c = some_at c.args.set.now c.polynomials.f-index 
 
 pub marked_by-requires-clause-same_variables : goal.marked_by-requires-clause-same_variables
 marked_by-requires-clause-same_variables c =
-    subst (λ (n : ℕ). HasVariables n c.f-item.result) (sym (ap length c.as_slice-weight.ensures.value)) (variables_at (length c.args.vector.now) c.args.set.now c.polynomials.f-index c.f-item.result c.requires.variables c.polynomials-test.true c.f-item.is)
+    subst (λ (n : ℕ). HasVariables n c.f-item.result) (sym (ap length c.as_slice-weight.ensures.value))
+    (variables_at (length c.args.vector.now) c.args.set.now c.polynomials.f-index c.f-item.result c.requires.variables c.polynomials-test.true c.f-item.is)
 
 pub polynomials-preserved : goal.polynomials-preserved
 polynomials-preserved c =
-    marked-more c.as_slice-weight.result.now c.args.set.now c.polynomials.found.items c.push.new.self.items c.polynomials.f-index c.f-item.result c.in_ok-b.b c.polynomials-test.true c.f-item.is c.in_ok-b.ensures.polynomial c.in_ok-b.ensures.mark c.in_ok-push.ensures.items c.polynomials.invariant
+    marked-more c.as_slice-weight.result.now c.args.set.now c.polynomials.found.items c.push.new.self.items c.polynomials.f-index c.f-item.result c.in_ok-b.b
+    c.polynomials-test.true c.f-item.is c.in_ok-b.ensures.polynomial c.in_ok-b.ensures.mark c.in_ok-push.ensures.items c.polynomials.invariant
 
 pub new-requires : goal.new-requires
-new-requires c = marked-variables (length c.args.vector.now) _ _ c.args.set.now c.polynomials.found.items c.polynomials.f-index (ap length c.as_slice-weight.ensures.value) c.requires.variables c.polynomials-test.false c.polynomials.invariant
+new-requires c = marked-variables (length c.args.vector.now) _ _ c.args.set.now c.polynomials.found.items c.polynomials.f-index
+    (ap length c.as_slice-weight.ensures.value) c.requires.variables c.polynomials-test.false c.polynomials.invariant

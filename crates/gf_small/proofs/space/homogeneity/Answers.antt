@@ -24,5 +24,7 @@ pub returns-clause-complete : goal.returns-clause-complete
 returns-clause-complete c = λ within.
     let none : c.as_slice.result.now ≡ [] = c.as_slice.ensures.value ∙ c.new-none.ensures.items in
     let rows : c.as_slice-2.result.now ≡ rows_of_polynomials c.args.set.now = c.as_slice-2.ensures.value ∙ c.in_ok-rows.ensures.value in
-    let limits : AreRaysWithinLimits c.args.n c.as_slice.result.now c.as_slice-2.result.now = subst (λ (h : List (List ℤ)). AreRaysWithinLimits c.args.n h c.as_slice-2.result.now) (sym none) (subst (AreRaysWithinLimits c.args.n []) (sym rows) within) in
+    let limits : AreRaysWithinLimits c.args.n c.as_slice.result.now c.as_slice-2.result.now =
+    subst (λ (h : List (List ℤ)). AreRaysWithinLimits c.args.n h c.as_slice-2.result.now) (sym none) (subst (AreRaysWithinLimits c.args.n []) (sym rows)
+    within) in
     c.of.ensures.complete limits

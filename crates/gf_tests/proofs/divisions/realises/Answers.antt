@@ -7,4 +7,5 @@ use Rattle.gf_tests.proofs.divisions.realises.Goals as goal
 pub returns : goal.returns
 returns c = λ _. realisable_by_members c.args.set.now.variables c.args.weight.now c.args.set.now.items
     (subst (λ (n : ℕ). IsPositive n c.args.weight.now) (sym c.requires.variables) c.requires.positive)
-    (subst (Each (IsRealisedBy c.args.weight.now)) c.items-items.ensures.value (each-all (IsRealisedBy c.args.weight.now) c.items-items.result.now c.members.i c.members-test.false c.members.invariant))
+    (subst (Each (IsRealisedBy c.args.weight.now)) c.items-items.ensures.value
+    (each-all (IsRealisedBy c.args.weight.now) c.items-items.result.now c.members.i c.members-test.false c.members.invariant))

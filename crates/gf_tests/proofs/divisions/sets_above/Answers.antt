@@ -8,10 +8,13 @@ use Rattle.gf_division.proofs.WeighedMarks.{IsWithin, each-all, realised_by_term
 use Rattle.gf_tests.proofs.divisions.sets_above.Goals as goal
 
 pub is_within-requires-clause-same_variables : goal.is_within-requires-clause-same_variables
-is_within-requires-clause-same_variables c = HasVariables-at (length c.args.weight.now) c.terms-terms.result.now c.terms.i c.index-terms-i.result c.terms-test.true c.index-terms-i.is (subst (HasVariables (length c.args.weight.now)) (sym (c.terms-terms.ensures.value ∙ c.poly.ensures)) c.requires.variables)
+is_within-requires-clause-same_variables c = HasVariables-at (length c.args.weight.now) c.terms-terms.result.now c.terms.i c.index-terms-i.result
+    c.terms-test.true c.index-terms-i.is (subst (HasVariables (length c.args.weight.now))
+    (sym (c.terms-terms.ensures.value ∙ c.poly.ensures)) c.requires.variables)
 
 pub is_within-requires-clause-of_head : goal.is_within-requires-clause-of_head
-is_within-requires-clause-of_head c = ap length c.head-head.ensures.value ∙ head_length (length c.args.weight.now) c.args.b.now c.requires.variables c.head-head.ensures.marked
+is_within-requires-clause-of_head c = ap length c.head-head.ensures.value ∙ head_length (length c.args.weight.now) c.args.b.now c.requires.variables
+    c.head-head.ensures.marked
 
 pub returns : goal.returns
 returns c = λ _. realised_by_terms (length c.args.weight.now) c.args.weight.now c.args.b.now c.requires.variables c.head-head.ensures.marked

@@ -9,7 +9,8 @@ pub terms-init : goal.terms-init
 terms-init c = taken_none _ _
 
 pub mono_of-requires-clause-within : goal.mono_of-requires-clause-within
-mono_of-requires-clause-within c = subst (IsTermWithin c.args.n) (sym c.term-item.is) (term_at c.args.n c.args.terms.now c.terms.term-index c.term-item.result c.requires.within c.terms-test.true)
+mono_of-requires-clause-within c = subst (IsTermWithin c.args.n) (sym c.term-item.is)
+    (term_at c.args.n c.args.terms.now c.terms.term-index c.term-item.result c.requires.within c.terms-test.true)
 
 pub terms-preserved : goal.terms-preserved
 terms-preserved c =

@@ -11,7 +11,8 @@ pub terms-init : goal.terms-init
 terms-init c = passed_none _ _ _
 
 pub mono_of-requires-clause-within : goal.mono_of-requires-clause-within
-mono_of-requires-clause-within c = subst (IsTermWithin c.args.n) (sym c.term-item.is) (term_at c.args.n c.args.terms.now c.terms.term-index c.term-item.result c.requires.within c.terms-test.true)
+mono_of-requires-clause-within c = subst (IsTermWithin c.args.n) (sym c.term-item.is)
+    (term_at c.args.n c.args.terms.now c.terms.term-index c.term-item.result c.requires.within c.terms-test.true)
 
 pub place_of-requires-clause-same_variables : goal.place_of-requires-clause-same_variables
 place_of-requires-clause-same_variables c =
@@ -22,7 +23,8 @@ pub returns-in-Some-clause-ok : goal.returns-in-Some-clause-ok
 returns-in-Some-clause-ok c =
     let said = ap (exponents_of c.args.n) (sym c.term-item.is) ∙ c.in_ok-mono.ensures.ok in
     let found = subst (λ g. IsPlaceOf g c.in_ok-mono.mono c.in-Some.place) c.terms-in-terms.ensures.value c.in-Some.ensures in
-    passed_found c.args.n c.args.terms.now c.args.sum.now c.terms.term-index c.term-item.result c.in_ok-mono.mono c.in-Some.place c.terms-test.true said c.requires.sum found c.terms.invariant
+    passed_found c.args.n c.args.terms.now c.args.sum.now c.terms.term-index c.term-item.result c.in_ok-mono.mono c.in-Some.place c.terms-test.true said
+    c.requires.sum found c.terms.invariant
 
 pub terms-preserved : goal.terms-preserved
 terms-preserved c =

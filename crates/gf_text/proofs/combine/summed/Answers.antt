@@ -5,13 +5,16 @@ use Rattle.gf_text.proofs.SetsLaws.{marked_sum, one_sum, summing_cause}
 use Rattle.gf_text.proofs.combine.summed.Goals as goal
 
 pub returns-in-Err-clause-err : goal.returns-in-Err-clause-err
-returns-in-Err-clause-err c = rw c.sum_error.ensures (summing_cause c.args.n c.args.terms.now c.in_ok-made.made.items c.in-Err.error c.in_ok-made.ensures.ok c.in-Err.ensures.cause)
+returns-in-Err-clause-err c =
+    rw c.sum_error.ensures (summing_cause c.args.n c.args.terms.now c.in_ok-made.made.items c.in-Err.error c.in_ok-made.ensures.ok c.in-Err.ensures.cause)
 
 pub first_remaining-requires-clause-sum : goal.first_remaining-requires-clause-sum
-first_remaining-requires-clause-sum c = λ f all. subst (SamePolynomial c.in-Ok.sum) (one_sum c.args.n c.args.terms.now c.in_ok-made.made.items f c.in_ok-made.ensures.ok all) c.in-Ok.ensures.value
+first_remaining-requires-clause-sum c = λ f all. subst (SamePolynomial c.in-Ok.sum)
+    (one_sum c.args.n c.args.terms.now c.in_ok-made.made.items f c.in_ok-made.ensures.ok all) c.in-Ok.ensures.value
 
 pub first_remaining-requires-clause-variables : goal.first_remaining-requires-clause-variables
-first_remaining-requires-clause-variables c = c.in-Ok.ensures.variables.at c.args.n (terms_variables c.args.n c.args.terms.now c.in_ok-made.made.items c.in_ok-made.ensures.ok)
+first_remaining-requires-clause-variables c =
+    c.in-Ok.ensures.variables.at c.args.n (terms_variables c.args.n c.args.terms.now c.in_ok-made.made.items c.in_ok-made.ensures.ok)
 
 pub mark-requires : goal.mark-requires
 mark-requires c =

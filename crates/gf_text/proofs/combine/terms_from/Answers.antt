@@ -6,7 +6,8 @@ use Rattle.gf_text.proofs.LimitsLaws.{term_at}
 use Rattle.gf_text.proofs.combine.terms_from.Goals as goal
 
 pub term_of-requires-clause-within : goal.term_of-requires-clause-within
-term_of-requires-clause-within c = subst (IsTermWithin c.args.n) (sym c.term-item.is) (term_at c.args.n c.args.terms.now c.terms.term-index c.term-item.result c.requires.within c.terms-test.true)
+term_of-requires-clause-within c = subst (IsTermWithin c.args.n) (sym c.term-item.is)
+    (term_at c.args.n c.args.terms.now c.terms.term-index c.term-item.result c.requires.within c.terms-test.true)
 
 pub terms-preserved : goal.terms-preserved
 terms-preserved c =

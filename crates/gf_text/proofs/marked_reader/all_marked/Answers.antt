@@ -25,7 +25,8 @@ returns-in_err-marked-clause-err c =
     let number = c.index_of-set.ensures ∙ ap (λ k. min k (2 ^ 32 - 1)) count in
     let p = err_from_is_err_and c.from_residual-in_err-marked.result c.from_residual-in_err-marked.ensures.1 in
     rw (p.1, p.2) (
-    zero_of c.args.n (sets_in c.args.sets.items) i.taken c.in-Some.written.items (sets_in (into_iter_items c.next.new.self)) c.sets.all.items c.index_of-set.result c.in_err-marked.field-0.0 whole i.marked number c.in_err-marked.ensures.err
+    zero_of c.args.n (sets_in c.args.sets.items) i.taken c.in-Some.written.items (sets_in (into_iter_items c.next.new.self))
+    c.sets.all.items c.index_of-set.result c.in_err-marked.field-0.0 whole i.marked number c.in_err-marked.ensures.err
     )
 
 pub sets-preserved : goal.sets-preserved
@@ -39,6 +40,7 @@ sets-preserved c =
     record {
       taken = i.taken ++ ws ∷ [];
       whole = whole ∙ sym (append_assoc i.taken (ws ∷ []) (sets_in (into_iter_items c.next.new.self)));
-      marked = subst (AreMarkedSets c.args.n (i.taken ++ ws ∷ [])) (sym c.in_ok-push.ensures.items) (marked_push c.args.n i.taken c.sets.all.items ws c.in_ok-marked.marked i.marked c.in_ok-marked.ensures.ok c.in_ok-marked.ensures.variables);
+      marked = subst (AreMarkedSets c.args.n (i.taken ++ ws ∷ [])) (sym c.in_ok-push.ensures.items)
+          (marked_push c.args.n i.taken c.sets.all.items ws c.in_ok-marked.marked i.marked c.in_ok-marked.ensures.ok c.in_ok-marked.ensures.variables);
       left = omega arith;
     }

@@ -21,7 +21,8 @@ returns-in-Halt-clause-ring c =
     let move = sym c.in_ok-next.ensures ∙ ap (λ m. ring_move m c.step.new.names) c.in-Halt.is in
     rw c.refused_at-in-Halt.ensures (
     failed (ring_at source c.args.from) c.in-Some.start c.in-Halt.cause
-    (sym c.loop-start.invariant.same ∙ run_halt ring_step (c.loop-start.place, c.loop-start.names) c.in-Halt.cause (length source) _ (lexeme source c.in-Some.start c.in-Some.end) _ c.in-Some.ensures.token move)
+    (sym c.loop-start.invariant.same ∙ run_halt ring_step (c.loop-start.place, c.loop-start.names) c.in-Halt.cause (length source) _
+    (lexeme source c.in-Some.start c.in-Some.end) _ c.in-Some.ensures.token move)
     )
 
 pub returns-in-Done-clause-ring : goal.returns-in-Done-clause-ring
@@ -29,7 +30,8 @@ returns-in-Done-clause-ring c =
     let source = c.args.source.now in
     let move = sym c.in_ok-next.ensures ∙ ap (λ m. ring_move m c.step.new.names) c.in-Done.is in
     sym c.loop-start.invariant.same
-    ∙ run_done ring_step (c.loop-start.place, c.loop-start.names) c.step.new.names (length source) _ (lexeme source c.in-Some.start c.in-Some.end) _ c.in-Some.ensures.token move
+    ∙ run_done ring_step (c.loop-start.place, c.loop-start.names) c.step.new.names (length source) _ (lexeme source c.in-Some.start c.in-Some.end)
+    _ c.in-Some.ensures.token move
     ∙ ap (λ n. Ok (c.step.new.names, n)) (behind-lexeme source c.in-Some.start c.in-Some.end c.in-Some.ensures.within.1 c.in-Some.ensures.within.2)
 
 pub loop-start-preserved : goal.loop-start-preserved
@@ -38,6 +40,7 @@ loop-start-preserved c =
     let move = sym c.in_ok-next.ensures ∙ ap (λ m. ring_move m c.step.new.names) c.in-Go.is in
     record {
       within = c.in-Some.ensures.within.2;
-      same = sym (run_go ring_step (c.loop-start.place, c.loop-start.names) (c.in-Go.next, c.step.new.names) (length source) _ (lexeme source c.in-Some.start c.in-Some.end) _ c.in-Some.ensures.token move)
+      same = sym (run_go ring_step (c.loop-start.place, c.loop-start.names) (c.in-Go.next, c.step.new.names) (length source) _
+          (lexeme source c.in-Some.start c.in-Some.end) _ c.in-Some.ensures.token move)
           ∙ c.loop-start.invariant.same;
     }

@@ -13,7 +13,8 @@ pub returns-in_default-clause-err : goal.returns-in_default-clause-err
 returns-in_default-clause-err c =
     let ring = c.args.ring.now in
     let source = c.args.source.now in
-    rw c.refused_at.ensures (failed _ (length source) Ended (first_ended (set_step ring) (Brace, empty) (ring_more ring) source [] c.args.from c.in_default.ensures.token))
+    rw c.refused_at.ensures (failed _ (length source) Ended (first_ended (set_step ring) (Brace, empty) (ring_more ring) source
+    [] c.args.from c.in_default.ensures.token))
 
 pub returns-then-is_mark-clause-ok : goal.returns-then-is_mark-clause-ok
 returns-then-is_mark-clause-ok c =

@@ -13,7 +13,8 @@ pub returns-in_default-clause-err : goal.returns-in_default-clause-err
 returns-in_default-clause-err c =
     let ring = c.args.ring.now in
     let source = c.args.source.now in
-    rw c.refused_at.ensures (failed _ (length source) Ended (opening_ended (set_step ring) (Brace, empty) (ring_more ring) source [] c.args.from c.in_default.ensures.token))
+    rw c.refused_at.ensures (failed _ (length source) Ended (opening_ended (set_step ring) (Brace, empty) (ring_more ring) source
+    [] c.args.from c.in_default.ensures.token))
 
 pub returns-then-not-is_mark-clause-err : goal.returns-then-not-is_mark-clause-err
 returns-then-not-is_mark-clause-err c =
@@ -21,7 +22,8 @@ returns-then-not-is_mark-clause-err c =
     let source = c.args.source.now in
     let other = sym c.is_mark.ensures ∙ c.if-not-is_mark.true in
     rw c.refused_at-then-not-is_mark.ensures (
-    failed _ c.in-Some.start Unexpected (opening_none (set_step ring) (Brace, empty) (ring_more ring) source [] c.args.from c.in-Some.start c.in-Some.end c.in-Some.ensures.token other)
+    failed _ c.in-Some.start Unexpected (opening_none (set_step ring) (Brace, empty) (ring_more ring) source [] c.args.from c.in-Some.start c.in-Some.end
+    c.in-Some.ensures.token other)
     )
 
 pub returns-in_err-sums-clause-err : goal.returns-in_err-sums-clause-err

@@ -12,7 +12,8 @@ write_term-requires g c =
     let same = c.terms-terms.ensures.value ∙ c.poly.ensures in
     let variables = rw (← same) at c.requires in
     let within = rw (← same) at c.index.ensures.inside in
-    ap (λ (t : Term). length t.mono) c.index-terms-index.is ∙ variables_at_place n c.terms-terms.result.now c.index.result c.index-terms-index.result variables within
+    ap (λ (t : Term). length t.mono) c.index-terms-index.is ∙ variables_at_place n c.terms-terms.result.now c.index.result c.index-terms-index.result variables
+    within
 
 pub returns-in_err-write_term : goal.returns-in_err-write_term
 returns-in_err-write_term g c =
@@ -29,6 +30,7 @@ returns g c =
     let same = c.terms-terms.ensures.value ∙ c.poly.ensures in
     let descending = rw c.poly.ensures at c.terms-terms.ensures.descending in
     told_then c.write_others.result _ _ _ _ _ _ _ _ _
-    (marked_parts c.args.ring.now c.args.marked.now c.terms-terms.result.now (length c.args.ring.now) c.index.result c.index-terms-index.result c.exponents.result.now
+    (marked_parts c.args.ring.now c.args.marked.now c.terms-terms.result.now (length c.args.ring.now) c.index.result c.index-terms-index.result
+    c.exponents.result.now
     same c.index-terms-index.is c.index.ensures.inside c.requires descending c.index.ensures.head c.exponents.ensures.value)
     c.in_ok-write_term.ensures c.write_others.ensures

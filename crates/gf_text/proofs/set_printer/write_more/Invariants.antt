@@ -5,4 +5,5 @@ use Rattle.gf_text.proofs.set_printer.write_more.Given as goal
 
 abbrev pub invariant-loop-marked : goal.invariant-loop-marked
 invariant-loop-marked g l =
-    Wrote (g.E.Sink.held l.initial.sink) (g.E.Sink.held l.sink) (g.E.Sink.faults l.initial.sink) (g.E.Sink.faults l.sink) (flat_map (λ k. 44 ∷ 10 ∷ marked_text l.ring k) (take l.marked-index l.items))
+    Wrote (g.E.Sink.held l.initial.sink) (g.E.Sink.held l.sink) (g.E.Sink.faults l.initial.sink) (g.E.Sink.faults l.sink)
+    (flat_map (λ k. 44 ∷ 10 ∷ marked_text l.ring k) (take l.marked-index l.items))

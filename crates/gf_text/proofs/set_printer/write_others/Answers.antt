@@ -15,5 +15,6 @@ write_other-requires g c =
 pub returns-in_err-write_other : goal.returns-in_err-write_other
 returns-in_err-write_other g c =
     let p = err_from_is_err_and c.from_residual.result c.from_residual.ensures.1 in
-    told_failed c.from_residual.result p.0 _ _ _ _ _ _ _ p.1 (parts_split (other_text c.args.ring.now c.args.head.now) c.args.terms.now c.loop-term.term-index c.term-item.result c.loop-term-test.true c.term-item.is)
+    told_failed c.from_residual.result p.0 _ _ _ _ _ _ _ p.1 (parts_split (other_text c.args.ring.now c.args.head.now) c.args.terms.now c.loop-term.term-index
+    c.term-item.result c.loop-term-test.true c.term-item.is)
     (wrote_then_part _ _ _ _ _ _ _ _ c.loop-term.invariant c.in_err-write_other.ensures)

@@ -30,7 +30,10 @@ returns-in_default-clause-err c =
     let i = c.loop-start.invariant in
     let tokens = c.in_default.ensures.token in
     rw c.refused_at.ensures (
-    failed _ (length source) Ended (reading_ended ring c.names-names.ensures.ring source c.args.from c.loop-start.at (c.loop-start.place, c.loop-start.part) i.said i.reading tokens)
+    failed _ (length source) Ended (reading_ended ring c.names-names.ensures.ring source c.args.from c.loop-start.at (
+      c.loop-start.place,
+      c.loop-start.part,
+    ) i.said i.reading tokens)
     )
 
 pub returns-in-Halt-clause-err : goal.returns-in-Halt-clause-err
@@ -43,7 +46,8 @@ returns-in-Halt-clause-err c =
     let x = lexeme source c.in-Some.start c.in-Some.end in
     rw c.refused_at-in-Halt.ensures (
     failed _ c.in-Some.start c.in-Halt.cause
-    (reading_halt ring c.names-names.ensures.ring source c.args.from c.loop-start.at c.in-Some.end x (c.loop-start.place, c.loop-start.part) i.said i.reading tokens c.in-Halt.cause move)
+    (reading_halt ring c.names-names.ensures.ring source c.args.from c.loop-start.at c.in-Some.end x (c.loop-start.place, c.loop-start.part) i.said i.reading
+    tokens c.in-Halt.cause move)
     )
 
 pub add_read-requires-clause-within : goal.add_read-requires-clause-within
@@ -55,7 +59,8 @@ add_read-requires-clause-within c =
     let move = sym c.in_ok-next.ensures ∙ ap (λ m. set_move m c.step.new.self) c.in-Done.is in
     let x = lexeme source c.in-Some.start c.in-Some.end in
     subst (λ n. ArePolynomialsWithin n c.step.new.self.polynomials) (sym c.len-n.ensures.value)
-    (done_within ring c.names-names.ensures.ring source c.args.from c.loop-start.at c.in-Some.end x (c.loop-start.place, c.loop-start.part) i.said i.reading tokens c.step.new.self.polynomials move)
+    (done_within ring c.names-names.ensures.ring source c.args.from c.loop-start.at c.in-Some.end x (c.loop-start.place, c.loop-start.part) i.said i.reading
+    tokens c.step.new.self.polynomials move)
 
 pub returns-in-Done-clause-ok : goal.returns-in-Done-clause-ok
 returns-in-Done-clause-ok c =
@@ -69,7 +74,8 @@ returns-in-Done-clause-ok c =
     let adds = subst (λ n. Adds n ps c.loop-start.sums c.add_read.new.self) c.len-n.ensures.value c.in_ok-add_read-in-Done.ensures in
     record {
       said = i.said ++ ps;
-      read = reading_done ring c.names-names.ensures.ring source c.args.from c.loop-start.at c.in-Some.end x (c.loop-start.place, c.loop-start.part) i.said i.reading tokens ps move
+      read = reading_done ring c.names-names.ensures.ring source c.args.from c.loop-start.at c.in-Some.end x (c.loop-start.place, c.loop-start.part) i.said
+          i.reading tokens ps move
           ∙ ap (λ n. Ok (i.said ++ ps, n)) (behind-lexeme source c.in-Some.start c.in-Some.end c.in-Some.ensures.within.1 c.in-Some.ensures.within.2);
       come = adds i.said i.come;
     }
@@ -83,7 +89,8 @@ add_read-requires-in-loop-start-clause-within c =
     let move = sym c.in_ok-next.ensures ∙ ap (λ m. set_move m c.step.new.self) c.in-Go.is in
     let x = lexeme source c.in-Some.start c.in-Some.end in
     subst (λ n. ArePolynomialsWithin n c.step.new.self.polynomials) (sym c.len-n.ensures.value)
-    (go_within ring c.names-names.ensures.ring source c.args.from c.loop-start.at c.in-Some.end x (c.loop-start.place, c.loop-start.part) i.said i.reading tokens (c.in-Go.next, c.step.new.self) move)
+    (go_within ring c.names-names.ensures.ring source c.args.from c.loop-start.at c.in-Some.end x (c.loop-start.place, c.loop-start.part) i.said i.reading
+    tokens (c.in-Go.next, c.step.new.self) move)
 
 pub loop-start-preserved : goal.loop-start-preserved
 loop-start-preserved c =
@@ -100,7 +107,9 @@ loop-start-preserved c =
       forward = (let before = c.loop-start.invariant.forward in let next = c.in-Some.ensures.within.0 in let rises = c.in-Some.ensures.within.1 in omega arith);
       said = i.said ++ ps;
       none = c.clear.ensures;
-      reading = subst (λ l. Reading ring source c.args.from c.in-Some.end (c.in-Go.next, record (c.step.new.self) { polynomials = l }) (i.said ++ ps)) (sym c.clear.ensures)
-          (reading_go ring c.names-names.ensures.ring source c.args.from c.loop-start.at c.in-Some.end x (c.loop-start.place, c.loop-start.part) i.said i.reading tokens (c.in-Go.next, c.step.new.self) move);
+      reading = subst (λ l. Reading ring source c.args.from c.in-Some.end (c.in-Go.next, record (c.step.new.self) { polynomials = l }) (i.said ++ ps))
+          (sym c.clear.ensures)
+          (reading_go ring c.names-names.ensures.ring source c.args.from c.loop-start.at c.in-Some.end x (c.loop-start.place, c.loop-start.part) i.said
+          i.reading tokens (c.in-Go.next, c.step.new.self) move);
       come = adds i.said i.come;
     }

@@ -14,7 +14,8 @@ pub returns-in_default-clause-err : goal.returns-in_default-clause-err
 returns-in_default-clause-err c =
     let source = c.args.source.now in
     rw c.refused_at.ensures (
-    dimension_fault (record { source = source; at = c.args.from }) (record { at = length source; cause = Ended }) (run_ended (single_step takes_dimension) tt (length source) _ c.in_default.ensures.token)
+    dimension_fault (record { source = source; at = c.args.from }) (record { at = length source; cause = Ended })
+    (run_ended (single_step takes_dimension) tt (length source) _ c.in_default.ensures.token)
     )
 
 pub returns-in-None-clause-err : goal.returns-in-None-clause-err
@@ -23,7 +24,8 @@ returns-in-None-clause-err c =
     let no = c.in-None.ensures in
     rw c.refused_at-in-None.ensures (
     dimension_fault (record { source = source; at = c.args.from }) (record { at = c.in-Some.start; cause = Unexpected })
-    (run_halt (single_step takes_dimension) tt Unexpected (length source) _ (lexeme source c.in-Some.start c.in-Some.end) _ c.in-Some.ensures.token (rw no refl))
+    (run_halt (single_step takes_dimension) tt Unexpected (length source) _ (lexeme source c.in-Some.start c.in-Some.end) _ c.in-Some.ensures.token
+    (rw no refl))
     )
 
 pub returns-in-Wide-clause-err : goal.returns-in-Wide-clause-err

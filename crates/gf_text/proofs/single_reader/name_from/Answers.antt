@@ -13,7 +13,8 @@ returns-in_default-clause-err c =
     let source = c.args.source.now in
     let names = c.args.ring.now in
     rw c.refused_at.ensures (
-    name_fault names (record { source = source; at = c.args.from }) (record { at = length source; cause = Ended }) (run_ended (single_step (takes_name names)) tt (length source) _ c.in_default.ensures.token)
+    name_fault names (record { source = source; at = c.args.from }) (record { at = length source; cause = Ended })
+    (run_ended (single_step (takes_name names)) tt (length source) _ c.in_default.ensures.token)
     )
 
 pub returns-then-not-is_name-clause-err : goal.returns-then-not-is_name-clause-err
@@ -23,7 +24,8 @@ returns-then-not-is_name-clause-err c =
     let no = sym c.is_name.ensures ∙ c.if-not-is_name.true in
     rw c.refused_at-then-not-is_name.ensures (
     name_fault names (record { source = source; at = c.args.from }) (record { at = c.in-Some.start; cause = Unexpected })
-    (run_halt (single_step (takes_name names)) tt Unexpected (length source) _ (lexeme source c.in-Some.start c.in-Some.end) _ c.in-Some.ensures.token (rw no refl))
+    (run_halt (single_step (takes_name names)) tt Unexpected (length source) _ (lexeme source c.in-Some.start c.in-Some.end) _ c.in-Some.ensures.token
+    (rw no refl))
     )
 
 pub returns-then-has-clause-err : goal.returns-then-has-clause-err
@@ -34,7 +36,8 @@ returns-then-has-clause-err c =
     let there = sym c.has.ensures ∙ c.if-has.true in
     rw c.refused_at-then-has.ensures (
     name_fault names (record { source = source; at = c.args.from }) (record { at = c.in-Some.start; cause = RepeatedName })
-    (run_halt (single_step (takes_name names)) tt RepeatedName (length source) _ (lexeme source c.in-Some.start c.in-Some.end) _ c.in-Some.ensures.token (rw (named, there) refl))
+    (run_halt (single_step (takes_name names)) tt RepeatedName (length source) _ (lexeme source c.in-Some.start c.in-Some.end) _ c.in-Some.ensures.token
+    (rw (named, there) refl))
     )
 
 pub returns-clause-ok : goal.returns-clause-ok

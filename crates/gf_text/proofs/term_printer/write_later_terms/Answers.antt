@@ -15,5 +15,6 @@ write_term-requires g c =
 pub returns-in_err-write_term : goal.returns-in_err-write_term
 returns-in_err-write_term g c =
     let p = err_from_is_err_and c.from_residual.result c.from_residual.ensures.1 in
-    told_failed c.from_residual.result p.0 _ _ _ _ _ _ _ p.1 (parts_split (λ (t : Term). later_text c.args.ring.now t.coef t.mono) c.args.terms.now c.loop-term.term-index c.term-item.result c.loop-term-test.true c.term-item.is)
+    told_failed c.from_residual.result p.0 _ _ _ _ _ _ _ p.1 (parts_split (λ (t : Term). later_text c.args.ring.now t.coef t.mono)
+    c.args.terms.now c.loop-term.term-index c.term-item.result c.loop-term-test.true c.term-item.is)
     (wrote_then_part _ _ _ _ _ _ _ _ c.loop-term.invariant c.in_err-write_term.ensures)

@@ -20,5 +20,6 @@ returns-in_err-write_raised-clause-text g c =
     let front = wrote_both _ _ _ _ _ _ _ _ c.in_ok-write_times.ensures c.in_ok-write_bytes.ensures in
     let last = wrote_then_part _ _ _ _ _ _ _ _ front c.in_err-write_raised.ensures in
     told_failed c.from_residual-in_err-write_raised.result p.0 _ _ _ _ _ [] _ p.1
-    (append-nil ((times_text c.args.some ++ c.args.name.now) ++ raised_text c.args.exponent) ∙ append_assoc (times_text c.args.some) c.args.name.now (raised_text c.args.exponent) ∙ parts)
+    (append-nil ((times_text c.args.some ++ c.args.name.now) ++ raised_text c.args.exponent) ∙ append_assoc (times_text c.args.some) c.args.name.now
+    (raised_text c.args.exponent) ∙ parts)
     last

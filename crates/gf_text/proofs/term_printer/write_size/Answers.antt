@@ -11,10 +11,12 @@ pub returns-in_err-write_number : goal.returns-in_err-write_number
 returns-in_err-write_number g c =
     let p = err_from_is_err_and c.from_residual.result c.from_residual.ensures.1 in
     let n : to_z w128 (of_z w128 c.numer.result) ≡ c.args.coefficient.now.num = grind (arith, to_z-of_z) in
-    told_failed c.from_residual.result p.0 _ _ _ _ _ _ _ p.1 (size_parts c.args.coefficient.now c.unsigned_abs.result c.args.coefficient.now.den (c.unsigned_abs.ensures.value ∙ ap unsigned_abs n) refl) c.in_err-write_number.ensures
+    told_failed c.from_residual.result p.0 _ _ _ _ _ _ _ p.1 (size_parts c.args.coefficient.now c.unsigned_abs.result c.args.coefficient.now.den
+    (c.unsigned_abs.ensures.value ∙ ap unsigned_abs n) refl) c.in_err-write_number.ensures
 
 pub returns : goal.returns
 returns g c =
     let n : to_z w128 (of_z w128 c.numer.result) ≡ c.args.coefficient.now.num = grind (arith, to_z-of_z) in
     let d : c.unsigned_abs-2.result ≡ c.args.coefficient.now.den = grind (arith, to_z-of_z) in
-    told_then c.write_over.result _ _ _ _ _ _ _ _ _ (size_parts c.args.coefficient.now c.unsigned_abs.result c.unsigned_abs-2.result (c.unsigned_abs.ensures.value ∙ ap unsigned_abs n) d) c.in_ok-write_number.ensures c.write_over.ensures
+    told_then c.write_over.result _ _ _ _ _ _ _ _ _ (size_parts c.args.coefficient.now c.unsigned_abs.result c.unsigned_abs-2.result
+    (c.unsigned_abs.ensures.value ∙ ap unsigned_abs n) d) c.in_ok-write_number.ensures c.write_over.ensures

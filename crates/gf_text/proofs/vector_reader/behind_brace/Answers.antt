@@ -10,7 +10,8 @@ use Rattle.gf_text.proofs.vector_reader.behind_brace.Goals as goal
 pub returns-in_default-clause-vectors : goal.returns-in_default-clause-vectors
 returns-in_default-clause-vectors c =
     let source = c.args.source.now in
-    rw c.refused_at.ensures (failed _ (length source) Ended (first_ended vector_step (Parenthesis, []) word_more source [] c.args.from c.in_default.ensures.token))
+    rw c.refused_at.ensures (failed _ (length source) Ended (first_ended vector_step (Parenthesis, []) word_more source
+    [] c.args.from c.in_default.ensures.token))
 
 pub returns-then-is_mark-clause-vectors : goal.returns-then-is_mark-clause-vectors
 returns-then-is_mark-clause-vectors c =
@@ -24,4 +25,5 @@ pub returns-clause-vectors : goal.returns-clause-vectors
 returns-clause-vectors c =
     let source = c.args.source.now in
     let other = sym c.is_mark.ensures ∙ c.if-is_mark.false in
-    rw (first_other vector_step (Parenthesis, []) word_more source [] c.args.from c.in-Some.start c.in-Some.end c.in-Some.ensures.token other) c.items_from.ensures.vectors
+    rw (first_other vector_step (Parenthesis, []) word_more source [] c.args.from c.in-Some.start c.in-Some.end c.in-Some.ensures.token other)
+    c.items_from.ensures.vectors

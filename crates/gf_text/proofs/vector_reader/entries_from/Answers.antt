@@ -21,7 +21,8 @@ returns-in-Halt-clause-vector c =
     let move = sym c.in_ok-next.ensures ∙ ap (λ m. vector_move m c.step.new.entries.items) c.in-Halt.is in
     rw c.refused_at-in-Halt.ensures (
     failed (vector_at source c.args.from) c.in-Some.start c.in-Halt.cause
-    (sym c.loop-start.invariant.same ∙ run_halt vector_step (c.loop-start.place, c.loop-start.entries.items) c.in-Halt.cause (length source) _ (lexeme source c.in-Some.start c.in-Some.end) _ c.in-Some.ensures.token move)
+    (sym c.loop-start.invariant.same ∙ run_halt vector_step (c.loop-start.place, c.loop-start.entries.items) c.in-Halt.cause (length source) _
+    (lexeme source c.in-Some.start c.in-Some.end) _ c.in-Some.ensures.token move)
     )
 
 pub returns-in-Done-clause-vector : goal.returns-in-Done-clause-vector
@@ -29,7 +30,8 @@ returns-in-Done-clause-vector c =
     let source = c.args.source.now in
     let move = sym c.in_ok-next.ensures ∙ ap (λ m. vector_move m c.step.new.entries.items) c.in-Done.is in
     sym c.loop-start.invariant.same
-    ∙ run_done vector_step (c.loop-start.place, c.loop-start.entries.items) c.step.new.entries.items (length source) _ (lexeme source c.in-Some.start c.in-Some.end) _ c.in-Some.ensures.token move
+    ∙ run_done vector_step (c.loop-start.place, c.loop-start.entries.items) c.step.new.entries.items (length source) _
+    (lexeme source c.in-Some.start c.in-Some.end) _ c.in-Some.ensures.token move
     ∙ ap (λ n. Ok (c.step.new.entries.items, n)) (behind-lexeme source c.in-Some.start c.in-Some.end c.in-Some.ensures.within.1 c.in-Some.ensures.within.2)
 
 pub loop-start-preserved : goal.loop-start-preserved
@@ -39,6 +41,7 @@ loop-start-preserved c =
     record {
       within = c.in-Some.ensures.within.2;
       forward = (let before = c.loop-start.invariant.forward in let next = c.in-Some.ensures.within.0 in let rises = c.in-Some.ensures.within.1 in omega arith);
-      same = sym (run_go vector_step (c.loop-start.place, c.loop-start.entries.items) (c.in-Go.next, c.step.new.entries.items) (length source) _ (lexeme source c.in-Some.start c.in-Some.end) _ c.in-Some.ensures.token move)
+      same = sym (run_go vector_step (c.loop-start.place, c.loop-start.entries.items) (c.in-Go.next, c.step.new.entries.items) (length source) _
+          (lexeme source c.in-Some.start c.in-Some.end) _ c.in-Some.ensures.token move)
           ∙ c.loop-start.invariant.same;
     }

@@ -15,7 +15,8 @@ from_vec-requires c =
     within_in_range c.in_ok-entries.entries.items (vector_within (texts r.front) c.in_ok-entries.entries.items r.text)
 
 pub returns-clause-ok : goal.returns-clause-ok
-returns-clause-ok c = rw (c.from_vec.ensures) (vector_read c.args.source.now c.args.from c.in_ok-entries.entries.items c.in_ok-entries.end c.in_ok-entries.ensures.vector)
+returns-clause-ok c =
+    rw (c.from_vec.ensures) (vector_read c.args.source.now c.args.from c.in_ok-entries.entries.items c.in_ok-entries.end c.in_ok-entries.ensures.vector)
 
 pub returns-clause-entries : goal.returns-clause-entries
 returns-clause-entries c =

@@ -17,7 +17,8 @@ returns-in-None-clause-ok c =
     let cone = c.args.cone.now in
     let is = c.requires.cone in
     child_none k v c.args.normal.now (no_crossing v.variables k v.items cone is c.args.normal.now
-    (missing_read v.variables k v.items cone is c.normals-list.result.now c.args.normal.now c.normals-list.ensures.value (subst (IsVectorPlace c.normals-list.result.now c.args.normal.now) c.in-None.is c.place_of.ensures)))
+    (missing_read v.variables k v.items cone is c.normals-list.result.now c.args.normal.now c.normals-list.ensures.value
+    (subst (IsVectorPlace c.normals-list.result.now c.args.normal.now) c.in-None.is c.place_of.ensures)))
 
 pub sign-requires-clause-small : goal.sign-requires-clause-small
 sign-requires-clause-small c =
@@ -25,8 +26,10 @@ sign-requires-clause-small c =
     let v = c.args.set.now in
     let cone = c.args.cone.now in
     let is = c.requires.cone in
-    let at = place_read v.variables k v.items cone is c.normals-list.result.now c.args.normal.now c.in-Some.place c.normals-list.ensures.value (subst (IsVectorPlace c.normals-list.result.now c.args.normal.now) c.in-Some.is c.place_of.ensures) in
-    small_at v.variables k v.items cone is c.normals-list.result.now c.args.normal.now c.index-list-place.result c.in-Some.place c.normals-list.ensures.value c.normals-list.ensures.small at c.index-list-place.is
+    let at = place_read v.variables k v.items cone is c.normals-list.result.now c.args.normal.now c.in-Some.place c.normals-list.ensures.value
+    (subst (IsVectorPlace c.normals-list.result.now c.args.normal.now) c.in-Some.is c.place_of.ensures) in
+    small_at v.variables k v.items cone is c.normals-list.result.now c.args.normal.now c.index-list-place.result c.in-Some.place c.normals-list.ensures.value
+    c.normals-list.ensures.small at c.index-list-place.is
 
 pub sign-requires-clause-width : goal.sign-requires-clause-width
 sign-requires-clause-width c =
@@ -34,8 +37,10 @@ sign-requires-clause-width c =
     let v = c.args.set.now in
     let cone = c.args.cone.now in
     let is = c.requires.cone in
-    let at = place_read v.variables k v.items cone is c.normals-list.result.now c.args.normal.now c.in-Some.place c.normals-list.ensures.value (subst (IsVectorPlace c.normals-list.result.now c.args.normal.now) c.in-Some.is c.place_of.ensures) in
-    wide_at v.variables k v.items cone is c.normals-list.result.now c.index-list-place.result c.in-Some.place c.normals-list.ensures.value c.normals-list.ensures.widths at.0 c.index-list-place.is c.requires.node.fan.region
+    let at = place_read v.variables k v.items cone is c.normals-list.result.now c.args.normal.now c.in-Some.place c.normals-list.ensures.value
+    (subst (IsVectorPlace c.normals-list.result.now c.args.normal.now) c.in-Some.is c.place_of.ensures) in
+    wide_at v.variables k v.items cone is c.normals-list.result.now c.index-list-place.result c.in-Some.place c.normals-list.ensures.value
+    c.normals-list.ensures.widths at.0 c.index-list-place.is c.requires.node.fan.region
 
 pub returns-in-Less-clause-ok : goal.returns-in-Less-clause-ok
 returns-in-Less-clause-ok c =
@@ -43,8 +48,10 @@ returns-in-Less-clause-ok c =
     let v = c.args.set.now in
     let cone = c.args.cone.now in
     let is = c.requires.cone in
-    let at = place_read v.variables k v.items cone is c.normals-list.result.now c.args.normal.now c.in-Some.place c.normals-list.ensures.value (subst (IsVectorPlace c.normals-list.result.now c.args.normal.now) c.in-Some.is c.place_of.ensures) in
-    child_upward k v c.args.normal.now (negative_read v.variables k v.items cone is c.normals-list.result.now c.args.normal.now c.index-list-place.result c.in-Some.place c.sign.result c.normals-list.ensures.value at c.index-list-place.is c.sign.ensures.negative c.in-Less.is)
+    let at = place_read v.variables k v.items cone is c.normals-list.result.now c.args.normal.now c.in-Some.place c.normals-list.ensures.value
+    (subst (IsVectorPlace c.normals-list.result.now c.args.normal.now) c.in-Some.is c.place_of.ensures) in
+    child_upward k v c.args.normal.now (negative_read v.variables k v.items cone is c.normals-list.result.now c.args.normal.now c.index-list-place.result
+    c.in-Some.place c.sign.result c.normals-list.ensures.value at c.index-list-place.is c.sign.ensures.negative c.in-Less.is)
 
 pub returns-in_err-crossing-clause-cause : goal.returns-in_err-crossing-clause-cause
 returns-in_err-crossing-clause-cause c =
@@ -52,7 +59,8 @@ returns-in_err-crossing-clause-cause c =
     let v = c.args.set.now in
     let cone = c.args.cone.now in
     let is = c.requires.cone in
-    let at = place_read v.variables k v.items cone is c.normals-list.result.now c.args.normal.now c.in-Some.place c.normals-list.ensures.value (subst (IsVectorPlace c.normals-list.result.now c.args.normal.now) c.in-Some.is c.place_of.ensures) in
+    let at = place_read v.variables k v.items cone is c.normals-list.result.now c.args.normal.now c.in-Some.place c.normals-list.ensures.value
+    (subst (IsVectorPlace c.normals-list.result.now c.args.normal.now) c.in-Some.is c.place_of.ensures) in
     let p = err_from_is_err_and c.from_residual.result c.from_residual.ensures.1 in
     rw p.1 (place_at k c.args.tree.now.pairs v cone c.in-Some.place c.in_err-crossing.field-0.0 p.0 is at.0 c.in_err-crossing.ensures.err p.2)
 
@@ -62,9 +70,11 @@ returns-in-None-crossing c =
     let v = c.args.set.now in
     let cone = c.args.cone.now in
     let is = c.requires.cone in
-    let at = place_read v.variables k v.items cone is c.normals-list.result.now c.args.normal.now c.in-Some.place c.normals-list.ensures.value (subst (IsVectorPlace c.normals-list.result.now c.args.normal.now) c.in-Some.is c.place_of.ensures) in
+    let at = place_read v.variables k v.items cone is c.normals-list.result.now c.args.normal.now c.in-Some.place c.normals-list.ensures.value
+    (subst (IsVectorPlace c.normals-list.result.now c.args.normal.now) c.in-Some.is c.place_of.ensures) in
     record {
-      ok = child_none k v c.args.normal.now (refuted_crossing v.variables k v.items cone is c.args.normal.now c.in-Some.place c.in_ok-crossing.crossing at c.in_ok-crossing.ensures.told c.in-None-crossing.is);
+      ok = child_none k v c.args.normal.now (refuted_crossing v.variables k v.items cone is c.args.normal.now c.in-Some.place c.in_ok-crossing.crossing at
+          c.in_ok-crossing.ensures.told c.in-None-crossing.is);
       cause = tt;
     }
 
@@ -74,5 +84,7 @@ crossed-requires-clause-flippable c =
     let v = c.args.set.now in
     let cone = c.args.cone.now in
     let is = c.requires.cone in
-    let at = place_read v.variables k v.items cone is c.normals-list.result.now c.args.normal.now c.in-Some.place c.normals-list.ensures.value (subst (IsVectorPlace c.normals-list.result.now c.args.normal.now) c.in-Some.is c.place_of.ensures) in
-    shown_crossing v.variables k v.items cone is c.args.normal.now c.in-Some.place c.in-Some-crossing.witness c.in_ok-crossing.crossing at c.in_ok-crossing.ensures.told c.in-Some-crossing.is
+    let at = place_read v.variables k v.items cone is c.normals-list.result.now c.args.normal.now c.in-Some.place c.normals-list.ensures.value
+    (subst (IsVectorPlace c.normals-list.result.now c.args.normal.now) c.in-Some.is c.place_of.ensures) in
+    shown_crossing v.variables k v.items cone is c.args.normal.now c.in-Some.place c.in-Some-crossing.witness c.in_ok-crossing.crossing at
+    c.in_ok-crossing.ensures.told c.in-Some-crossing.is

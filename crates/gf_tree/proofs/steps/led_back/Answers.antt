@@ -20,7 +20,8 @@ returns-in-None-clause-ok c =
     let shown = subst (λ (w : MarkedPolynomials). IsConeOf w.variables k w.items cone) c.neighbour.view_is c.in_ok-cone.ensures in
     let is = shown in
     no_way v.variables k v.items cone is c.args.back.now
-    (missing_read v.variables k v.items cone is c.normals.result.now c.args.back.now c.normals.ensures.value (subst (IsVectorPlace c.normals.result.now c.args.back.now) c.in-None.is c.place_of.ensures))
+    (missing_read v.variables k v.items cone is c.normals.result.now c.args.back.now c.normals.ensures.value
+    (subst (IsVectorPlace c.normals.result.now c.args.back.now) c.in-None.is c.place_of.ensures))
 
 pub returns-in_err-is_way_up-clause-cause : goal.returns-in_err-is_way_up-clause-cause
 returns-in_err-is_way_up-clause-cause c =
@@ -29,7 +30,8 @@ returns-in_err-is_way_up-clause-cause c =
     let cone = c.in_ok-cone.cone in
     let shown = subst (λ (w : MarkedPolynomials). IsConeOf w.variables k w.items cone) c.neighbour.view_is c.in_ok-cone.ensures in
     let is = shown in
-    let at = place_read v.variables k v.items cone is c.normals.result.now c.args.back.now c.in-Some.place c.normals.ensures.value (subst (IsVectorPlace c.normals.result.now c.args.back.now) c.in-Some.is c.place_of.ensures) in
+    let at = place_read v.variables k v.items cone is c.normals.result.now c.args.back.now c.in-Some.place c.normals.ensures.value
+    (subst (IsVectorPlace c.normals.result.now c.args.back.now) c.in-Some.is c.place_of.ensures) in
     let p = err_from_is_err_and c.from_residual-in_err-is_way_up.result c.from_residual-in_err-is_way_up.ensures.1 in
     rw p.1 (cone_at k c.args.tree.now.pairs v cone _ c.in_err-is_way_up.field-0.0 p.0 is (let l = at.0 in omega (arith, l)) c.in_err-is_way_up.ensures.err p.2)
 
@@ -40,8 +42,12 @@ returns-in-true-clause-ok c =
     let cone = c.in_ok-cone.cone in
     let shown = subst (λ (w : MarkedPolynomials). IsConeOf w.variables k w.items cone) c.neighbour.view_is c.in_ok-cone.ensures in
     let is = shown in
-    let at = place_read v.variables k v.items cone is c.normals.result.now c.args.back.now c.in-Some.place c.normals.ensures.value (subst (IsVectorPlace c.normals.result.now c.args.back.now) c.in-Some.is c.place_of.ensures) in
-    (c.neighbour.view_is, (told_way v.variables k v.items cone is c.args.back.now c.in-Some.place c.in_ok-is_way_up.field-0 at c.in_ok-is_way_up.ensures.ok).0 c.in-true.is)
+    let at = place_read v.variables k v.items cone is c.normals.result.now c.args.back.now c.in-Some.place c.normals.ensures.value
+    (subst (IsVectorPlace c.normals.result.now c.args.back.now) c.in-Some.is c.place_of.ensures) in (
+      c.neighbour.view_is,
+      (told_way v.variables k v.items cone is c.args.back.now c.in-Some.place c.in_ok-is_way_up.field-0 at c.in_ok-is_way_up.ensures.ok).0
+          c.in-true.is,
+    )
 
 pub returns-clause-ok : goal.returns-clause-ok
 returns-clause-ok c =
@@ -50,6 +56,7 @@ returns-clause-ok c =
     let cone = c.in_ok-cone.cone in
     let shown = subst (λ (w : MarkedPolynomials). IsConeOf w.variables k w.items cone) c.neighbour.view_is c.in_ok-cone.ensures in
     let is = shown in
-    let at = place_read v.variables k v.items cone is c.normals.result.now c.args.back.now c.in-Some.place c.normals.ensures.value (subst (IsVectorPlace c.normals.result.now c.args.back.now) c.in-Some.is c.place_of.ensures) in
+    let at = place_read v.variables k v.items cone is c.normals.result.now c.args.back.now c.in-Some.place c.normals.ensures.value
+    (subst (IsVectorPlace c.normals.result.now c.args.back.now) c.in-Some.is c.place_of.ensures) in
     not_told c.in_ok-is_way_up.field-0 (IsWayUp v.variables k v.items c.args.back.now)
     (told_way v.variables k v.items cone is c.args.back.now c.in-Some.place c.in_ok-is_way_up.field-0 at c.in_ok-is_way_up.ensures.ok) c.in-false.is

@@ -43,7 +43,11 @@ returns-clause-value c =
     let u = c.up.node in
     let w = c.up.invariant.path in
     subst (IsRootFor k c.args.set) (sym c.into_basis.ensures)
-    (root_for k c.args.set u c.requires (record { is_root = top_here k u (subst (IsWayAnswer k u) c.in_default.is c.in_ok-facet.ensures.ok); path = w.0; leads = w.1 }))
+    (root_for k c.args.set u c.requires (record {
+      is_root = top_here k u (subst (IsWayAnswer k u) c.in_default.is c.in_ok-facet.ensures.ok);
+      path = w.0;
+      leads = w.1;
+    }))
 
 pub up-smaller : goal.up-smaller
 up-smaller c =
@@ -51,4 +55,5 @@ up-smaller c =
     let v = c.up.node in
     let a = c.in-Some.facet in
     let u = c.in_ok-node.node in
-    upward_falls k v (negated a) u (parent_across k v u a c.up.invariant.is_node (subst (IsWayAnswer k v) c.in-Some.is c.in_ok-facet.ensures.ok) c.in_ok-node.ensures.ok)
+    upward_falls k v (negated a) u (parent_across k v u a c.up.invariant.is_node (subst (IsWayAnswer k v) c.in-Some.is c.in_ok-facet.ensures.ok)
+    c.in_ok-node.ensures.ok)

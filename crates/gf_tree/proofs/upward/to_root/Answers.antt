@@ -14,4 +14,5 @@ returns-in_err-copy-clause-way c =
 pub returns-clause-complete : goal.returns-clause-complete
 returns-clause-complete c =
     let way = subst (λ (k : Region). IfErr c.ascended.result (IsWayRefused k c.args.pairs c.args.set)) c.in_ok-copy.ensures c.ascended.ensures.way in
-    only_memory (fan_of c.args.region.now c.args.set) c.args.pairs c.ascended.result (way_only c.args.region.now c.args.pairs c.args.set c.ascended.result c.requires way)
+    only_memory (fan_of c.args.region.now c.args.set) c.args.pairs c.ascended.result
+    (way_only c.args.region.now c.args.pairs c.args.set c.ascended.result c.requires way)

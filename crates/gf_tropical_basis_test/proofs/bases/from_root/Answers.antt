@@ -13,18 +13,23 @@ use Rattle.gf_tropical_basis_test.proofs.WalkLaws.{search_refused}
 use Rattle.gf_tropical_basis_test.proofs.bases.from_root.Goals as goal
 
 pub loop-walker-init : goal.loop-walker-init
-loop-walker-init c = rw c.in_ok-walker.ensures (passed_none c.args.root.variables (maximal_rows c.args.fan.now) (walk_at c.args.root c.args.region.now c.args.pairs) c.requires.own)
+loop-walker-init c = rw c.in_ok-walker.ensures (passed_none c.args.root.variables (maximal_rows c.args.fan.now)
+    (walk_at c.args.root c.args.region.now c.args.pairs) c.requires.own)
 
 pub at_basis-requires-clause-room : goal.at_basis-requires-clause-room
 at_basis-requires-clause-room c =
-    let s : IsStepTo c.loop-walker.walker c.advance.new.self c.in-Some.basis = subst (IsAdvance c.loop-walker.walker c.advance.new.self) c.in-Some.is c.in_ok-basis.ensures.ok in
-    let n : c.in-Some.basis.variables ≡ c.args.root.variables = step_variables c.args.region.now c.args.root c.args.pairs c.args.root.variables (maximal_rows c.args.fan.now) c.loop-walker.walker c.advance.new.self c.in-Some.basis c.loop-walker.invariant s in
+    let s : IsStepTo c.loop-walker.walker c.advance.new.self c.in-Some.basis =
+    subst (IsAdvance c.loop-walker.walker c.advance.new.self) c.in-Some.is c.in_ok-basis.ensures.ok in
+    let n : c.in-Some.basis.variables ≡ c.args.root.variables = step_variables c.args.region.now c.args.root c.args.pairs c.args.root.variables
+    (maximal_rows c.args.fan.now) c.loop-walker.walker c.advance.new.self c.in-Some.basis c.loop-walker.invariant s in
     subst (λ m. m < ROOM) (sym n) c.requires.room
 
 pub at_basis-requires-clause-ambient : goal.at_basis-requires-clause-ambient
 at_basis-requires-clause-ambient c =
-    let s : IsStepTo c.loop-walker.walker c.advance.new.self c.in-Some.basis = subst (IsAdvance c.loop-walker.walker c.advance.new.self) c.in-Some.is c.in_ok-basis.ensures.ok in
-    let n : c.in-Some.basis.variables ≡ c.args.root.variables = step_variables c.args.region.now c.args.root c.args.pairs c.args.root.variables (maximal_rows c.args.fan.now) c.loop-walker.walker c.advance.new.self c.in-Some.basis c.loop-walker.invariant s in
+    let s : IsStepTo c.loop-walker.walker c.advance.new.self c.in-Some.basis =
+    subst (IsAdvance c.loop-walker.walker c.advance.new.self) c.in-Some.is c.in_ok-basis.ensures.ok in
+    let n : c.in-Some.basis.variables ≡ c.args.root.variables = step_variables c.args.region.now c.args.root c.args.pairs c.args.root.variables
+    (maximal_rows c.args.fan.now) c.loop-walker.walker c.advance.new.self c.in-Some.basis c.loop-walker.invariant s in
     c.requires.ambient ∙ sym n
 
 pub returns-in_err-basis-clause-err : goal.returns-in_err-basis-clause-err
@@ -32,45 +37,73 @@ returns-in_err-basis-clause-err c =
     let p = err_from_is_err_and c.from_residual-in_err-basis.result c.from_residual-in_err-basis.ensures.1 in
     rw (p.1, p.2) (λ fs start h.
     let top : IsRootFor (all_positive start.variables) start c.args.root = subst (λ (k : Region). IsRootFor k start c.args.root) h.region_is h.top in
-    let so_far : PassedSoFar start.variables (maximal_rows c.args.fan.now) (walk_at c.args.root (all_positive start.variables) c.args.pairs) c.loop-walker.walker =
-    subst (λ m. PassedSoFar m (maximal_rows c.args.fan.now) (walk_at c.args.root (all_positive start.variables) c.args.pairs) c.loop-walker.walker) top.basis.variables (subst (λ (k : Region). PassedSoFar c.args.root.variables (maximal_rows c.args.fan.now) (walk_at c.args.root k c.args.pairs) c.loop-walker.walker) h.region_is c.loop-walker.invariant) in
-    AreBasesRefused.at_search _ (search_refused fs start c.args.root c.args.pairs so_far.done c.loop-walker.walker _ h.node top so_far.given c.in_err-basis.ensures.cause) refl)
+    let so_far : PassedSoFar start.variables (maximal_rows c.args.fan.now) (walk_at c.args.root (all_positive start.variables) c.args.pairs)
+    c.loop-walker.walker =
+    subst (λ m. PassedSoFar m (maximal_rows c.args.fan.now) (walk_at c.args.root (all_positive start.variables) c.args.pairs) c.loop-walker.walker)
+    top.basis.variables (subst (λ (k : Region). PassedSoFar c.args.root.variables (maximal_rows c.args.fan.now) (walk_at c.args.root k c.args.pairs)
+    c.loop-walker.walker) h.region_is c.loop-walker.invariant) in
+    AreBasesRefused.at_search _ (search_refused fs start c.args.root c.args.pairs so_far.done c.loop-walker.walker _ h.node top so_far.given
+    c.in_err-basis.ensures.cause) refl)
 
 pub returns-in_err-found-clause-err : goal.returns-in_err-found-clause-err
 returns-in_err-found-clause-err c =
-    let s : IsStepTo c.loop-walker.walker c.advance.new.self c.in-Some.basis = subst (IsAdvance c.loop-walker.walker c.advance.new.self) c.in-Some.is c.in_ok-basis.ensures.ok in
-    let n : c.in-Some.basis.variables ≡ c.args.root.variables = step_variables c.args.region.now c.args.root c.args.pairs c.args.root.variables (maximal_rows c.args.fan.now) c.loop-walker.walker c.advance.new.self c.in-Some.basis c.loop-walker.invariant s in
+    let s : IsStepTo c.loop-walker.walker c.advance.new.self c.in-Some.basis =
+    subst (IsAdvance c.loop-walker.walker c.advance.new.self) c.in-Some.is c.in_ok-basis.ensures.ok in
+    let n : c.in-Some.basis.variables ≡ c.args.root.variables = step_variables c.args.region.now c.args.root c.args.pairs c.args.root.variables
+    (maximal_rows c.args.fan.now) c.loop-walker.walker c.advance.new.self c.in-Some.basis c.loop-walker.invariant s in
     let p = err_from_is_err_and c.from_residual-in_err-found.result c.from_residual-in_err-found.ensures.1 in
     rw (p.1, p.2) (λ fs start h.
     let top : IsRootFor (all_positive start.variables) start c.args.root = subst (λ (k : Region). IsRootFor k start c.args.root) h.region_is h.top in
-    let so_far : PassedSoFar start.variables (maximal_rows c.args.fan.now) (walk_at c.args.root (all_positive start.variables) c.args.pairs) c.loop-walker.walker =
-    subst (λ m. PassedSoFar m (maximal_rows c.args.fan.now) (walk_at c.args.root (all_positive start.variables) c.args.pairs) c.loop-walker.walker) top.basis.variables (subst (λ (k : Region). PassedSoFar c.args.root.variables (maximal_rows c.args.fan.now) (walk_at c.args.root k c.args.pairs) c.loop-walker.walker) h.region_is c.loop-walker.invariant) in
-    let r = reached_refused fs start c.args.root c.args.pairs (maximal_rows c.args.fan.now) c.loop-walker.walker c.advance.new.self c.in-Some.basis h.node top so_far s in
-    AreBasesRefused.at_basis r.0 c.in-Some.basis _ r.1 r.2 (subst (λ m. IsRefusedWithBasis m (maximal_rows c.args.fan.now) c.in-Some.basis.items c.args.pairs c.in_err-found.field-0.0) (n ∙ top.basis.variables) c.in_err-found.ensures.err) refl)
+    let so_far : PassedSoFar start.variables (maximal_rows c.args.fan.now) (walk_at c.args.root (all_positive start.variables) c.args.pairs)
+    c.loop-walker.walker =
+    subst (λ m. PassedSoFar m (maximal_rows c.args.fan.now) (walk_at c.args.root (all_positive start.variables) c.args.pairs) c.loop-walker.walker)
+    top.basis.variables (subst (λ (k : Region). PassedSoFar c.args.root.variables (maximal_rows c.args.fan.now) (walk_at c.args.root k c.args.pairs)
+    c.loop-walker.walker) h.region_is c.loop-walker.invariant) in
+    let r = reached_refused fs start c.args.root c.args.pairs (maximal_rows c.args.fan.now) c.loop-walker.walker c.advance.new.self c.in-Some.basis h.node top
+    so_far s in
+    AreBasesRefused.at_basis r.0 c.in-Some.basis _ r.1 r.2 (subst (λ m. IsRefusedWithBasis m (maximal_rows c.args.fan.now) c.in-Some.basis.items c.args.pairs
+    c.in_err-found.field-0.0) (n ∙ top.basis.variables) c.in_err-found.ensures.err) refl)
 
 pub returns-in-Some-found-clause-ok : goal.returns-in-Some-found-clause-ok
 returns-in-Some-found-clause-ok c = λ fs start h.
-    let s : IsStepTo c.loop-walker.walker c.advance.new.self c.in-Some.basis = subst (IsAdvance c.loop-walker.walker c.advance.new.self) c.in-Some.is c.in_ok-basis.ensures.ok in
-    let n : c.in-Some.basis.variables ≡ c.args.root.variables = step_variables c.args.region.now c.args.root c.args.pairs c.args.root.variables (maximal_rows c.args.fan.now) c.loop-walker.walker c.advance.new.self c.in-Some.basis c.loop-walker.invariant s in
+    let s : IsStepTo c.loop-walker.walker c.advance.new.self c.in-Some.basis =
+    subst (IsAdvance c.loop-walker.walker c.advance.new.self) c.in-Some.is c.in_ok-basis.ensures.ok in
+    let n : c.in-Some.basis.variables ≡ c.args.root.variables = step_variables c.args.region.now c.args.root c.args.pairs c.args.root.variables
+    (maximal_rows c.args.fan.now) c.loop-walker.walker c.advance.new.self c.in-Some.basis c.loop-walker.invariant s in
     let top : IsRootFor (all_positive start.variables) start c.args.root = subst (λ (k : Region). IsRootFor k start c.args.root) h.region_is h.top in
-    let so_far : PassedSoFar start.variables (maximal_rows c.args.fan.now) (walk_at c.args.root (all_positive start.variables) c.args.pairs) c.loop-walker.walker =
-    subst (λ m. PassedSoFar m (maximal_rows c.args.fan.now) (walk_at c.args.root (all_positive start.variables) c.args.pairs) c.loop-walker.walker) top.basis.variables (subst (λ (k : Region). PassedSoFar c.args.root.variables (maximal_rows c.args.fan.now) (walk_at c.args.root k c.args.pairs) c.loop-walker.walker) h.region_is c.loop-walker.invariant) in
+    let so_far : PassedSoFar start.variables (maximal_rows c.args.fan.now) (walk_at c.args.root (all_positive start.variables) c.args.pairs)
+    c.loop-walker.walker =
+    subst (λ m. PassedSoFar m (maximal_rows c.args.fan.now) (walk_at c.args.root (all_positive start.variables) c.args.pairs) c.loop-walker.walker)
+    top.basis.variables (subst (λ (k : Region). PassedSoFar c.args.root.variables (maximal_rows c.args.fan.now) (walk_at c.args.root k c.args.pairs)
+    c.loop-walker.walker) h.region_is c.loop-walker.invariant) in
     let o : HasBasisOutcome start.variables (maximal_rows c.args.fan.now) c.in-Some.basis.items (Some c.in-Some-found.v) =
-    subst (λ m. HasBasisOutcome m (maximal_rows c.args.fan.now) c.in-Some.basis.items (Some c.in-Some-found.v)) (n ∙ top.basis.variables) (subst (HasBasisOutcome c.in-Some.basis.variables (maximal_rows c.args.fan.now) c.in-Some.basis.items) c.in-Some-found.is c.in_ok-found.ensures.ok) in
-    one_failed fs start c.args.root c.args.pairs (maximal_rows c.args.fan.now) c.loop-walker.walker c.advance.new.self c.in-Some.basis c.in-Some-found.v h.node top so_far s o
+    subst (λ m. HasBasisOutcome m (maximal_rows c.args.fan.now) c.in-Some.basis.items (Some c.in-Some-found.v))
+    (n ∙ top.basis.variables) (subst (HasBasisOutcome c.in-Some.basis.variables (maximal_rows c.args.fan.now) c.in-Some.basis.items)
+    c.in-Some-found.is c.in_ok-found.ensures.ok) in
+    one_failed fs start c.args.root c.args.pairs (maximal_rows c.args.fan.now) c.loop-walker.walker c.advance.new.self c.in-Some.basis c.in-Some-found.v h.node
+    top so_far s o
 
 pub loop-walker-preserved : goal.loop-walker-preserved
 loop-walker-preserved c =
-    let s : IsStepTo c.loop-walker.walker c.advance.new.self c.in-Some.basis = subst (IsAdvance c.loop-walker.walker c.advance.new.self) c.in-Some.is c.in_ok-basis.ensures.ok in
-    let n : c.in-Some.basis.variables ≡ c.args.root.variables = step_variables c.args.region.now c.args.root c.args.pairs c.args.root.variables (maximal_rows c.args.fan.now) c.loop-walker.walker c.advance.new.self c.in-Some.basis c.loop-walker.invariant s in
+    let s : IsStepTo c.loop-walker.walker c.advance.new.self c.in-Some.basis =
+    subst (IsAdvance c.loop-walker.walker c.advance.new.self) c.in-Some.is c.in_ok-basis.ensures.ok in
+    let n : c.in-Some.basis.variables ≡ c.args.root.variables = step_variables c.args.region.now c.args.root c.args.pairs c.args.root.variables
+    (maximal_rows c.args.fan.now) c.loop-walker.walker c.advance.new.self c.in-Some.basis c.loop-walker.invariant s in
     let o : HasBasisOutcome c.args.root.variables (maximal_rows c.args.fan.now) c.in-Some.basis.items None =
-    subst (λ m. HasBasisOutcome m (maximal_rows c.args.fan.now) c.in-Some.basis.items None) n (subst (HasBasisOutcome c.in-Some.basis.variables (maximal_rows c.args.fan.now) c.in-Some.basis.items) c.in_default-found.is c.in_ok-found.ensures.ok) in
-    passed_more c.args.root.variables (maximal_rows c.args.fan.now) (walk_at c.args.root c.args.region.now c.args.pairs) c.loop-walker.walker c.advance.new.self c.in-Some.basis c.requires.own s o c.loop-walker.invariant
+    subst (λ m. HasBasisOutcome m (maximal_rows c.args.fan.now) c.in-Some.basis.items None) n
+    (subst (HasBasisOutcome c.in-Some.basis.variables (maximal_rows c.args.fan.now) c.in-Some.basis.items)
+    c.in_default-found.is c.in_ok-found.ensures.ok) in
+    passed_more c.args.root.variables (maximal_rows c.args.fan.now) (walk_at c.args.root c.args.region.now c.args.pairs) c.loop-walker.walker c.advance.new.self
+    c.in-Some.basis c.requires.own s o c.loop-walker.invariant
 
 pub returns-clause-ok : goal.returns-clause-ok
 returns-clause-ok c = λ fs start h.
-    let e : IsEnd c.loop-walker.walker c.advance.new.self = subst (IsAdvance c.loop-walker.walker c.advance.new.self) c.in_default.is c.in_ok-basis.ensures.ok in
+    let e : IsEnd c.loop-walker.walker c.advance.new.self =
+    subst (IsAdvance c.loop-walker.walker c.advance.new.self) c.in_default.is c.in_ok-basis.ensures.ok in
     let top : IsRootFor (all_positive start.variables) start c.args.root = subst (λ (k : Region). IsRootFor k start c.args.root) h.region_is h.top in
-    let so_far : PassedSoFar start.variables (maximal_rows c.args.fan.now) (walk_at c.args.root (all_positive start.variables) c.args.pairs) c.loop-walker.walker =
-    subst (λ m. PassedSoFar m (maximal_rows c.args.fan.now) (walk_at c.args.root (all_positive start.variables) c.args.pairs) c.loop-walker.walker) top.basis.variables (subst (λ (k : Region). PassedSoFar c.args.root.variables (maximal_rows c.args.fan.now) (walk_at c.args.root k c.args.pairs) c.loop-walker.walker) h.region_is c.loop-walker.invariant) in
+    let so_far : PassedSoFar start.variables (maximal_rows c.args.fan.now) (walk_at c.args.root (all_positive start.variables) c.args.pairs)
+    c.loop-walker.walker =
+    subst (λ m. PassedSoFar m (maximal_rows c.args.fan.now) (walk_at c.args.root (all_positive start.variables) c.args.pairs) c.loop-walker.walker)
+    top.basis.variables (subst (λ (k : Region). PassedSoFar c.args.root.variables (maximal_rows c.args.fan.now) (walk_at c.args.root k c.args.pairs)
+    c.loop-walker.walker) h.region_is c.loop-walker.invariant) in
     all_passed fs start c.args.root c.args.pairs (maximal_rows c.args.fan.now) c.loop-walker.walker c.advance.new.self h.node top so_far e

@@ -32,8 +32,10 @@ returns-in_err-found-clause-err c =
     let long = rows_long c.args.fan.now in
     let l : c.places.i < length c.args.fan.now.maximal = subst (λ (z : List ℕ). c.places.i < length z) c.maximal-places.ensures c.places-test.true in
     let p = err_from_is_err_and c.from_residual.result c.from_residual.ensures.1 in
-    let r = reached (λ (d : Rows). HasOutcome c.args.basis.now.variables c.args.basis.now.items c.args.cone.now.normals d None) (maximal_rows c.args.fan.now) c.places.i (rows_of c.maximal_cone-maximal.result.now) (omega (arith, l, long)) c.maximal_cone-maximal.ensures.value c.places.invariant.0 in
-    let h = subst (λ (z : List (List ℤ)). IsConeRefusal c.args.basis.now.variables c.args.basis.now.items z (rows_of c.maximal_cone-maximal.result.now) c.args.pairs c.in_err-found.field-0.0) c.normals.ensures.value c.in_err-found.ensures.err in
+    let r = reached (λ (d : Rows). HasOutcome c.args.basis.now.variables c.args.basis.now.items c.args.cone.now.normals d None) (maximal_rows c.args.fan.now)
+    c.places.i (rows_of c.maximal_cone-maximal.result.now) (omega (arith, l, long)) c.maximal_cone-maximal.ensures.value c.places.invariant.0 in
+    let h = subst (λ (z : List (List ℤ)). IsConeRefusal c.args.basis.now.variables c.args.basis.now.items z (rows_of c.maximal_cone-maximal.result.now)
+    c.args.pairs c.in_err-found.field-0.0) c.normals.ensures.value c.in_err-found.ensures.err in
     rw p.1 (subst (IsRefusedWithBasis c.args.basis.now.variables (maximal_rows c.args.fan.now) c.args.basis.now.items c.args.pairs) (sym p.2)
     (IsRefusedWithBasis.at_cone c.args.cone.now.normals (rows_of c.maximal_cone-maximal.result.now) c.requires.cone.normals r h))
 
@@ -41,13 +43,22 @@ pub returns-in-Some-clause-ok : goal.returns-in-Some-clause-ok
 returns-in-Some-clause-ok c =
     let long = rows_long c.args.fan.now in
     let l : c.places.i < length c.args.fan.now.maximal = subst (λ (z : List ℕ). c.places.i < length z) c.maximal-places.ensures c.places-test.true in
-    let o : HasOutcome c.args.basis.now.variables c.args.basis.now.items c.args.cone.now.normals (rows_of c.maximal_cone-maximal.result.now) (Some c.in-Some.v) =
-    subst (λ (z : List (List ℤ)). HasOutcome c.args.basis.now.variables c.args.basis.now.items z (rows_of c.maximal_cone-maximal.result.now) (Some c.in-Some.v)) c.normals.ensures.value
-    (subst (λ (z : Option (List ℤ)). HasOutcome c.args.basis.now.variables c.args.basis.now.items c.normals.result.now (rows_of c.maximal_cone-maximal.result.now) z) c.in-Some.is c.in_ok-found.ensures.ok) in
+    let o : HasOutcome c.args.basis.now.variables c.args.basis.now.items c.args.cone.now.normals (rows_of c.maximal_cone-maximal.result.now)
+    (Some c.in-Some.v) =
+    subst (λ (z : List (List ℤ)). HasOutcome c.args.basis.now.variables c.args.basis.now.items z (rows_of c.maximal_cone-maximal.result.now) (Some c.in-Some.v))
+    c.normals.ensures.value
+    (subst (λ (z : Option (List ℤ)). HasOutcome c.args.basis.now.variables c.args.basis.now.items c.normals.result.now
+    (rows_of c.maximal_cone-maximal.result.now) z) c.in-Some.is c.in_ok-found.ensures.ok) in
     record {
       normals = c.args.cone.now.normals;
       are_normals = c.requires.cone.normals;
-      outcome = (rows_of c.maximal_cone-maximal.result.now, reached (λ (d : Rows). HasOutcome c.args.basis.now.variables c.args.basis.now.items c.args.cone.now.normals d None) (maximal_rows c.args.fan.now) c.places.i (rows_of c.maximal_cone-maximal.result.now) (omega (arith, l, long)) c.maximal_cone-maximal.ensures.value c.places.invariant.0, o);
+      outcome = (
+        rows_of c.maximal_cone-maximal.result.now,
+        reached (λ (d : Rows). HasOutcome c.args.basis.now.variables c.args.basis.now.items
+            c.args.cone.now.normals d None) (maximal_rows c.args.fan.now) c.places.i (rows_of c.maximal_cone-maximal.result.now)
+            (omega (arith, l, long)) c.maximal_cone-maximal.ensures.value c.places.invariant.0,
+        o,
+      );
     }
 
 pub places-preserved : goal.places-preserved
@@ -55,9 +66,12 @@ places-preserved c =
     let long = rows_long c.args.fan.now in
     let l : c.places.i < length c.args.fan.now.maximal = subst (λ (z : List ℕ). c.places.i < length z) c.maximal-places.ensures c.places-test.true in
     let o : HasOutcome c.args.basis.now.variables c.args.basis.now.items c.args.cone.now.normals (rows_of c.maximal_cone-maximal.result.now) None =
-    subst (λ (z : List (List ℤ)). HasOutcome c.args.basis.now.variables c.args.basis.now.items z (rows_of c.maximal_cone-maximal.result.now) None) c.normals.ensures.value
-    (subst (λ (z : Option (List ℤ)). HasOutcome c.args.basis.now.variables c.args.basis.now.items c.normals.result.now (rows_of c.maximal_cone-maximal.result.now) z) c.in_default.is c.in_ok-found.ensures.ok) in (
-      pass_more (λ (d : Rows). HasOutcome c.args.basis.now.variables c.args.basis.now.items c.args.cone.now.normals d None) (maximal_rows c.args.fan.now) c.places.i (rows_of c.maximal_cone-maximal.result.now) (omega (arith, l, long)) c.maximal_cone-maximal.ensures.value o c.places.invariant.0,
+    subst (λ (z : List (List ℤ)). HasOutcome c.args.basis.now.variables c.args.basis.now.items z (rows_of c.maximal_cone-maximal.result.now) None)
+    c.normals.ensures.value
+    (subst (λ (z : Option (List ℤ)). HasOutcome c.args.basis.now.variables c.args.basis.now.items c.normals.result.now
+    (rows_of c.maximal_cone-maximal.result.now) z) c.in_default.is c.in_ok-found.ensures.ok) in (
+      pass_more (λ (d : Rows). HasOutcome c.args.basis.now.variables c.args.basis.now.items c.args.cone.now.normals d None) (maximal_rows c.args.fan.now)
+          c.places.i (rows_of c.maximal_cone-maximal.result.now) (omega (arith, l, long)) c.maximal_cone-maximal.ensures.value o c.places.invariant.0,
       c.in_ok-found.ensures.seen ∙ c.places.invariant.1,
     )
 
@@ -68,5 +82,6 @@ returns-clause-ok c =
     record {
       normals = c.args.cone.now.normals;
       are_normals = c.requires.cone.normals;
-      outcome = pass_all (λ (d : Rows). HasOutcome c.args.basis.now.variables c.args.basis.now.items c.args.cone.now.normals d None) (maximal_rows c.args.fan.now) c.places.i (omega (arith, l, long)) c.places.invariant.0;
+      outcome = pass_all (λ (d : Rows). HasOutcome c.args.basis.now.variables c.args.basis.now.items c.args.cone.now.normals d None)
+          (maximal_rows c.args.fan.now) c.places.i (omega (arith, l, long)) c.places.invariant.0;
     }

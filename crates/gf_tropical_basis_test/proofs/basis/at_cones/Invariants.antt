@@ -6,4 +6,5 @@ use Rattle.gf_tropical_basis_test.specs.Verdicts.{maximal_rows}
 use Rattle.gf_tropical_basis_test.proofs.basis.at_cones.Given as goal
 
 abbrev pub invariant-places : goal.invariant-places
-invariant-places l = AllPass (λ (c : Rows). HasOutcome l.basis.variables l.basis.items l.cone.normals c None) (maximal_rows l.fan) l.i × (l.seen ≡ l.basis.variables)
+invariant-places l = AllPass (λ (c : Rows). HasOutcome l.basis.variables l.basis.items l.cone.normals c None) (maximal_rows l.fan) l.i ×
+    (l.seen ≡ l.basis.variables)

@@ -21,7 +21,8 @@ pub basis_by_several_ways-requires-clause-entries : goal.basis_by_several_ways-r
 basis_by_several_ways-requires-clause-entries g c = subst (HasEntries c.args.n) (sym c.deglex.ensures) tt
 
 pub basis_by_several_ways-requires-clause-suited : goal.basis_by_several_ways-requires-clause-suited
-basis_by_several_ways-requires-clause-suited g c = subst (λ (o : MonomialOrder). IsSuited o c.args.n c.args.set.now) (sym c.deglex.ensures) (orders_that_suit.deglex c.args.n c.args.set.now c.requires.variables)
+basis_by_several_ways-requires-clause-suited g c = subst (λ (o : MonomialOrder). IsSuited o c.args.n c.args.set.now) (sym c.deglex.ensures)
+    (orders_that_suit.deglex c.args.n c.args.set.now c.requires.variables)
 
 pub returns-in_err-fan-clause-err : goal.returns-in_err-fan-clause-err
 returns-in_err-fan-clause-err g c =
@@ -44,7 +45,8 @@ returns-in_err-start-clause-zero g c = λ i z. let e = c.in_ok-fan.ensures.zero_
 pub returns-in_err-start-clause-err : goal.returns-in_err-start-clause-err
 returns-in_err-start-clause-err g c =
     let p = err_from_is_err_and c.from_residual-in_err-start.result c.from_residual-in_err-start.ensures.1 in
-    rw (p.1, p.2) (IsVerdictRefusal.at_root _ (subst (λ (o : MonomialOrder). IsBasisRefusal o c.args.n c.args.set.now c.args.pairs c.in_err-start.field-0.0) c.deglex.ensures c.in_err-start.ensures.err) refl)
+    rw (p.1, p.2) (IsVerdictRefusal.at_root _ (subst (λ (o : MonomialOrder). IsBasisRefusal o c.args.n c.args.set.now c.args.pairs c.in_err-start.field-0.0)
+    c.deglex.ensures c.in_err-start.ensures.err) refl)
 
 pub at_bases-requires-clause-room : goal.at_bases-requires-clause-room
 at_bases-requires-clause-room g c = subst (λ m. m < ROOM) (sym c.in_ok-start.ensures.ok.variables) c.requires.room
@@ -58,19 +60,24 @@ at_bases-requires-clause-region g c = c.in_ok-region.ensures ∙ ap all_positive
 pub at_bases-requires-clause-own : goal.at_bases-requires-clause-own
 at_bases-requires-clause-own g c =
     let b = subst (λ (o : MonomialOrder). IsArrangedBasis o c.args.n c.args.set.now c.in_ok-start.start) c.deglex.ensures c.in_ok-start.ensures.ok in
-    subst (λ (k : Region). IsNode k c.in_ok-start.start) (sym c.in_ok-region.ensures) (start_of_ideal c.args.n c.args.set.now c.in_ok-start.start c.requires.variables b).1
+    subst (λ (k : Region). IsNode k c.in_ok-start.start) (sym c.in_ok-region.ensures)
+    (start_of_ideal c.args.n c.args.set.now c.in_ok-start.start c.requires.variables b).1
 
 pub returns-clause-first : goal.returns-clause-first
 returns-clause-first g c =
     let b = subst (λ (o : MonomialOrder). IsArrangedBasis o c.args.n c.args.set.now c.in_ok-start.start) c.deglex.ensures c.in_ok-start.ensures.ok in
-    let node = subst (λ m. IsNodeIn (ideal_by m c.args.set.now) c.in_ok-start.start) (sym b.variables) (start_of_ideal c.args.n c.args.set.now c.in_ok-start.start c.requires.variables b).0 in
-    IfOk-weaker c.at_bases.result _ _ (λ v f. first_of c.args.n c.in_ok-start.start.variables c.args.set.now c.in_ok-fan.fan v b.variables c.in_ok-fan.ensures.ok (f c.args.set.now node)) c.at_bases.ensures.ok
+    let node = subst (λ m. IsNodeIn (ideal_by m c.args.set.now) c.in_ok-start.start) (sym b.variables)
+    (start_of_ideal c.args.n c.args.set.now c.in_ok-start.start c.requires.variables b).0 in
+    IfOk-weaker c.at_bases.result _ _ (λ v f. first_of c.args.n c.in_ok-start.start.variables c.args.set.now c.in_ok-fan.fan v b.variables
+    c.in_ok-fan.ensures.ok (f c.args.set.now node)) c.at_bases.ensures.ok
 
 pub returns-clause-err : goal.returns-clause-err
 returns-clause-err g c =
     let b = subst (λ (o : MonomialOrder). IsArrangedBasis o c.args.n c.args.set.now c.in_ok-start.start) c.deglex.ensures c.in_ok-start.ensures.ok in
-    let node = subst (λ m. IsNodeIn (ideal_by m c.args.set.now) c.in_ok-start.start) (sym b.variables) (start_of_ideal c.args.n c.args.set.now c.in_ok-start.start c.requires.variables b).0 in
-    IfErr-weaker c.at_bases.result _ _ (λ e f. refused_at_bases c.args.n c.in_ok-start.start.variables c.args.set.now c.in_ok-fan.fan c.args.pairs e b.variables c.in_ok-fan.ensures.ok (f c.args.set.now node)) c.at_bases.ensures.err
+    let node = subst (λ m. IsNodeIn (ideal_by m c.args.set.now) c.in_ok-start.start) (sym b.variables)
+    (start_of_ideal c.args.n c.args.set.now c.in_ok-start.start c.requires.variables b).0 in
+    IfErr-weaker c.at_bases.result _ _ (λ e f. refused_at_bases c.args.n c.in_ok-start.start.variables c.args.set.now c.in_ok-fan.fan c.args.pairs e b.variables
+    c.in_ok-fan.ensures.ok (f c.args.set.now node)) c.at_bases.ensures.err
 
 pub returns-clause-zero : goal.returns-clause-zero
 returns-clause-zero g c = λ i z. let e = c.in_ok-fan.ensures.zero_always i z in cc

@@ -20,7 +20,12 @@ least p z h e is =
 kept : (p z : ℤ) → FitsSigned w128 p → z ≡ p → (of_z w128 z ≡ 2 ^ 127 → ⊥) → (to_z w128 (of_z w128 z) ≡ p) × InRange (to_z w128 (of_z w128 z))
 kept p z h e n =
     let fz : FitsSigned w128 z = subst (FitsSigned w128) (sym e) h in
-    rw (to_z-of_z w128 z fz) (e, record { within = elim (cases_lt (unsigned_abs z) (2 ^ 127)) [ inl l ↦ l | inr g ↦ absurd (n (ap (of_z w128) (lowest z fz g))) ] })
+    rw (to_z-of_z w128 z fz) (
+      e,
+      record {
+        within = elim (cases_lt (unsigned_abs z) (2 ^ 127)) [ inl l ↦ l | inr g ↦ absurd (n (ap (of_z w128) (lowest z fz g))) ];
+      },
+    )
   where
     lowest : (z : ℤ) → FitsSigned w128 z → 2 ^ 127 ≤ unsigned_abs z → z ≡ negsuc (2 ^ 127 - 1)
     lowest z f g = omega (arith, ints)

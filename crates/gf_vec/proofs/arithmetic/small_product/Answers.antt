@@ -5,7 +5,8 @@ use Rattle.gf_vec.proofs.arithmetic.small_product.Goals as goal
 
 pub overflow_mul-result : goal.overflow_mul-result
 overflow_mul-result c =
-    rw (to_z-of_z w64 _ c.ranges.x, to_z-of_z w64 _ c.ranges.y, to_z-of_z w128 _ (widened _ c.ranges.x), to_z-of_z w128 _ (widened _ c.ranges.y)) (product_fits _ _ c.ranges.x c.ranges.y)
+    rw (to_z-of_z w64 _ c.ranges.x, to_z-of_z w64 _ c.ranges.y, to_z-of_z w128 _ (widened _ c.ranges.x), to_z-of_z w128 _ (widened _ c.ranges.y))
+    (product_fits _ _ c.ranges.x c.ranges.y)
 
 pub returns-clause-value : goal.returns-clause-value
 returns-clause-value c =

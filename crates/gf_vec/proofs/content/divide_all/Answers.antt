@@ -12,4 +12,5 @@ loop-x-preserved c =
     let fq : FitsSigned w128 c.quotient.result = search rules in
     let inv = simp to_z-of_z at c.loop-x.invariant in
     let q = simp to_z-of_z at c.quotient.ensures in
-    simp to_z-of_z (rw q (map_over_more (λ x. int_div x c.args.by) c.args.xs.now c.loop-x.xs c.loop-x.x-index (get_or c.loop-x.xs c.loop-x.x-index (pos 0)) c.loop-x-test.true inv (get_or_default c.loop-x.xs c.loop-x.x-index _ _ (omega (arith, c.loop-x-test.true)))))
+    simp to_z-of_z (rw q (map_over_more (λ x. int_div x c.args.by) c.args.xs.now c.loop-x.xs c.loop-x.x-index (get_or c.loop-x.xs c.loop-x.x-index (pos 0))
+    c.loop-x-test.true inv (get_or_default c.loop-x.xs c.loop-x.x-index _ _ (omega (arith, c.loop-x-test.true)))))

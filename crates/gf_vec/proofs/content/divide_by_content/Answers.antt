@@ -10,15 +10,20 @@ returns-then-has_unit-clause-divided c = IsDivided-one c.args.xs.now (IsContent-
 
 pub returns-then-by-ne1-clause-divided : goal.returns-then-by-ne1-clause-divided
 returns-then-by-ne1-clause-divided c =
-    let e : c.divide_all.new.xs ≡ quotients (pos c.content-by.result) c.args.xs.now = rw (← to_z_pos w128 c.content-by.result c.content-by.ensures.bound) c.divide_all.ensures in
+    let e : c.divide_all.new.xs ≡ quotients (pos c.content-by.result) c.args.xs.now =
+    rw (← to_z_pos w128 c.content-by.result c.content-by.ensures.bound) c.divide_all.ensures in
     rw (to_z_pos w128 c.content-by.result c.content-by.ensures.bound, e) (IsDivided-quotients c.args.xs.now c.content-by.result c.content-by.ensures.content)
 
 pub returns-then-by-ne1-clause-range : goal.returns-then-by-ne1-clause-range
 returns-then-by-ne1-clause-range c =
-    let e : c.divide_all.new.xs ≡ quotients (pos c.content-by.result) c.args.xs.now = rw (← to_z_pos w128 c.content-by.result c.content-by.ensures.bound) c.divide_all.ensures in
+    let e : c.divide_all.new.xs ≡ quotients (pos c.content-by.result) c.args.xs.now =
+    rw (← to_z_pos w128 c.content-by.result c.content-by.ensures.bound) c.divide_all.ensures in
     rw e (range-quotients c.args.xs.now c.content-by.result c.requires)
 
 pub returns-else-by-ne1-clause-divided : goal.returns-else-by-ne1-clause-divided
 returns-else-by-ne1-clause-divided c =
     let e : c.content-by.result ≡ 1 = omega (arith, ints, c.if-by-ne1.false) in
-    rw (to_z_pos w128 c.content-by.result c.content-by.ensures.bound, e) (IsDivided-one c.args.xs.now (subst (IsContent c.args.xs.now) e c.content-by.ensures.content))
+    rw (
+      to_z_pos w128 c.content-by.result c.content-by.ensures.bound,
+      e,
+    ) (IsDivided-one c.args.xs.now (subst (IsContent c.args.xs.now) e c.content-by.ensures.content))

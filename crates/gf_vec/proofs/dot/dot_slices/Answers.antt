@@ -23,7 +23,8 @@ returns-in_err-product-clause-wide c =
     let fx : FitsSigned w128 (get_or c.args.xs.now c.loop-i.i (pos 0)) = search rules in
     let fy : FitsSigned w128 (get_or c.args.ys.now c.loop-i.i (pos 0)) = search rules in
     let p = err_from_is_err_and c.from_residual.result c.from_residual.ensures.1 in
-    rw (p.1, p.2) (Kept-mul _ _ _ _ _ _ _ c.loop-i-test.true c.requires (to_z-of_z w128 _ fx) (to_z-of_z w128 _ fy) c.in_err-product.ensures.0 c.in_err-product.ensures.1 c.loop-i.invariant)
+    rw (p.1, p.2) (Kept-mul _ _ _ _ _ _ _ c.loop-i-test.true c.requires (to_z-of_z w128 _ fx) (to_z-of_z w128 _ fy)
+    c.in_err-product.ensures.0 c.in_err-product.ensures.1 c.loop-i.invariant)
 
 pub returns-in_err-sum-clause-wide : goal.returns-in_err-sum-clause-wide
 returns-in_err-sum-clause-wide c =

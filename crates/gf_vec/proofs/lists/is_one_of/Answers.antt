@@ -5,7 +5,12 @@ use Rattle.gf_vec.proofs.lists.is_one_of.Goals as goal
 pub returns-then-is_same : goal.returns-then-is_same
 returns-then-is_same c =
     let e : c.y-item.result ≡ c.args.x.now = c.is_same.ensures.0 c.if-is_same.true in (
-      λ t. (c.loop-y.y-index, c.loop-y-test.true, get_or_default c.args.vectors.now c.loop-y.y-index c.args.x.now c.y-item.result c.loop-y-test.true ∙ sym c.y-item.is ∙ e),
+      λ t. (
+        c.loop-y.y-index,
+        c.loop-y-test.true,
+        get_or_default c.args.vectors.now c.loop-y.y-index c.args.x.now c.y-item.result c.loop-y-test.true ∙
+            sym c.y-item.is ∙ e,
+      ),
       λ t. refl,
     )
 

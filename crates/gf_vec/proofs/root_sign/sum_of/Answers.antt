@@ -8,5 +8,6 @@ pub loop-x-preserved : goal.loop-x-preserved
 loop-x-preserved c =
     let fx : FitsSigned w128 (get_or c.args.xs.now c.loop-x.x-index (pos 0)) = search rules in
     let k = added c.args.xs.now c.loop-x.x-index (cast_signed w128 c.loop-x.sum-bits) _ c.loop-x-test.true c.requires c.loop-x.invariant in
-    let fs : FitsSigned w128 (cast_signed w128 c.loop-x.sum-bits +ℤ get_or c.args.xs.now c.loop-x.x-index (pos 0)) = fits_signed_from_abs w128 _ (omega (arith, k.1)) in
+    let fs : FitsSigned w128 (cast_signed w128 c.loop-x.sum-bits +ℤ get_or c.args.xs.now c.loop-x.x-index (pos 0)) =
+    fits_signed_from_abs w128 _ (omega (arith, k.1)) in
     rw (to_z-of_z w128 _ fx, to_z-of_z w128 _ fs) k

@@ -16,8 +16,10 @@ fits_negative x h = rw minus_one (fits_signed_from_abs w128 _ (omega (arith, uns
 pub loop-x-preserved : goal.loop-x-preserved
 loop-x-preserved c =
     let fx : FitsSigned w128 (get_or c.loop-x.xs c.loop-x.x-index (pos 0)) = search rules in
-    let fn : FitsSigned w128 (pos 0 -ℤ get_or c.loop-x.xs c.loop-x.x-index (pos 0)) = rw (negated_entry c.args.xs.now c.loop-x.xs c.loop-x.x-index (search rules) c.loop-x.invariant) (fits_negative _ (c.requires _ _ (search rules))) in
-    rw (to_z-of_z w128 _ fx, to_z-of_z w128 _ fn, minus_one) (map_over_more (λ y. negsuc 0 *ℤ y) c.args.xs.now c.loop-x.xs c.loop-x.x-index (get_or c.loop-x.xs c.loop-x.x-index (pos 0)) (search rules) c.loop-x.invariant (get_or_default c.loop-x.xs c.loop-x.x-index _ _ (search rules)))
+    let fn : FitsSigned w128 (pos 0 -ℤ get_or c.loop-x.xs c.loop-x.x-index (pos 0)) =
+    rw (negated_entry c.args.xs.now c.loop-x.xs c.loop-x.x-index (search rules) c.loop-x.invariant) (fits_negative _ (c.requires _ _ (search rules))) in
+    rw (to_z-of_z w128 _ fx, to_z-of_z w128 _ fn, minus_one) (map_over_more (λ y. negsuc 0 *ℤ y) c.args.xs.now c.loop-x.xs c.loop-x.x-index
+    (get_or c.loop-x.xs c.loop-x.x-index (pos 0)) (search rules) c.loop-x.invariant (get_or_default c.loop-x.xs c.loop-x.x-index _ _ (search rules)))
 
 pub returns-clause-range : goal.returns-clause-range
 returns-clause-range c = negated_all c.args.xs.now c.loop-x.xs c.loop-x.x-index (omega (arith, c.loop-x-test.false)) c.loop-x.invariant c.requires

@@ -6,4 +6,8 @@ pub returns-in-Ok-clause-expanded : goal.returns-in-Ok-clause-expanded
 returns-in-Ok-clause-expanded g c = (c.in-Ok.pieces.items, c.put_before.ensures.items, inl c.in-Ok.ensures.expands)
 
 pub returns-in-Err-clause-expanded : goal.returns-in-Err-clause-expanded
-returns-in-Err-clause-expanded g c = (Refused c.in-Err.walker c.in-Err.refusal ∷ [], c.push_before.ensures.items, inr (c.in-Err.refusal, ap (λ w. Refused w c.in-Err.refusal ∷ []) c.in-Err.ensures.unchanged, c.in-Err.ensures.refused))
+returns-in-Err-clause-expanded g c = (
+  Refused c.in-Err.walker c.in-Err.refusal ∷ [],
+  c.push_before.ensures.items,
+  inr (c.in-Err.refusal, ap (λ w. Refused w c.in-Err.refusal ∷ []) c.in-Err.ensures.unchanged, c.in-Err.ensures.refused),
+)

@@ -4,7 +4,8 @@ use Rattle.std.specs.VecDeque.{deque_len}
 use Rattle.gf_reverse_search.specs.Pieces.{RefusesAt}
 use Rattle.gf_waves.specs.Wave.{ExpandsOn}
 use Rattle.gf_waves.proofs.JobLaws.{on_over}
-use Rattle.gf_waves.proofs.job.expand_on.Goals.{then-loop-left-test+then-not-is_empty+else-len-limit, then-loop-left-test+else-not-is_empty, else-loop-left-test}
+use Rattle.gf_waves.proofs.job.expand_on.Goals.{then-loop-left-test+then-not-is_empty+else-len-limit, then-loop-left-test+else-not-is_empty}
+use Rattle.gf_waves.proofs.job.expand_on.Goals.{else-loop-left-test}
 use Rattle.gf_waves.proofs.job.expand_on.Goals as goal
 
 pub loop-left-init : goal.loop-left-init
@@ -40,7 +41,8 @@ loop-left-preserved g c =
           let same : n ≡ after = omega (arith, e, long) in
           subst (ExpandsOn lt up refuses c.args.times c.args.room row q m)
           (sym (ap (λ d. d ++ news) on.1 ∙ append_assoc c.loop-left.done.items on.0 news))
-          (i.on before q m (on.0 ++ news) (omega (arith, long)) (on.2 q m news (subst (λ k. ExpandsOn lt up refuses c.step-left.result k c.step-left.new.row.items q m news) same h)));
+          (i.on before q m (on.0 ++ news) (omega (arith, long)) (on.2 q m news
+          (subst (λ k. ExpandsOn lt up refuses c.step-left.result k c.step-left.new.row.items q m news) same h)));
       few = (let a = s.few in omega (arith, a, long));
       room = (let a = i.room in let b = s.room in omega (arith, a, b));
       room_for_done = (let a = i.room_for_done in let b = s.room_for_done in omega (arith, a, b));
@@ -72,4 +74,5 @@ returns-clause-on g c =
     let end : c.len-2.result ≡ length c.put_behind.new.row.items = search rules in
     let same : n ≡ c.len.result + c.args.room - c.len-2.result = omega (arith, start, end, long, parts) in
     subst (λ m. ExpandsOn lt up refuses c.args.times c.args.room row l.left m c.put_behind.new.row.items) same
-    (subst (ExpandsOn lt up refuses c.args.times c.args.room row l.left n) (sym c.put_behind.ensures.items) (l.invariant.on n l.left n l.row.items refl (on_over lt up refuses l.left n l.row.items over)))
+    (subst (ExpandsOn lt up refuses c.args.times c.args.room row l.left n) (sym c.put_behind.ensures.items)
+    (l.invariant.on n l.left n l.row.items refl (on_over lt up refuses l.left n l.row.items over)))

@@ -19,8 +19,10 @@ returns-in-Some-Ready-clause-on g c =
     let n = limit - (length dones + length olds) in
     let q : c.args.left ≡ suc (c.args.left - 1) = omega (arith, some) in
     let two : n ≡ suc (suc (n - 2)) = omega (arith, room) in
-    let same : limit - (length more + length rest) ≡ n = (let a = ap length whole in let b = ap length c.push.ensures.items in let d = length_push dones (Ready v) in omega (arith, a, b, d)) in
-    on_ready g.T.Tree.before g.T.Tree.up (RefusesAt g.T.Tree.up g.T.Tree.refuses) c.args.left (c.args.left - 1) n (n - 2) (limit - (length more + length rest)) v olds rest dones more q two same whole c.push.ensures.items
+    let same : limit - (length more + length rest) ≡ n = (let a = ap length whole in let b = ap length c.push.ensures.items in let d =
+    length_push dones (Ready v) in omega (arith, a, b, d)) in
+    on_ready g.T.Tree.before g.T.Tree.up (RefusesAt g.T.Tree.up g.T.Tree.refuses) c.args.left (c.args.left - 1) n (n - 2) (limit - (length more + length rest))
+    v olds rest dones more q two same whole c.push.ensures.items
 
 pub returns-in-Some-Under-clause-on : goal.returns-in-Some-Under-clause-on
 returns-in-Some-Under-clause-on g c =
@@ -37,7 +39,8 @@ returns-in-Some-Under-clause-on g c =
     let q : c.args.left ≡ suc (c.args.left - 1) = omega (arith, some) in
     let two : n ≡ suc (suc (n - 2)) = omega (arith, room) in
     let left : limit - (length dones + length news) ≡ n + 1 + length rest - length news = (let a = ap length whole in omega (arith, a, room)) in
-    on_first g.T.Tree.before g.T.Tree.up (RefusesAt g.T.Tree.up g.T.Tree.refuses) c.args.left (c.args.left - 1) n (n - 2) (limit - (length dones + length news)) w olds rest news dones q two left whole c.expand_before.ensures.expanded
+    on_first g.T.Tree.before g.T.Tree.up (RefusesAt g.T.Tree.up g.T.Tree.refuses) c.args.left (c.args.left - 1) n (n - 2) (limit - (length dones + length news))
+    w olds rest news dones q two left whole c.expand_before.ensures.expanded
 
 pub returns-in-Some-Refused-clause-on : goal.returns-in-Some-Refused-clause-on
 returns-in-Some-Refused-clause-on g c =
@@ -55,4 +58,5 @@ returns-in-Some-Refused-clause-on g c =
     let q : c.args.left ≡ suc (c.args.left - 1) = omega (arith, some) in
     let two : n ≡ suc (suc (n - 2)) = omega (arith, room) in
     let same : limit - (length dones + length news) ≡ n = (let a = ap length whole in let b = ap length c.push_before.ensures.items in omega (arith, a, b)) in
-    on_stopped g.T.Tree.before g.T.Tree.up (RefusesAt g.T.Tree.up g.T.Tree.refuses) c.args.left (c.args.left - 1) n (n - 2) (limit - (length dones + length news)) w e olds rest news dones q two same whole c.push_before.ensures.items
+    on_stopped g.T.Tree.before g.T.Tree.up (RefusesAt g.T.Tree.up g.T.Tree.refuses) c.args.left (c.args.left - 1) n
+    (n - 2) (limit - (length dones + length news)) w e olds rest news dones q two same whole c.push_before.ensures.items

@@ -47,15 +47,19 @@ loop-alloc-preserved g c =
     let slots : l.slots.items ≡ slot ∷ rest = first_out l.slots.items rest slot some c.remove.ensures.value c.remove.ensures.items in
     let less : c.min-free.result ≡ min c.expand_on-row.result.2 16 = search rules in
     record {
-      on = worked_more g.T.Tree.before g.T.Tree.up (RefusesAt g.T.Tree.up g.T.Tree.refuses) c.args.times c.args.room l.left l.free c.expand_on-row.result.1 c.expand_on-row.result.2 c.min-free.result c.args.job.slots.items l.slots.items rest slot
-          (map (λ d. d.items) l.worked.items) (map (λ d. d.items) news) row.items slots (map_more (λ d. d.items) l.worked.items news row c.keep.ensures.items) c.expand_on-row.ensures.on c.expand_on-row.ensures.few less l.invariant.on;
+      on = worked_more g.T.Tree.before g.T.Tree.up (RefusesAt g.T.Tree.up g.T.Tree.refuses) c.args.times c.args.room l.left l.free c.expand_on-row.result.1
+          c.expand_on-row.result.2 c.min-free.result c.args.job.slots.items l.slots.items rest slot
+          (map (λ d. d.items) l.worked.items) (map (λ d. d.items) news) row.items slots (map_more (λ d. d.items) l.worked.items news row c.keep.ensures.items)
+          c.expand_on-row.ensures.on c.expand_on-row.ensures.few less l.invariant.on;
       fit = (subst AreFit slots l.invariant.fit).1;
       few = search rules;
-      room = (let a = ap length slots in let b = ap length c.keep.ensures.items in let d = length_push l.worked.items row in let e = l.invariant.room in let f = c.keep.ensures.room in omega (arith, a, b, d, e, f));
+      room = (let a = ap length slots in let b = ap length c.keep.ensures.items in let d = length_push l.worked.items row in let e = l.invariant.room in let f =
+          c.keep.ensures.room in omega (arith, a, b, d, e, f));
     }
 
 pub returns : goal.returns
 returns g c =
     let l = c.loop-alloc in
     let none : length l.slots.items ≡ 0 = search rules in
-    worked_over g.T.Tree.before g.T.Tree.up (RefusesAt g.T.Tree.up g.T.Tree.refuses) c.args.times c.args.room l.left l.free c.args.job.slots.items l.slots.items (map (λ d. d.items) l.worked.items) none l.invariant.on
+    worked_over g.T.Tree.before g.T.Tree.up (RefusesAt g.T.Tree.up g.T.Tree.refuses) c.args.times c.args.room l.left l.free c.args.job.slots.items l.slots.items
+    (map (λ d. d.items) l.worked.items) none l.invariant.on

@@ -8,7 +8,8 @@ use Rattle.gf_waves.proofs.job.work.Given as goal
 -- what is still to be worked on with what is left goes on from what is worked on, and there is room for it
 abbrev pub invariant-loop-alloc : goal.invariant-loop-alloc
 invariant-loop-alloc g l = record {
-  on : GoesOn g.T.Tree.before g.T.Tree.up (RefusesAt g.T.Tree.up g.T.Tree.refuses) l.fn.times l.fn.room l.fn.job.slots.items (map (λ d. d.items) l.worked.items) l.left l.free l.slots.items;
+  on : GoesOn g.T.Tree.before g.T.Tree.up (RefusesAt g.T.Tree.up g.T.Tree.refuses) l.fn.times l.fn.room l.fn.job.slots.items (map (λ d. d.items) l.worked.items)
+      l.left l.free l.slots.items;
   fit : AreFit l.slots.items;
   few : l.free ≤ 16;
   room : length l.slots.items + length l.worked.items ≤ vec_capacity l.worked;

@@ -15,7 +15,8 @@ loop-pieces-preserved g c =
     let whole : l.row.items ≡ p ∷ rest = search rules in
     let some : 0 < l.pieces = search rules in
     let wanted : 0 < l.walkers = search rules in
-    let k = cut_more l.pieces l.walkers (l.pieces - 1) c.take-walkers.result p l.row.items rest l.slot.items more c.args.row.now.items some wanted refl t.left whole t.items l.invariant.first l.invariant.behind in
+    let k = cut_more l.pieces l.walkers (l.pieces - 1) c.take-walkers.result p l.row.items rest l.slot.items more c.args.row.now.items some wanted refl t.left
+    whole t.items l.invariant.first l.invariant.behind in
     record {
       first = k.0;
       behind = k.1;
@@ -27,12 +28,14 @@ loop-pieces-preserved g c =
 pub returns-in_default-clause-job : goal.returns-in_default-clause-job
 returns-in_default-clause-job g c =
     let l = c.loop-pieces in
-    (cut_over l.pieces l.walkers l.row.items c.pop_front.new.self.items l.slot.items c.args.row.now.items (search rules) (search rules) l.invariant.first l.invariant.behind).0
+    (cut_over l.pieces l.walkers l.row.items c.pop_front.new.self.items l.slot.items c.args.row.now.items (search rules) (search rules)
+    l.invariant.first l.invariant.behind).0
 
 pub returns-in_default-clause-rest : goal.returns-in_default-clause-rest
 returns-in_default-clause-rest g c =
     let l = c.loop-pieces in
-    (cut_over l.pieces l.walkers l.row.items c.pop_front.new.self.items l.slot.items c.args.row.now.items (search rules) (search rules) l.invariant.first l.invariant.behind).1
+    (cut_over l.pieces l.walkers l.row.items c.pop_front.new.self.items l.slot.items c.args.row.now.items (search rules) (search rules)
+    l.invariant.first l.invariant.behind).1
 
 pub returns-else-walkers-gt0-clause-job : goal.returns-else-walkers-gt0-clause-job
 returns-else-walkers-gt0-clause-job g c =

@@ -59,7 +59,8 @@ loop-slot-preserved g c =
       dealt = (
         slot ∷ dealt.0,
         last_over c.args.slots.items l.slots.items fewer dealt.0 slot dealt.1 last,
-        dealt_first slot dealt.0 l.jobs.items init news job (record { slots = c.insert.new.self; worked = job.worked; number = job.number }) jobs is more dealt.2,
+        dealt_first slot dealt.0 l.jobs.items init news job (record { slots = c.insert.new.self; worked = job.worked; number = job.number })
+            jobs is more dealt.2,
       );
       fit = fit.0;
       open_hands = subst (AreOpenHands (length fewer)) (sym is) (

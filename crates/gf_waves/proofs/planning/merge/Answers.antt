@@ -11,7 +11,8 @@ put_next-requires g c =
     let some : 0 < length l.jobs.items = search rules in
     let jobs : l.jobs.items ≡ job ∷ rest = first_out l.jobs.items rest job some c.remove-job.ensures.value c.remove-job.ensures.items in
     let open_left : l.left ≡ suc (l.left - 1) = omega arith in
-    let fits = gathered_fits l.left (l.left - 1) l.jobs.items rest job l.row.items (gathered c.args.places c.args.jobs.now.items) open_left jobs l.invariant.all in
+    let fits = gathered_fits l.left (l.left - 1) l.jobs.items rest job l.row.items (gathered c.args.places c.args.jobs.now.items)
+    open_left jobs l.invariant.all in
     let room = l.invariant.room in
     let long = length-append (gathered c.args.places c.args.jobs.now.items) c.args.tail.now.items in
     omega (arith, fits, room, long)
@@ -27,7 +28,8 @@ loop-left-preserved g c =
     let open_left : l.left ≡ suc (l.left - 1) = omega arith in
     let behind : c.push.new.self.items ≡ rest ++ c.put_next.new.job ∷ [] = search rules in
     record {
-      all = gathered_more l.left (l.left - 1) l.jobs.items rest c.push.new.self.items job c.put_next.new.job l.row.items c.put_next.new.row.items (gathered c.args.places c.args.jobs.now.items) open_left jobs behind c.put_next.ensures.rest c.put_next.ensures.items l.invariant.all;
+      all = gathered_more l.left (l.left - 1) l.jobs.items rest c.push.new.self.items job c.put_next.new.job l.row.items c.put_next.new.row.items
+          (gathered c.args.places c.args.jobs.now.items) open_left jobs behind c.put_next.ensures.rest c.put_next.ensures.items l.invariant.all;
       room = search rules;
       few = search rules;
     }

@@ -32,9 +32,11 @@ loop-spare-preserved g c =
     let enough : 24 ≤ deque_capacity c.cut.new.slot = omega (arith, kept, cap) in
     record {
       spare = both.0;
-      planned = goes_place (length c.args.spares.items) c.args.row.now.items (length l.spares.items) (length fewer) l.row.items c.cut.new.row.items l.slots.items more (record { row = c.cut.new.slot; done = c.in-Some.spare.done }) less c.cut.ensures.rest
+      planned = goes_place (length c.args.spares.items) c.args.row.now.items (length l.spares.items) (length fewer) l.row.items c.cut.new.row.items
+          l.slots.items more (record { row = c.cut.new.slot; done = c.in-Some.spare.done }) less c.cut.ensures.rest
           (spare.1, c.cut.ensures.few, enough, spare.3) c.cut.ensures.job c.add.ensures.items l.invariant.planned;
-      room = (let a = l.invariant.room in let b = c.add.ensures.room in let d = ap length c.add.ensures.items in let e = length_push l.slots.items (record { row = c.cut.new.slot; done = c.in-Some.spare.done }) in omega (arith, a, b, d, e, less));
+      room = (let a = l.invariant.room in let b = c.add.ensures.room in let d = ap length c.add.ensures.items in let e =
+          length_push l.slots.items (record { row = c.cut.new.slot; done = c.in-Some.spare.done }) in omega (arith, a, b, d, e, less));
     }
 
 pub add-requires : goal.add-requires

@@ -8,12 +8,18 @@ pub loop-alloc-preserved : goal.loop-alloc-preserved
 loop-alloc-preserved g c =
     let l = c.loop-alloc in
     let number = c.saturating_add-number.result in
-    let is : c.push.new.self.items ≡ l.jobs.items ++ record { slots = c.in_ok-slots.slots; worked = c.in_ok-worked.worked; number = number } ∷ [] = search rules in
+    let is : c.push.new.self.items ≡ l.jobs.items ++ record {
+      slots = c.in_ok-slots.slots;
+      worked = c.in_ok-worked.worked;
+      number = number;
+    } ∷ [] = search rules in
     record {
       free = subst (AreFreeJobs c.args.places) (sym is)
-          (free_more c.args.places l.jobs.items (record { slots = c.in_ok-slots.slots; worked = c.in_ok-worked.worked; number = number }) l.invariant.free (search rules, search rules, search rules, search rules, tt));
+          (free_more c.args.places l.jobs.items (record { slots = c.in_ok-slots.slots; worked = c.in_ok-worked.worked; number = number }) l.invariant.free
+          (search rules, search rules, search rules, search rules, tt));
       numbered = subst (AreNumbered c.args.first) (sym is)
-          (numbered_more c.args.first l.jobs.items (record { slots = c.in_ok-slots.slots; worked = c.in_ok-worked.worked; number = number }) l.invariant.numbered (search rules));
+          (numbered_more c.args.first l.jobs.items (record { slots = c.in_ok-slots.slots; worked = c.in_ok-worked.worked; number = number })
+          l.invariant.numbered (search rules));
       few = search rules;
       room = search rules;
     }

@@ -31,6 +31,7 @@ loop-piece-preserved g c =
     let whole : c.loop-piece.row.items ≡ Under w ∷ rest = search rules in
     let steps = subst (Advances lt up w c.advance.new.self) c.in-Ok-None.field-0-is c.in-Ok-None.ensures.first in
     record {
-      given = λ answer news h. c.loop-piece.invariant.given answer news (subst (λ r. IsGiven lt up (RefusesAt up g.T.Tree.refuses) r answer news) (sym whole) (inr (λ top r at. (steps top r at).none, h)));
+      given = λ answer news h. c.loop-piece.invariant.given answer news (subst (λ r. IsGiven lt up (RefusesAt up g.T.Tree.refuses) r answer news) (sym whole)
+          (inr (λ top r at. (steps top r at).none, h)));
       few = search rules;
     }

@@ -14,13 +14,16 @@ deal-requires-clause-free g c =
     subst (λ m. AreFreeJobs m c.in_ok-shared.shared.items) (sym (count ∙ c.in_ok-spares.ensures.count)) c.in_ok-shared.ensures.free
 
 pub deal-requires-clause-fit : goal.deal-requires-clause-fit
-deal-requires-clause-fit g c = (planned_fits (length c.in_ok-spares.spares.items) c.args.row.now.items c.plan.new.row.items c.plan.new.slots.items c.plan.ensures).0
+deal-requires-clause-fit g c =
+    (planned_fits (length c.in_ok-spares.spares.items) c.args.row.now.items c.plan.new.row.items c.plan.new.slots.items c.plan.ensures).0
 
 pub merge-requires-clause-room : goal.merge-requires-clause-room
 merge-requires-clause-room g c =
     let e = c.work_jobs.ensures in
-    let few = (wave_of g.T.Tree.before g.T.Tree.up (RefusesAt g.T.Tree.up g.T.Tree.refuses) c.args.due c.args.times c.args.room (length c.in_ok-spares.spares.items) c.args.row.now.items c.plan.new.row.items c.plan.new.slots.items
-    c.deal.new.jobs.items c.work_jobs.new.jobs.items (length c.in_ok-shared.shared.items) c.in_ok-spares.ensures.count c.plan.ensures c.deal.ensures.dealt c.deal.ensures.count c.in_ok-shared.ensures.count e.same_length e.each).1 in
+    let few = (wave_of g.T.Tree.before g.T.Tree.up (RefusesAt g.T.Tree.up g.T.Tree.refuses) c.args.due c.args.times c.args.room
+    (length c.in_ok-spares.spares.items) c.args.row.now.items c.plan.new.row.items c.plan.new.slots.items
+    c.deal.new.jobs.items c.work_jobs.new.jobs.items (length c.in_ok-shared.shared.items) c.in_ok-spares.ensures.count c.plan.ensures c.deal.ensures.dealt
+    c.deal.ensures.count c.in_ok-shared.ensures.count e.same_length e.each).1 in
     let fits = c.requires.fits in
     let room : (c.args.workers + 1) * 32 ≤ deque_capacity c.in_ok-news.news = search rules in
     omega (arith, few, fits, room)
@@ -32,8 +35,10 @@ returns-clause-waved g c =
     let refuses = RefusesAt up g.T.Tree.refuses in
     let e = c.work_jobs.ensures in
     subst (IsWaved lt up refuses (c.args.due * 8) (replicate c.args.due (c.args.times, c.args.room)) c.args.row.now.items) (sym c.merge.ensures)
-    (wave_of lt up refuses c.args.due c.args.times c.args.room (length c.in_ok-spares.spares.items) c.args.row.now.items c.plan.new.row.items c.plan.new.slots.items
-    c.deal.new.jobs.items c.work_jobs.new.jobs.items (length c.in_ok-shared.shared.items) c.in_ok-spares.ensures.count c.plan.ensures c.deal.ensures.dealt c.deal.ensures.count c.in_ok-shared.ensures.count e.same_length e.each).0
+    (wave_of lt up refuses c.args.due c.args.times c.args.room (length c.in_ok-spares.spares.items) c.args.row.now.items c.plan.new.row.items
+    c.plan.new.slots.items
+    c.deal.new.jobs.items c.work_jobs.new.jobs.items (length c.in_ok-shared.shared.items) c.in_ok-spares.ensures.count c.plan.ensures c.deal.ensures.dealt
+    c.deal.ensures.count c.in_ok-shared.ensures.count e.same_length e.each).0
 
 pub returns-clause-refused : goal.returns-clause-refused
 returns-clause-refused g c =
@@ -43,14 +48,18 @@ returns-clause-refused g c =
     let e = c.work_jobs.ensures in
     subst (AreRefusals refuses) (sym c.merge.ensures)
     (waved_refusals lt up refuses (c.args.due * 8) (replicate c.args.due (c.args.times, c.args.room)) c.args.row.now.items _
-    (wave_of lt up refuses c.args.due c.args.times c.args.room (length c.in_ok-spares.spares.items) c.args.row.now.items c.plan.new.row.items c.plan.new.slots.items
-    c.deal.new.jobs.items c.work_jobs.new.jobs.items (length c.in_ok-shared.shared.items) c.in_ok-spares.ensures.count c.plan.ensures c.deal.ensures.dealt c.deal.ensures.count c.in_ok-shared.ensures.count e.same_length e.each).0 c.requires.refused)
+    (wave_of lt up refuses c.args.due c.args.times c.args.room (length c.in_ok-spares.spares.items) c.args.row.now.items c.plan.new.row.items
+    c.plan.new.slots.items
+    c.deal.new.jobs.items c.work_jobs.new.jobs.items (length c.in_ok-shared.shared.items) c.in_ok-spares.ensures.count c.plan.ensures c.deal.ensures.dealt
+    c.deal.ensures.count c.in_ok-shared.ensures.count e.same_length e.each).0 c.requires.refused)
 
 pub returns-clause-few : goal.returns-clause-few
 returns-clause-few g c =
     let e = c.work_jobs.ensures in
-    let few = (wave_of g.T.Tree.before g.T.Tree.up (RefusesAt g.T.Tree.up g.T.Tree.refuses) c.args.due c.args.times c.args.room (length c.in_ok-spares.spares.items) c.args.row.now.items c.plan.new.row.items c.plan.new.slots.items
-    c.deal.new.jobs.items c.work_jobs.new.jobs.items (length c.in_ok-shared.shared.items) c.in_ok-spares.ensures.count c.plan.ensures c.deal.ensures.dealt c.deal.ensures.count c.in_ok-shared.ensures.count e.same_length e.each).1 in
+    let few = (wave_of g.T.Tree.before g.T.Tree.up (RefusesAt g.T.Tree.up g.T.Tree.refuses) c.args.due c.args.times c.args.room
+    (length c.in_ok-spares.spares.items) c.args.row.now.items c.plan.new.row.items c.plan.new.slots.items
+    c.deal.new.jobs.items c.work_jobs.new.jobs.items (length c.in_ok-shared.shared.items) c.in_ok-spares.ensures.count c.plan.ensures c.deal.ensures.dealt
+    c.deal.ensures.count c.in_ok-shared.ensures.count e.same_length e.each).1 in
     let fits = c.requires.fits in
     let same = ap length c.merge.ensures in
     omega (arith, few, fits, same)

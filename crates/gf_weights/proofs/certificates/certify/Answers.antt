@@ -11,10 +11,14 @@ pub certify_in-requires : goal.certify_in-requires
 certify_in-requires c = positive_wide c.args.set.now.variables c.variables.result c.in_ok-region.region c.variables.ensures c.in_ok-region.ensures
 
 pub returns-clause-value : goal.returns-clause-value
-returns-clause-value c = subst (λ (k : Region). IfOk c.certify_in.result (AreCertificatesIn c.args.set.now.variables k c.args.set.now.items)) (positive_is c.args.set.now.variables c.variables.result c.in_ok-region.region c.variables.ensures c.in_ok-region.ensures) c.certify_in.ensures.value
+returns-clause-value c = subst (λ (k : Region). IfOk c.certify_in.result (AreCertificatesIn c.args.set.now.variables k c.args.set.now.items))
+    (positive_is c.args.set.now.variables c.variables.result c.in_ok-region.region c.variables.ensures c.in_ok-region.ensures) c.certify_in.ensures.value
 
 pub returns-clause-err : goal.returns-clause-err
-returns-clause-err c = subst (λ (k : Region). IfErr c.certify_in.result (IsCertificateCauseIn c.args.set.now.variables k c.args.set.now.items)) (positive_is c.args.set.now.variables c.variables.result c.in_ok-region.region c.variables.ensures c.in_ok-region.ensures) c.certify_in.ensures.err
+returns-clause-err c = subst (λ (k : Region). IfErr c.certify_in.result (IsCertificateCauseIn c.args.set.now.variables k c.args.set.now.items))
+    (positive_is c.args.set.now.variables c.variables.result c.in_ok-region.region c.variables.ensures c.in_ok-region.ensures) c.certify_in.ensures.err
 
 pub returns-clause-complete : goal.returns-clause-complete
-returns-clause-complete c = λ within. only_memory _ c.certify_in.result (subst (λ (k : Region). IfErr c.certify_in.result (IsCertificateCauseIn c.args.set.now.variables k c.args.set.now.items)) (positive_is c.args.set.now.variables c.variables.result c.in_ok-region.region c.variables.ensures c.in_ok-region.ensures) c.certify_in.ensures.err) within
+returns-clause-complete c = λ within. only_memory _ c.certify_in.result
+    (subst (λ (k : Region). IfErr c.certify_in.result (IsCertificateCauseIn c.args.set.now.variables k c.args.set.now.items))
+    (positive_is c.args.set.now.variables c.variables.result c.in_ok-region.region c.variables.ensures c.in_ok-region.ensures) c.certify_in.ensures.err) within

@@ -16,12 +16,16 @@ returns-in_err-cut-clause-complete c = λ within.
 pub returns-in_err-weight-clause-err : goal.returns-in_err-weight-clause-err
 returns-in_err-weight-clause-err c =
     let p = err_from_is_err_and c.from_residual-in_err-weight.result c.from_residual-in_err-weight.ensures.1 in
-    rw (p.1, p.2) (weight_first c.args.set.now.variables c.args.region.now c.args.set.now.items _ (weight_refused c.args.set.now.variables c.args.region.now c.args.set.now.items c.in_ok-cut.cut.cone c.in_ok-cut.cut.rays _ c.in_ok-cut.ensures.ok c.in_err-weight.ensures.wide))
+    rw (p.1, p.2) (weight_first c.args.set.now.variables c.args.region.now c.args.set.now.items _
+    (weight_refused c.args.set.now.variables c.args.region.now c.args.set.now.items c.in_ok-cut.cut.cone c.in_ok-cut.cut.rays _ c.in_ok-cut.ensures.ok
+    c.in_err-weight.ensures.wide))
 
 pub returns-in_err-weight-clause-complete : goal.returns-in_err-weight-clause-complete
 returns-in_err-weight-clause-complete c = λ within.
     let p = err_from_is_err_and c.from_residual-in_err-weight.result c.from_residual-in_err-weight.ensures.1 in
-    rw (p.1, p.2) (within _ (weight_first c.args.set.now.variables c.args.region.now c.args.set.now.items _ (weight_refused c.args.set.now.variables c.args.region.now c.args.set.now.items c.in_ok-cut.cut.cone c.in_ok-cut.cut.rays _ c.in_ok-cut.ensures.ok c.in_err-weight.ensures.wide)))
+    rw (p.1, p.2) (within _ (weight_first c.args.set.now.variables c.args.region.now c.args.set.now.items _
+    (weight_refused c.args.set.now.variables c.args.region.now c.args.set.now.items c.in_ok-cut.cut.cone c.in_ok-cut.cut.rays _ c.in_ok-cut.ensures.ok
+    c.in_err-weight.ensures.wide)))
 
 pub returns-in_err-facets-clause-err : goal.returns-in_err-facets-clause-err
 returns-in_err-facets-clause-err c =
@@ -35,6 +39,7 @@ returns-in_err-facets-clause-complete c = λ within.
 
 pub returns-clause-value : goal.returns-clause-value
 returns-clause-value c = record {
-  weight = weight_is c.args.set.now.variables c.args.region.now c.args.set.now.items c.in_ok-cut.cut.cone c.in_ok-cut.cut.rays c.in_ok-weight.weight c.in_ok-cut.ensures.ok c.in_ok-weight.ensures.value;
+  weight = weight_is c.args.set.now.variables c.args.region.now c.args.set.now.items c.in_ok-cut.cut.cone c.in_ok-cut.cut.rays c.in_ok-weight.weight
+      c.in_ok-cut.ensures.ok c.in_ok-weight.ensures.value;
   facets = c.in_ok-facets.ensures.ok;
 }

@@ -14,7 +14,8 @@ use Rattle.gf_weights.proofs.certificates.facets.Goals as goal
 use Rattle.gf_weights.proofs.certificates.facets.Goals.{then-is_flippable+in_ok-normal+in_ok-witness+in_ok-push, else-is_flippable}
 
 pub places-init : goal.places-init
-places-init c = facets_none c.args.set.now.variables c.args.region.now c.args.set.now.items c.args.cut.now.cone c.new-found.result.items c.new-found.ensures.items
+places-init c = facets_none c.args.set.now.variables c.args.region.now c.args.set.now.items c.args.cut.now.cone c.new-found.result.items
+    c.new-found.ensures.items
 
 pub places-preserved : goal.places-preserved
 places-preserved c =
@@ -30,12 +31,16 @@ places-preserved c =
     elim c.if-is_flippable.branch [
       | then-is_flippable+in_ok-normal+in_ok-witness+in_ok-push w ↦
           let e : w.in_ok-normal.normal ≡ normal_at cone place =
-          w.in_ok-normal.ensures ∙ w.index-normals-place.is ∙ get_or_default c.normals-normals.result.now place w.index-normals-place.result [] c.places-test.true ∙ ap (λ (z : List (List ℤ)). get_or z place []) c.normals-normals.ensures.value in
-          let sum = w.in_ok-witness.ensures.value ∙ ap (λ (a : List ℤ). sum_of rays.ambient (zeros_of a rays.rays)) (normal_row cone rays place c.requires.rays l) in
-          rw w.found-is (facets_next n k bs cone place c.places.found.items _ (record { normal = w.in_ok-normal.normal; witness = w.in_ok-witness.witness }) c.requires.cone l e (told.0 (c.is_flippable.ensures.0 w.if-is_flippable.true))
+          w.in_ok-normal.ensures ∙ w.index-normals-place.is ∙ get_or_default c.normals-normals.result.now place w.index-normals-place.result
+          [] c.places-test.true ∙ ap (λ (z : List (List ℤ)). get_or z place []) c.normals-normals.ensures.value in
+          let sum = w.in_ok-witness.ensures.value ∙ ap (λ (a : List ℤ). sum_of rays.ambient (zeros_of a rays.rays))
+          (normal_row cone rays place c.requires.rays l) in
+          rw w.found-is (facets_next n k bs cone place c.places.found.items _ (record { normal = w.in_ok-normal.normal; witness = w.in_ok-witness.witness })
+          c.requires.cone l e (told.0 (c.is_flippable.ensures.0 w.if-is_flippable.true))
           (witness_is n k bs cone rays (normal_at cone place) w.in_ok-witness.witness c.requires sum) w.in_ok-push.ensures.items c.places.invariant)
       | else-is_flippable w ↦
-          rw w.found-is (facets_passed n k bs cone place c.places.found.items (λ f. false≢true (sym w.if-is_flippable.false ∙ c.is_flippable.ensures.1 (told.1 f))) c.places.invariant)
+          rw w.found-is (facets_passed n k bs cone place c.places.found.items
+          (λ f. false≢true (sym w.if-is_flippable.false ∙ c.is_flippable.ensures.1 (told.1 f))) c.places.invariant)
     ]
 
 pub returns-in_err-witness-clause-err : goal.returns-in_err-witness-clause-err
@@ -50,11 +55,13 @@ returns-in_err-witness-clause-err c =
     let l : place < length cone.normals = omega (arith, c.places-test.true, long) in
     let told = crossable_flippable n k bs cone place l c.requires.cone in
     let row : List ℤ = get_or rays.inequalities place [] in
-    let flip : IsFlippable n k bs row = subst (IsFlippable n k bs) (sym (normal_row cone rays place c.requires.rays l)) (told.0 (c.is_flippable.ensures.0 c.if-is_flippable.true)) in
+    let flip : IsFlippable n k bs row = subst (IsFlippable n k bs) (sym (normal_row cone rays place c.requires.rays l))
+    (told.0 (c.is_flippable.ensures.0 c.if-is_flippable.true)) in
     let p = err_from_is_err_and c.from_residual-in_err-witness.result c.from_residual-in_err-witness.ensures.1 in
     rw (p.1, p.2) (witness_refused n k bs cone rays row _ c.requires flip c.in_err-witness.ensures.wide)
 
 pub returns-clause-ok : goal.returns-clause-ok
 returns-clause-ok c =
     let long = ap (λ (z : List (List ℤ)). length z) c.normals-normals.ensures.value in
-    facets_all c.args.set.now.variables c.args.region.now c.args.set.now.items c.args.cut.now.cone c.places.place c.places.found.items c.requires.cone (omega (arith, c.places-test.false, long)) c.places.invariant
+    facets_all c.args.set.now.variables c.args.region.now c.args.set.now.items c.args.cut.now.cone c.places.place c.places.found.items c.requires.cone
+    (omega (arith, c.places-test.false, long)) c.places.invariant

@@ -9,7 +9,8 @@ pub returns-then-not-has_ray_off : goal.returns-then-not-has_ray_off
 returns-then-not-has_ray_off c =
     let long = ap (λ (z : List (List ℤ)). length z) c.inequalities-other-end.ensures.value in (
       λ t. absurd (false≢true t),
-      λ s. absurd (not_crossing c.args.cut.now.cone c.args.cut.now.rays c.args.place c.loop-other.other c.requires.cut c.requires.place (omega (arith, c.loop-other-test.true, long)) c.if-other-place.true (c.if-not-has_ray_off.ensures.no (λ t. false≢true t)) s),
+      λ s. absurd (not_crossing c.args.cut.now.cone c.args.cut.now.rays c.args.place c.loop-other.other c.requires.cut c.requires.place
+          (omega (arith, c.loop-other-test.true, long)) c.if-other-place.true (c.if-not-has_ray_off.ensures.no (λ t. false≢true t)) s),
     )
 
 pub loop-other-preserved : goal.loop-other-preserved
@@ -27,6 +28,7 @@ loop-other-preserved c = elim c.else-other-place.branch [
 pub returns : goal.returns
 returns c =
     let long = ap (λ (z : List (List ℤ)). length z) c.inequalities-other-end.ensures.value in (
-      λ t. crossing_of_rays c.args.cut.now.cone c.args.cut.now.rays c.args.place c.requires.cut c.requires.place (λ k l ne. c.loop-other.invariant k (omega (arith, l, c.loop-other-test.false, long)) ne),
+      λ t. crossing_of_rays c.args.cut.now.cone c.args.cut.now.rays c.args.place c.requires.cut c.requires.place
+          (λ k l ne. c.loop-other.invariant k (omega (arith, l, c.loop-other-test.false, long)) ne),
       λ s. refl,
     )

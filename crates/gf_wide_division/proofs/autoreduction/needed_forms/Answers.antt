@@ -9,8 +9,12 @@ members-init c = subst (Forming c.args.items.now 0) (sym c.new-forms.ensures.ite
 
 pub members-preserved : goal.members-preserved
 members-preserved c = elim c.if-is_needed.branch [
-  | then-is_needed+in_ok-form+in_ok-push w ↦ subst (Forming c.args.items.now (c.members.i + 1)) (sym (ap (λ v. v.items) w.forms-is)) (forming-more c.args.items.now c.members.i c.members.forms.items w.push.new.self.items w.index-items-i.result w.in_ok-form.form (member_at c.args.items.now c.members.i w.index-items-i.result c.members-test.true w.index-items-i.is) (c.is_needed.ensures.yes w.if-is_needed.true) w.in_ok-form.ensures.form w.in_ok-form.ensures.variables w.in_ok-push.ensures.items c.members.invariant)
-  | else-is_needed w ↦ subst (Forming c.args.items.now (c.members.i + 1)) (sym (ap (λ v. v.items) w.forms-is)) (forming-skipped c.args.items.now c.members.i c.members.forms.items (c.is_needed.ensures.no w.if-is_needed.false) c.members.invariant)
+  | then-is_needed+in_ok-form+in_ok-push w ↦ subst (Forming c.args.items.now (c.members.i + 1)) (sym (ap (λ v. v.items) w.forms-is))
+      (forming-more c.args.items.now c.members.i c.members.forms.items w.push.new.self.items w.index-items-i.result w.in_ok-form.form
+      (member_at c.args.items.now c.members.i w.index-items-i.result c.members-test.true w.index-items-i.is) (c.is_needed.ensures.yes w.if-is_needed.true)
+      w.in_ok-form.ensures.form w.in_ok-form.ensures.variables w.in_ok-push.ensures.items c.members.invariant)
+  | else-is_needed w ↦ subst (Forming c.args.items.now (c.members.i + 1)) (sym (ap (λ v. v.items) w.forms-is))
+      (forming-skipped c.args.items.now c.members.i c.members.forms.items (c.is_needed.ensures.no w.if-is_needed.false) c.members.invariant)
 ]
 
 pub returns-clause-value : goal.returns-clause-value

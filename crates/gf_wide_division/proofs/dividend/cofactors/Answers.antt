@@ -15,4 +15,5 @@ pub quotient-requires-2-clause-divides : goal.quotient-requires-2-clause-divides
 quotient-requires-2-clause-divides c = divides_right c.args.x.now c.args.y.now c.lcm-multiple.result c.lcm-multiple.ensures
 
 pub returns : goal.returns
-returns c = cofactors_of c.args.x.now c.args.y.now c.lcm-multiple.result c.quotient.result c.quotient-2.result c.requires c.lcm-multiple.ensures c.quotient.ensures.value c.quotient-2.ensures.value c.quotient.ensures.product c.quotient-2.ensures.product
+returns c = cofactors_of c.args.x.now c.args.y.now c.lcm-multiple.result c.quotient.result c.quotient-2.result c.requires c.lcm-multiple.ensures
+    c.quotient.ensures.value c.quotient-2.ensures.value c.quotient.ensures.product c.quotient-2.ensures.product

@@ -13,10 +13,12 @@ pub returns-in-Ok-clause-follows : goal.returns-in-Ok-clause-follows
 returns-in-Ok-clause-follows g c = run_clauses command_of lawful _ _ _ _ _ statuses.Done (record { done = λ e. c.in-Ok.ensures.done; refused = λ r e. cc })
 
 pub returns-in-Ok-clause-limit_always : goal.returns-in-Ok-clause-limit_always
-returns-in-Ok-clause-limit_always g c = λ job texts most asked given past calm. absurd (limit_not_done _ _ _ _ _ job texts most asked given past c.in-Ok.ensures.done)
+returns-in-Ok-clause-limit_always g c =
+    λ job texts most asked given past calm. absurd (limit_not_done _ _ _ _ _ job texts most asked given past c.in-Ok.ensures.done)
 
 pub returns-in-Err-clause-refused : goal.returns-in-Err-clause-refused
-returns-in-Err-clause-refused g c = λ refusal is. subst (IsRunRefused command_of _ _ _ _ _) (same_refusal c.in-Err.refused.refusal refusal is) c.in-Err.ensures.refused
+returns-in-Err-clause-refused g c = λ refusal is. subst (IsRunRefused command_of _ _ _ _ _) (same_refusal c.in-Err.refused.refusal refusal is)
+    c.in-Err.ensures.refused
 
 pub returns-in-Err-clause-follows : goal.returns-in-Err-clause-follows
 returns-in-Err-clause-follows g c =
@@ -26,11 +28,13 @@ returns-in-Err-clause-follows g c =
     })
 
 pub returns-in-Err-clause-limit_always : goal.returns-in-Err-clause-limit_always
-returns-in-Err-clause-limit_always g c = λ job texts most asked given past calm. limit_told _ _ _ _ _ job texts most asked given past c.in-Err.refused.refusal calm c.in-Err.ensures.refused
+returns-in-Err-clause-limit_always g c = λ job texts most asked given past calm. limit_told _ _ _ _ _ job texts most asked given past c.in-Err.refused.refusal
+    calm c.in-Err.ensures.refused
 
 pub returns-in-Ok-clause-binomials : goal.returns-in-Ok-clause-binomials
 returns-in-Ok-clause-binomials g c = λ job texts o asked given plain e. cc
 
 pub returns-in-Err-clause-binomials : goal.returns-in-Err-clause-binomials
 returns-in-Err-clause-binomials g c = λ job texts o asked given plain e.
-    never_overflows _ _ _ _ _ job texts o asked given plain (subst (IsRunRefused command_of _ _ _ _ _) (same_refusal c.in-Err.refused.refusal (refusals.Overflow o) e) c.in-Err.ensures.refused)
+    never_overflows _ _ _ _ _ job texts o asked given plain (subst (IsRunRefused command_of _ _ _ _ _)
+    (same_refusal c.in-Err.refused.refusal (refusals.Overflow o) e) c.in-Err.ensures.refused)

@@ -5,5 +5,6 @@ use Rattle.gfan_common.proofs.checks.nonzero.Goals as goal
 
 pub new-requires : goal.new-requires
 new-requires c =
-    let all = none_zero c.args.written.items (into_iter_items c.polynomials.next-iterator) c.polynomials.items.items c.polynomials.invariant.whole (sym c.polynomials.invariant.left ∙ c.in-None.ensures.steps.0) in
+    let all = none_zero c.args.written.items (into_iter_items c.polynomials.next-iterator) c.polynomials.items.items c.polynomials.invariant.whole
+    (sym c.polynomials.invariant.left ∙ c.in-None.ensures.steps.0) in
     nonzero_variables c.args.n c.args.written.items c.polynomials.items.items all c.requires

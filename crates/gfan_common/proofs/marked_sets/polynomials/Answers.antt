@@ -12,7 +12,8 @@ members-preserved c =
     (omega (arith, c.head.ensures.marked.term.1, ap length same)) c.in_ok-push.ensures.items c.members.invariant
 
 pub returns-clause-value : goal.returns-clause-value
-returns-clause-value c = c.members.invariant.value ∙ ap polys (take_all c.members.b-index c.items-items.result.now c.members-test.false ∙ c.items-items.ensures.value)
+returns-clause-value c = c.members.invariant.value ∙ ap polys (take_all c.members.b-index c.items-items.result.now c.members-test.false ∙
+    c.items-items.ensures.value)
 
 pub returns-clause-some : goal.returns-clause-some
 returns-clause-some c = c.members.invariant.some

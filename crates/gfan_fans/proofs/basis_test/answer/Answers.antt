@@ -29,10 +29,13 @@ returns-in-Ok-clause-ok g c =
 pub returns-in-Err-clause-err : goal.returns-in-Err-clause-err
 returns-in-Err-clause-err g c =
     let r = c.in_ok-ring.field-0 in
-    IsRefusedOn.behind_text (r.ring, (r.set.items, None)) (without_vector c.args.source.now r.ring r.set.items r.vector c.in_ok-ring.ensures.ok) c.in-Err.ensures.err
+    IsRefusedOn.behind_text (r.ring, (r.set.items, None)) (without_vector c.args.source.now r.ring r.set.items r.vector c.in_ok-ring.ensures.ok)
+    c.in-Err.ensures.err
 
 pub returns-in-Err-clause-told : goal.returns-in-Err-clause-told
 returns-in-Err-clause-told g c =
     let r = c.in_ok-ring.field-0 in
-    of_test_ring c.args.source.now r.ring r.set.items None (without_vector c.args.source.now r.ring r.set.items r.vector c.in_ok-ring.ensures.ok) c.in-Err.refusal
-    (named_unanswered r.ring r.set.items c.in-Err.refusal (in_ring (length r.ring) r.set.items (generators_of r.set.items) c.in_ok-ring.ensures.variables refl) c.in-Err.ensures.err)
+    of_test_ring c.args.source.now r.ring r.set.items None (without_vector c.args.source.now r.ring r.set.items r.vector c.in_ok-ring.ensures.ok)
+    c.in-Err.refusal
+    (named_unanswered r.ring r.set.items c.in-Err.refusal (in_ring (length r.ring) r.set.items (generators_of r.set.items) c.in_ok-ring.ensures.variables refl)
+    c.in-Err.ensures.err)

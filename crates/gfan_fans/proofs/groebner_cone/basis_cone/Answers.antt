@@ -23,14 +23,17 @@ returns-in_err-vectors-clause-err c =
     rw (p.1, p.2) (IsBasisConeCause.at_check check_errors.Memory tt refl)
 
 pub told-requires-clause-inequalities : goal.told-requires-clause-inequalities
-told-requires-clause-inequalities c = subst (λ (k : ℕ). AreRows k c.rows_told.result.now) (c.in_ok-cone.ensures.variables ∙ c.requires.variables) c.rows_told.ensures.widths
+told-requires-clause-inequalities c =
+    subst (λ (k : ℕ). AreRows k c.rows_told.result.now) (c.in_ok-cone.ensures.variables ∙ c.requires.variables) c.rows_told.ensures.widths
 
 pub returns-clause-ok : goal.returns-clause-ok
 returns-clause-ok c =
-    IfOk-weaker c.told.result _ _ (λ text k. told_normals c.args.options c.args.marked.now c.in_ok-cone.cone c.args.n c.rows_told.result.now text.items c.in-Ok.ensures.basis.basis.marked c.in-Ok.ensures.terms c.in_ok-cone.ensures c.requires.variables
+    IfOk-weaker c.told.result _ _ (λ text k. told_normals c.args.options c.args.marked.now c.in_ok-cone.cone c.args.n c.rows_told.result.now text.items
+    c.in-Ok.ensures.basis.basis.marked c.in-Ok.ensures.terms c.in_ok-cone.ensures c.requires.variables
     c.rows_told.ensures.rows k) c.told.ensures.ok
 
 pub returns-clause-err : goal.returns-clause-err
 returns-clause-err c =
-    IfErr-weaker c.told.result _ _ (λ r k. untold_normals c.args.options c.args.marked.now c.in_ok-cone.cone c.args.n c.rows_told.result.now r c.in-Ok.ensures.basis.basis.marked c.in-Ok.ensures.terms c.in_ok-cone.ensures c.requires.variables
+    IfErr-weaker c.told.result _ _ (λ r k. untold_normals c.args.options c.args.marked.now c.in_ok-cone.cone c.args.n c.rows_told.result.now r
+    c.in-Ok.ensures.basis.basis.marked c.in-Ok.ensures.terms c.in_ok-cone.ensures c.requires.variables
     c.rows_told.ensures.rows k) c.told.ensures.err

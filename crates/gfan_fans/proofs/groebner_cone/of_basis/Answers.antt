@@ -28,4 +28,7 @@ returns-in-Err-clause-err c =
 pub returns-in-Err-clause-told : goal.returns-in-Err-clause-told
 returns-in-Err-clause-told c =
     let r = c.in_ok-ring.field-0 in
-    record { named = named_cone c.args.options c.args.source.now r.ring r.set c.in_ok-ring.ensures.ok c.in-Err.refusal c.in-Err.ensures.err; ring = (c.in_ok-ring.ensures.ok.read.behind, c.in_ok-ring.ensures.ok.read.one) }
+    record {
+      named = named_cone c.args.options c.args.source.now r.ring r.set c.in_ok-ring.ensures.ok c.in-Err.refusal c.in-Err.ensures.err;
+      ring = (c.in_ok-ring.ensures.ok.read.behind, c.in_ok-ring.ensures.ok.read.one);
+    }

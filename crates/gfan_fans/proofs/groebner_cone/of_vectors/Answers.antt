@@ -19,7 +19,8 @@ pub returns-in_err-text-clause-err : goal.returns-in_err-text-clause-err
 returns-in_err-text-clause-err c =
     let r = c.in_ok-read.read in
     let p = err_from_is_err_and c.from_residual-in_err-text.result c.from_residual-in_err-text.ensures.1 in
-    rw (p.1, p.2) (vectors_refused c.args.options c.args.source.now r.dimension r.inequalities.items r.equations.items r.inequalities.items c.deref.result.now c.in_err-text.field-0.0 c.in_ok-read.ensures.ok refl c.deref.ensures.value c.in_err-text.ensures.err)
+    rw (p.1, p.2) (vectors_refused c.args.options c.args.source.now r.dimension r.inequalities.items r.equations.items r.inequalities.items c.deref.result.now
+    c.in_err-text.field-0.0 c.in_ok-read.ensures.ok refl c.deref.ensures.value c.in_err-text.ensures.err)
 
 pub returns-in_err-text-clause-told : goal.returns-in_err-text-clause-told
 returns-in_err-text-clause-told c =
@@ -29,4 +30,5 @@ returns-in_err-text-clause-told c =
 pub returns-clause-ok : goal.returns-clause-ok
 returns-clause-ok c =
     let r = c.in_ok-read.read in
-    vectors_told c.args.options c.args.source.now r.dimension r.inequalities.items r.equations.items r.inequalities.items c.deref.result.now c.in_ok-text.text.items c.in_ok-read.ensures.ok refl c.deref.ensures.value c.in_ok-text.ensures.ok
+    vectors_told c.args.options c.args.source.now r.dimension r.inequalities.items r.equations.items r.inequalities.items c.deref.result.now
+    c.in_ok-text.text.items c.in_ok-read.ensures.ok refl c.deref.ensures.value c.in_ok-text.ensures.ok

@@ -20,13 +20,15 @@ returns-in_err-read-clause-told c =
 
 pub space_text-requires-clause-variables : goal.space_text-requires-clause-variables
 space_text-requires-clause-variables c =
-    subst (λ (k : ℕ). AreIn k c.deref.result.now) (sym c.len.ensures.value) (subst (λ (ws : List Written). AreIn (length c.in_ok-read.read.ring) ws) (sym c.deref.ensures.value) c.in_ok-read.ensures.variables)
+    subst (λ (k : ℕ). AreIn k c.deref.result.now) (sym c.len.ensures.value) (subst (λ (ws : List Written). AreIn (length c.in_ok-read.read.ring) ws)
+    (sym c.deref.ensures.value) c.in_ok-read.ensures.variables)
 
 pub returns-in_err-text-clause-err : goal.returns-in_err-text-clause-err
 returns-in_err-text-clause-err c =
     let p = err_from_is_err_and c.from_residual-in_err-text.result c.from_residual-in_err-text.ensures.1 in
     let read = c.in_ok-read.read in
-    rw (p.1, p.2) (space_unanswered c.args.source.now c.in_err-text.field-0.0 read.ring read.set.items c.deref.result.now read.vector c.len.result c.in_ok-read.ensures.ok c.len.ensures.value c.deref.ensures.value c.in_err-text.ensures.err)
+    rw (p.1, p.2) (space_unanswered c.args.source.now c.in_err-text.field-0.0 read.ring read.set.items c.deref.result.now read.vector c.len.result
+    c.in_ok-read.ensures.ok c.len.ensures.value c.deref.ensures.value c.in_err-text.ensures.err)
 
 pub returns-in_err-text-clause-told : goal.returns-in_err-text-clause-told
 returns-in_err-text-clause-told c =
@@ -36,4 +38,5 @@ returns-in_err-text-clause-told c =
 pub returns-clause-ok : goal.returns-clause-ok
 returns-clause-ok c =
     let read = c.in_ok-read.read in
-    space_answered c.args.source.now c.in_ok-text.text.items read.ring read.set.items c.deref.result.now read.vector c.len.result c.in_ok-read.ensures.ok c.len.ensures.value c.deref.ensures.value c.in_ok-text.ensures.ok
+    space_answered c.args.source.now c.in_ok-text.text.items read.ring read.set.items c.deref.result.now read.vector c.len.result c.in_ok-read.ensures.ok
+    c.len.ensures.value c.deref.ensures.value c.in_ok-text.ensures.ok

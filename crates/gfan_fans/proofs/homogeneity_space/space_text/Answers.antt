@@ -9,4 +9,5 @@ returns-in-Err-clause-err c = IsNoSpace.at_space c.in-Err.error c.in-Err.ensures
 pub returns-in_err-text-clause-err : goal.returns-in_err-text-clause-err
 returns-in_err-text-clause-err c =
     let p = err_from_is_err_and c.from_residual-in_err-text.result c.from_residual-in_err-text.ensures.1 in
-    rw (p.1, p.2) (fan_refused c.args.n (nonzero_of c.args.set.now) c.in-Ok.space c.in_ok-cones.cones.items c.in_err-text.field-0.0 c.in-Ok.ensures.ok c.in_ok-cones.ensures c.in_err-text.ensures.err)
+    rw (p.1, p.2) (fan_refused c.args.n (nonzero_of c.args.set.now) c.in-Ok.space c.in_ok-cones.cones.items c.in_err-text.field-0.0 c.in-Ok.ensures.ok
+    c.in_ok-cones.ensures c.in_err-text.ensures.err)

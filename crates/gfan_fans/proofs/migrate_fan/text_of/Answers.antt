@@ -10,7 +10,8 @@ pub returns-in-Ok-clause-ok : goal.returns-in-Ok-clause-ok
 returns-in-Ok-clause-ok c = migration_answered c.args.source.now c.in-Ok.text.items c.in-Ok.ensures.ok
 
 pub returns-in-Err-clause-err : goal.returns-in-Err-clause-err
-returns-in-Err-clause-err c = subst (IsRefusedOn migrate_fan_command (c.args.source.now ∷ [])) (sym c.of_fan_file.ensures) (migration_refused c.args.source.now c.in-Err.error c.in-Err.ensures.err)
+returns-in-Err-clause-err c = subst (IsRefusedOn migrate_fan_command (c.args.source.now ∷ [])) (sym c.of_fan_file.ensures)
+    (migration_refused c.args.source.now c.in-Err.error c.in-Err.ensures.err)
 
 pub returns-in-Err-clause-told : goal.returns-in-Err-clause-told
 returns-in-Err-clause-told c = subst (IsNamedBy None) (sym c.of_fan_file.ensures) (file_named c.in-Err.error)

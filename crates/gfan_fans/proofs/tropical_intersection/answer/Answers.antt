@@ -5,4 +5,5 @@ use Rattle.gfan_fans.proofs.tropical_intersection.answer.Goals as goal
 
 pub returns-else-options-clause-err : goal.returns-else-options-clause-err
 returns-else-options-clause-err g c =
-    subst (λ (t : Bool). IfErr c.answer-else-options.result (λ e. IsRefusedOn (intersection_by t) (c.args.source.now ∷ []) e.refusal)) (sym c.if-options.false) c.answer-else-options.ensures.err
+    subst (λ (t : Bool). IfErr c.answer-else-options.result (λ e. IsRefusedOn (intersection_by t) (c.args.source.now ∷ []) e.refusal)) (sym c.if-options.false)
+    c.answer-else-options.ensures.err

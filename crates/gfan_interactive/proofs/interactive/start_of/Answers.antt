@@ -10,4 +10,5 @@ pub returns-in-Ok-new-clause-ok : goal.returns-in-Ok-new-clause-ok
 returns-in-Ok-new-clause-ok c = subst (IsReducedAsRead c.args.set.now) (sym c.in-Ok-new.ensures.ok) c.in-Ok.ensures.ok
 
 pub returns-in-Err-new-clause-err : goal.returns-in-Err-new-clause-err
-returns-in-Err-new-clause-err c = λ pairs. IsUnopened.at_start c.in-Ok.basis c.in-Err-new.error c.in-Ok.ensures.ok (c.in-Err-new.ensures.err pairs) c.of_tree.ensures
+returns-in-Err-new-clause-err c = λ pairs. IsUnopened.at_start c.in-Ok.basis c.in-Err-new.error c.in-Ok.ensures.ok (c.in-Err-new.ensures.err pairs)
+    c.of_tree.ensures

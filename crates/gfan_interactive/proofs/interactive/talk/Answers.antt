@@ -28,7 +28,9 @@ returns-in-Err-converse-clause-cut g c =
     let k = c.converse.new.output in
     let same = c.in-Ok.ensures.calm in
     IsSessionCutOff.in_session c.args.text.now (g.K.Sink.held c.write_all.new.sink) e c.requires.opening c.in-Ok.ensures.all
-    (subst (λ n. IsCause (basis_rules c.args.ring.now) (IsPlaceRefusal c.args.pairs) (walk_from c.args.start) (g.S.Source.left i) (g.S.Source.left j) (g.S.Source.given i) (g.S.Source.given j)
-    (g.K.Sink.held c.write_all.new.sink) (g.K.Sink.held k) (g.S.Source.faults i) (g.S.Source.faults j) n (g.K.Sink.faults k) e) same c.in-Err-converse.ensures.cause)
+    (subst (λ n. IsCause (basis_rules c.args.ring.now) (IsPlaceRefusal c.args.pairs) (walk_from c.args.start) (g.S.Source.left i) (g.S.Source.left j)
+    (g.S.Source.given i) (g.S.Source.given j)
+    (g.K.Sink.held c.write_all.new.sink) (g.K.Sink.held k) (g.S.Source.faults i) (g.S.Source.faults j) n (g.K.Sink.faults k) e)
+    same c.in-Err-converse.ensures.cause)
     c.in-Err-converse.ensures.err_short c.in-Err-converse.ensures.err_source_calm
     (subst (λ n. IsWriteCalm n (g.K.Sink.faults k) e) same c.in-Err-converse.ensures.err_output_calm) c.of_session.ensures

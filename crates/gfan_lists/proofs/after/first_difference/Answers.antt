@@ -31,7 +31,12 @@ returns-then-ne-clause-some c =
     let y = c.name-in-names.result.now in
     record {
       before = c.names.invariant;
-      differ = inl (slice_get_within f i x c.name.ensures, slice_get_within g i y c.name-in-names.ensures, λ e. differ_told x y c.ne.result c.ne.ensures c.if-ne.true (sym (get_or_from_slice_get f i x [] c.name.ensures) ∙ e ∙ get_or_from_slice_get g i y [] c.name-in-names.ensures));
+      differ = inl (
+        slice_get_within f i x c.name.ensures,
+        slice_get_within g i y c.name-in-names.ensures,
+        λ e. differ_told x y c.ne.result c.ne.ensures c.if-ne.true (sym (get_or_from_slice_get f i x [] c.name.ensures) ∙ e ∙ get_or_from_slice_get g i y
+            [] c.name-in-names.ensures),
+      );
     }
 
 pub names-preserved : goal.names-preserved
@@ -41,7 +46,9 @@ names-preserved c =
     let i = c.names.i in
     let x = c.name.result.now in
     let y = c.name-in-names.result.now in
-    below_more (λ j. slice_index_or f j [] ≡ slice_index_or g j []) i c.names.invariant (get_or_from_slice_get f i x [] c.name.ensures ∙ same_told x y c.ne.result c.ne.ensures c.if-ne.false ∙ sym (get_or_from_slice_get g i y [] c.name-in-names.ensures))
+    below_more (λ j. slice_index_or f j [] ≡ slice_index_or g j []) i c.names.invariant
+    (get_or_from_slice_get f i x [] c.name.ensures ∙ same_told x y c.ne.result c.ne.ensures c.if-ne.false ∙
+    sym (get_or_from_slice_get g i y [] c.name-in-names.ensures))
 
 pub returns-then-len-clause-none : goal.returns-then-len-clause-none
 returns-then-len-clause-none c = λ none.

@@ -12,7 +12,8 @@ returns-then-not-is_zero-clause-some c =
     let r = c.in_ok-rest.rest in
     record {
       inside = c.polynomials-test.true;
-      remainder = subst (λ (h : Terms). IsNormalForm c.args.by.now.items h r) (c.index-polynomials-i.is ∙ get_or_default c.args.polynomials.now i f [] c.polynomials-test.true) c.in_ok-rest.ensures.value;
+      remainder = subst (λ (h : Terms). IsNormalForm c.args.by.now.items h r) (c.index-polynomials-i.is ∙ get_or_default c.args.polynomials.now i f
+          [] c.polynomials-test.true) c.in_ok-rest.ensures.value;
       descending = c.in_ok-rest.ensures.descending;
       variables = c.in_ok-rest.ensures.variables;
       nonzero = λ e. false≢true (sym c.if-not-is_zero.true ∙ c.is_zero.ensures.1 e);

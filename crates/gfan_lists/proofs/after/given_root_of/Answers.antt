@@ -11,4 +11,5 @@ pub returns-else-is_cut-clause-ok : goal.returns-else-is_cut-clause-ok
 returns-else-is_cut-clause-ok c =
     let n = c.args.set.now.variables in
     let all = subst (λ z. IsRegionCut z n c.requires.0 c.args.region.now) c.if-is_cut.false c.requires.1 in
-    IfOk-weaker c.root_of.result _ _ (λ root h. subst (λ (k : Region). StartsIn n k (polys c.args.set.now.items) root) (sym all) (start_in n (polys c.args.set.now.items) root h)) c.root_of.ensures.root
+    IfOk-weaker c.root_of.result _ _ (λ root h. subst (λ (k : Region). StartsIn n k (polys c.args.set.now.items) root) (sym all)
+    (start_in n (polys c.args.set.now.items) root h)) c.root_of.ensures.root

@@ -12,7 +12,8 @@ use Rattle.gfan_common.proofs.PerformedLaws.{on_err}
 use Rattle.gfan_lists.proofs.after.given_start.Goals as goal
 
 pub taken_in-requires : goal.taken_in-requires
-taken_in-requires g c = (cut_region c.args.is_cut c.args.set.now.variables c.requires.region.0 c.args.region.now c.requires.region.1).root.width ∙ sym c.requires.same
+taken_in-requires g c = (cut_region c.args.is_cut c.args.set.now.variables c.requires.region.0 c.args.region.now c.requires.region.1).root.width ∙
+    sym c.requires.same
 
 pub returns-in_err-basis-clause-err : goal.returns-in_err-basis-clause-err
 returns-in_err-basis-clause-err g c =
@@ -51,13 +52,15 @@ pub returns-in_err-check_listed-clause-err : goal.returns-in_err-check_listed-cl
 returns-in_err-check_listed-clause-err g c =
     let p = err_from_is_err_and c.from_residual-in_err-check_listed.result c.from_residual-in_err-check_listed.ensures.1 in
     let fs = polys c.args.set.now.items in
-    let u = subst (λ (gs : List Terms). IsUnlisted gs c.args.marked.now c.in_ok-root.root c.in_ok-basis.basis c.in_err-check_listed.field-0.0) (c.deref.ensures.value ∙ c.in_ok-generators.ensures.value) c.in_err-check_listed.ensures.err in
+    let u = subst (λ (gs : List Terms). IsUnlisted gs c.args.marked.now c.in_ok-root.root c.in_ok-basis.basis c.in_err-check_listed.field-0.0)
+    (c.deref.ensures.value ∙ c.in_ok-generators.ensures.value) c.in_err-check_listed.ensures.err in
     rw (p.1, p.2) (λ ring q. inl (IsStartRefused.unlisted c.in_ok-basis.basis c.in_ok-root.root c.in_ok-basis.ensures.ok c.in_ok-root.ensures.basis
     (subst (λ m. StartsIn m c.args.region.now fs c.in_ok-root.root) (sym q) c.in_ok-root.ensures.ok) u))
 
 pub waves_after-requires-clause-basis : goal.waves_after-requires-clause-basis
 waves_after-requires-clause-basis g c κs within =
-    taken_node c.args.set.now.variables c.args.region.now (polys c.args.set.now.items) c.args.marked.now c.in_ok-root.root c.in_ok-basis.basis c.requires.same c.in_ok-root.ensures.ok c.in_ok-basis.ensures.ok
+    taken_node c.args.set.now.variables c.args.region.now (polys c.args.set.now.items) c.args.marked.now c.in_ok-root.root c.in_ok-basis.basis c.requires.same
+    c.in_ok-root.ensures.ok c.in_ok-basis.ensures.ok
 
 pub returns-clause-ok : goal.returns-clause-ok
 returns-clause-ok g c =
@@ -70,7 +73,8 @@ returns-clause-ok g c =
     let first = c.in_ok-root.ensures.ok in
     let t = c.in_ok-basis.ensures.ok in
     let l = subst (λ (gs : List Terms). IsListedBy gs s root b) (c.deref.ensures.value ∙ c.in_ok-generators.ensures.value) c.in_ok-check_listed.ensures.ok in
-    IfOk-weaker c.waves_after.result _ _ (λ waves h. let f = h n fs root first (listed_node n k fs s root b c.requires.same first t l) in (b, f.0, t, f.1)) c.waves_after.ensures.ok
+    IfOk-weaker c.waves_after.result _ _ (λ waves h. let f = h n fs root first (listed_node n k fs s root b c.requires.same first t l) in
+    (b, f.0, t, f.1)) c.waves_after.ensures.ok
 
 pub returns-clause-err : goal.returns-clause-err
 returns-clause-err g c =
@@ -84,5 +88,7 @@ returns-clause-err g c =
     let t = c.in_ok-basis.ensures.ok in
     let pairs = c.args.options.pairs in
     let l = subst (λ (gs : List Terms). IsListedBy gs s root b) (c.deref.ensures.value ∙ c.in_ok-generators.ensures.value) c.in_ok-check_listed.ensures.ok in
-    on_err c.waves_after.result _ _ (λ r h ring q. inl (IsStartRefused.on_the_way b root h.0 t c.in_ok-root.ensures.basis (subst (λ m. StartsIn m k fs root) (sym q) first) l
-    (subst (λ m. IsTreeRefusal (ideal_within m fs k) pairs h.0) (sym q) (listed_tree n k fs s root b c.requires.same first t l pairs h.0 h.1)) h.2)) c.waves_after.ensures.err
+    on_err c.waves_after.result _ _ (λ r h ring q. inl (IsStartRefused.on_the_way b root h.0 t c.in_ok-root.ensures.basis
+    (subst (λ m. StartsIn m k fs root) (sym q) first) l
+    (subst (λ m. IsTreeRefusal (ideal_within m fs k) pairs h.0) (sym q) (listed_tree n k fs s root b c.requires.same first t l pairs h.0 h.1)) h.2))
+    c.waves_after.ensures.err

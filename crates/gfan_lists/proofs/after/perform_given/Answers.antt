@@ -10,13 +10,15 @@ use Rattle.gfan_lists.specs.After.{AfterValue, IsRegionCut, IsUnbegun, IsStartRe
 use Rattle.gfan_common.proofs.PerformedLaws.{of_unnamed, on_err, ok_with, err_with}
 use Rattle.gfan_common.proofs.ReadSetLaws.{IsSetKept, one_kept, set_variables}
 use Rattle.gfan_lists.proofs.AfterCommandLaws.{start_told}
-use Rattle.gfan_lists.proofs.AfterWritingLaws.{cut_same, read_texts, file_refused, after_refused, source_refused, unbegun_stopped, unbegun_told, start_stopped, after_done, after_cut}
+use Rattle.gfan_lists.proofs.AfterWritingLaws.{cut_same, read_texts, file_refused, after_refused, source_refused, unbegun_stopped, unbegun_told, start_stopped}
+use Rattle.gfan_lists.proofs.AfterWritingLaws.{after_done, after_cut}
 use Rattle.gfan_lists.proofs.after.perform_given.Goals as goal
 
 pub returns-in_err-rows-clause-stopped : goal.returns-in_err-rows-clause-stopped
 returns-in_err-rows-clause-stopped g c =
     let p = err_from_is_err_and c.from_residual.result c.from_residual.ensures.1 in
-    rw (p.1, p.2) (λ sources. file_refused true sources c.args.options c.args.after.now c.args.source.now c.args.file (g.K.Sink.held c.args.output.now) (g.K.Sink.faults c.args.output.now) c.in_err-rows.field-0.0.refusal c.in_err-rows.ensures.err)
+    rw (p.1, p.2) (λ sources. file_refused true sources c.args.options c.args.after.now c.args.source.now c.args.file (g.K.Sink.held c.args.output.now)
+    (g.K.Sink.faults c.args.output.now) c.in_err-rows.field-0.0.refusal c.in_err-rows.ensures.err)
 
 pub returns-in_err-rows-clause-told : goal.returns-in_err-rows-clause-told
 returns-in_err-rows-clause-told g c =
@@ -26,13 +28,16 @@ returns-in_err-rows-clause-told g c =
 pub returns-in_err-found-clause-stopped : goal.returns-in_err-found-clause-stopped
 returns-in_err-found-clause-stopped g c =
     let p = err_from_is_err_and c.from_residual-in_err-found.result c.from_residual-in_err-found.ensures.1 in
-    rw (p.1, p.2) (λ sources. after_refused true sources c.args.options c.args.after.now c.args.source.now c.args.file (g.K.Sink.held c.args.output.now) (g.K.Sink.faults c.args.output.now) c.in_ok-rows.rows.items c.in_err-found.field-0.0 c.in_ok-rows.ensures.ok c.in_err-found.ensures.err)
+    rw (p.1, p.2) (λ sources. after_refused true sources c.args.options c.args.after.now c.args.source.now c.args.file (g.K.Sink.held c.args.output.now)
+    (g.K.Sink.faults c.args.output.now) c.in_ok-rows.rows.items c.in_err-found.field-0.0 c.in_ok-rows.ensures.ok c.in_err-found.ensures.err)
 
 pub returns-in_err-ring-clause-stopped : goal.returns-in_err-ring-clause-stopped
 returns-in_err-ring-clause-stopped g c =
     let p = err_from_is_err_and c.from_residual-in_err-ring.result c.from_residual-in_err-ring.ensures.1 in
     let a = c.in_ok-found.field-0 in
-    rw (p.1, p.2) (λ sources. source_refused true sources c.args.options c.args.after.now c.args.source.now c.args.file (g.K.Sink.held c.args.output.now) (g.K.Sink.faults c.args.output.now) c.in_ok-rows.rows.items (a.ring, a.set) c.in_err-ring.field-0.0 c.in_ok-rows.ensures.ok c.in_ok-found.ensures.ok c.in_err-ring.ensures.err)
+    rw (p.1, p.2) (λ sources. source_refused true sources c.args.options c.args.after.now c.args.source.now c.args.file (g.K.Sink.held c.args.output.now)
+    (g.K.Sink.faults c.args.output.now) c.in_ok-rows.rows.items (a.ring, a.set) c.in_err-ring.field-0.0 c.in_ok-rows.ensures.ok c.in_ok-found.ensures.ok
+    c.in_err-ring.ensures.err)
 
 pub returns-in_err-region-clause-stopped : goal.returns-in_err-region-clause-stopped
 returns-in_err-region-clause-stopped g c =
@@ -44,20 +49,28 @@ returns-in_err-region-clause-stopped g c =
     let v : AfterValue true = (rows, ((a.ring, a.set), (r.ring, r.set))) in
     let rs = c.in_ok-ring.ensures.ok in
     let cut = is_some (option_copied c.args.file) in
-    let why = subst (λ z. IsUnbegun z (length r.ring) rows a.ring r.ring e) (c.is_some-is_cut.ensures ∙ cut_same c.args.file) (subst (λ (ws : List (List ℤ)). IsUnbegun c.is_some-is_cut.result (length r.ring) ws a.ring r.ring e) c.deref.ensures.value c.in_err-region.ensures.err) in
+    let why = subst (λ z. IsUnbegun z (length r.ring) rows a.ring r.ring e) (c.is_some-is_cut.ensures ∙ cut_same c.args.file)
+    (subst (λ (ws : List (List ℤ)). IsUnbegun c.is_some-is_cut.result (length r.ring) ws a.ring r.ring e)
+    c.deref.ensures.value c.in_err-region.ensures.err) in
     rw (p.1, p.2) (λ sources. unbegun_stopped true cut sources c.args.options (cut_texts (option_copied c.args.file) c.args.after.now c.args.source.now) v
-    (read_texts true sources c.args.options c.args.after.now c.args.source.now c.args.file v c.in_ok-rows.ensures.ok c.in_ok-found.ensures.ok rs) (g.K.Sink.held c.args.output.now) (g.K.Sink.faults c.args.output.now) e why)
+    (read_texts true sources c.args.options c.args.after.now c.args.source.now c.args.file v c.in_ok-rows.ensures.ok c.in_ok-found.ensures.ok rs)
+    (g.K.Sink.held c.args.output.now) (g.K.Sink.faults c.args.output.now) e why)
 
 pub returns-in_err-region-clause-told : goal.returns-in_err-region-clause-told
 returns-in_err-region-clause-told g c =
     let p = err_from_is_err_and c.from_residual-in_err-region.result c.from_residual-in_err-region.ensures.1 in
-    rw (p.1, p.2) (unbegun_told c.args.source.now c.is_some-is_cut.result (length c.in_ok-ring.field-0.ring) c.deref.result.now c.in_ok-found.field-0.ring c.in_ok-ring.field-0.ring c.in_err-region.field-0.0 c.in_err-region.ensures.err)
+    rw (p.1, p.2) (unbegun_told c.args.source.now c.is_some-is_cut.result (length c.in_ok-ring.field-0.ring) c.deref.result.now c.in_ok-found.field-0.ring
+    c.in_ok-ring.field-0.ring c.in_err-region.field-0.0 c.in_err-region.ensures.err)
 
 pub given_start-requires-clause-same : goal.given_start-requires-clause-same
 given_start-requires-clause-same g c κs within = c.in_ok-found.ensures.variables ∙ ap length c.in_ok-region.ensures.names ∙ sym c.in_ok-ring.ensures.variables
 
 pub given_start-requires-clause-region : goal.given_start-requires-clause-region
-given_start-requires-clause-region g c κs within = (c.deref.result.now, subst (λ n. IsRegionCut c.is_some-is_cut.result n c.deref.result.now c.in_ok-region.region) (sym c.in_ok-ring.ensures.variables) c.in_ok-region.ensures.region)
+given_start-requires-clause-region g c κs within = (
+  c.deref.result.now,
+  subst (λ n. IsRegionCut c.is_some-is_cut.result n c.deref.result.now c.in_ok-region.region) (sym c.in_ok-ring.ensures.variables)
+      c.in_ok-region.ensures.region,
+)
 
 pub returns-in-Err-clause-stopped : goal.returns-in-Err-clause-stopped
 returns-in-Err-clause-stopped g c =
@@ -69,11 +82,14 @@ returns-in-Err-clause-stopped g c =
     let cut = is_some (option_copied c.args.file) in
     let same : c.is_some-is_cut.result ≡ cut = c.is_some-is_cut.ensures ∙ cut_same c.args.file in
     let k = c.in_ok-region.region in
-    let i = subst (λ z. IsRegionCut z (length r.ring) rows k) same (subst (λ (ws : List (List ℤ)). IsRegionCut c.is_some-is_cut.result (length r.ring) ws k) c.deref.ensures.value c.in_ok-region.ensures.region) in
+    let i = subst (λ z. IsRegionCut z (length r.ring) rows k) same (subst (λ (ws : List (List ℤ)). IsRegionCut c.is_some-is_cut.result (length r.ring) ws k)
+    c.deref.ensures.value c.in_ok-region.ensures.region) in
     let e = c.in-Err.refusal in
-    let why = subst (λ z. IsStartRefused true z c.args.options.pairs k (r.ring, r.set) a.set e ⊎ (e ≡ refusals.Memory)) same (c.in-Err.ensures.err r.ring (sym c.in_ok-ring.ensures.variables)) in
+    let why = subst (λ z. IsStartRefused true z c.args.options.pairs k (r.ring, r.set) a.set e ⊎ (e ≡ refusals.Memory)) same
+    (c.in-Err.ensures.err r.ring (sym c.in_ok-ring.ensures.variables)) in
     λ sources. start_stopped true cut sources c.args.options (cut_texts (option_copied c.args.file) c.args.after.now c.args.source.now) v
-    (read_texts true sources c.args.options c.args.after.now c.args.source.now c.args.file v c.in_ok-rows.ensures.ok c.in_ok-found.ensures.ok rs) k i c.in_ok-region.ensures.names (g.K.Sink.held c.args.output.now) (g.K.Sink.faults c.args.output.now) e why
+    (read_texts true sources c.args.options c.args.after.now c.args.source.now c.args.file v c.in_ok-rows.ensures.ok c.in_ok-found.ensures.ok rs)
+    k i c.in_ok-region.ensures.names (g.K.Sink.held c.args.output.now) (g.K.Sink.faults c.args.output.now) e why
 
 pub returns-in-Err-clause-told : goal.returns-in-Err-clause-told
 returns-in-Err-clause-told g c =
@@ -83,16 +99,22 @@ returns-in-Err-clause-told g c =
     let read = c.in_ok-found.ensures.ok in
     let rs = c.in_ok-ring.ensures.ok in
     let input = one_kept r.ring (from c.args.source.now rs.read.behind) rs.end r.set rs.read.two in
-    let kept = subst (λ (names : List (List ℕ)). IsSetKept (length names) a.set) c.in_ok-region.ensures.names (one_kept a.ring (from c.args.after.now read.read.behind) read.end a.set read.read.two) in
+    let kept = subst (λ (names : List (List ℕ)). IsSetKept (length names) a.set) c.in_ok-region.ensures.names
+    (one_kept a.ring (from c.args.after.now read.read.behind) read.end a.set read.read.two) in
     record {
-      named = start_told true c.is_some-is_cut.result c.args.options.pairs c.in_ok-region.region (r.ring, r.set) a.set e kept (input.0, set_variables (length r.ring) r.set input) (c.in-Err.ensures.err r.ring (sym c.in_ok-ring.ensures.variables));
+      named = start_told true c.is_some-is_cut.result c.args.options.pairs c.in_ok-region.region (r.ring, r.set) a.set e kept
+          (input.0, set_variables (length r.ring) r.set input) (c.in-Err.ensures.err r.ring (sym c.in_ok-ring.ensures.variables));
       ring = (c.in_ok-ring.ensures.ok.read.behind, c.in_ok-ring.ensures.ok.read.one);
     }
 
 pub write_waves-requires-clause-row : goal.write_waves-requires-clause-row
 write_waves-requires-clause-row g c κs within =
-    let w = c.in-Ok.ensures.ok in
-    (w.1 ++ w.0 ∷ [], polys c.in_ok-ring.field-0.set.items, subst (λ n. GoesOnBehind (w.1 ++ w.0 ∷ []) n c.in_ok-region.region (polys c.in_ok-ring.field-0.set.items) c.args.options.pairs c.in-Ok.waves) c.in_ok-ring.ensures.variables w.3)
+    let w = c.in-Ok.ensures.ok in (
+      w.1 ++ w.0 ∷ [],
+      polys c.in_ok-ring.field-0.set.items,
+      subst (λ n. GoesOnBehind (w.1 ++ w.0 ∷ []) n c.in_ok-region.region
+          (polys c.in_ok-ring.field-0.set.items) c.args.options.pairs c.in-Ok.waves) c.in_ok-ring.ensures.variables w.3,
+    )
 
 pub returns-clause-done : goal.returns-clause-done
 returns-clause-done g c =
@@ -104,13 +126,17 @@ returns-clause-done g c =
     let cut = is_some (option_copied c.args.file) in
     let same : c.is_some-is_cut.result ≡ cut = c.is_some-is_cut.ensures ∙ cut_same c.args.file in
     let k = c.in_ok-region.region in
-    let i = subst (λ z. IsRegionCut z (length r.ring) rows k) same (subst (λ (ws : List (List ℤ)). IsRegionCut c.is_some-is_cut.result (length r.ring) ws k) c.deref.ensures.value c.in_ok-region.ensures.region) in
+    let i = subst (λ z. IsRegionCut z (length r.ring) rows k) same (subst (λ (ws : List (List ℤ)). IsRegionCut c.is_some-is_cut.result (length r.ring) ws k)
+    c.deref.ensures.value c.in_ok-region.ensures.region) in
     let w = c.in-Ok.ensures.ok in
     let fs = polys r.set.items in
     let goes = subst (λ n. GoesOnBehind (w.1 ++ w.0 ∷ []) n k fs c.args.options.pairs c.in-Ok.waves) c.in_ok-ring.ensures.variables w.3 in
-    ok_with c.write_waves.result _ _ _ _ (λ h calm sources. after_done true cut sources c.args.options (cut_texts (option_copied c.args.file) c.args.after.now c.args.source.now) v
-    (read_texts true sources c.args.options c.args.after.now c.args.source.now c.args.file v c.in_ok-rows.ensures.ok c.in_ok-found.ensures.ok rs) k i c.in_ok-region.ensures.names c.in-Ok.ensures.basis w.0 w.1 w.2
-    (g.K.Sink.held c.args.output.now) (g.K.Sink.held c.write_waves.new.output) (g.K.Sink.faults c.args.output.now) (g.K.Sink.faults c.write_waves.new.output) (h (w.1 ++ w.0 ∷ []) fs goes) calm) c.write_waves.ensures.done c.write_waves.ensures.calm
+    ok_with c.write_waves.result _ _ _ _ (λ h calm sources. after_done true cut sources c.args.options
+    (cut_texts (option_copied c.args.file) c.args.after.now c.args.source.now) v
+    (read_texts true sources c.args.options c.args.after.now c.args.source.now c.args.file v c.in_ok-rows.ensures.ok c.in_ok-found.ensures.ok rs)
+    k i c.in_ok-region.ensures.names c.in-Ok.ensures.basis w.0 w.1 w.2
+    (g.K.Sink.held c.args.output.now) (g.K.Sink.held c.write_waves.new.output) (g.K.Sink.faults c.args.output.now) (g.K.Sink.faults c.write_waves.new.output)
+    (h (w.1 ++ w.0 ∷ []) fs goes) calm) c.write_waves.ensures.done c.write_waves.ensures.calm
 
 pub returns-clause-stopped : goal.returns-clause-stopped
 returns-clause-stopped g c =
@@ -122,13 +148,17 @@ returns-clause-stopped g c =
     let cut = is_some (option_copied c.args.file) in
     let same : c.is_some-is_cut.result ≡ cut = c.is_some-is_cut.ensures ∙ cut_same c.args.file in
     let k = c.in_ok-region.region in
-    let i = subst (λ z. IsRegionCut z (length r.ring) rows k) same (subst (λ (ws : List (List ℤ)). IsRegionCut c.is_some-is_cut.result (length r.ring) ws k) c.deref.ensures.value c.in_ok-region.ensures.region) in
+    let i = subst (λ z. IsRegionCut z (length r.ring) rows k) same (subst (λ (ws : List (List ℤ)). IsRegionCut c.is_some-is_cut.result (length r.ring) ws k)
+    c.deref.ensures.value c.in_ok-region.ensures.region) in
     let w = c.in-Ok.ensures.ok in
     let fs = polys r.set.items in
     let goes = subst (λ n. GoesOnBehind (w.1 ++ w.0 ∷ []) n k fs c.args.options.pairs c.in-Ok.waves) c.in_ok-ring.ensures.variables w.3 in
-    err_with c.write_waves.result _ _ _ _ (λ e h calm sources. after_cut true cut sources c.args.options (cut_texts (option_copied c.args.file) c.args.after.now c.args.source.now) v
-    (read_texts true sources c.args.options c.args.after.now c.args.source.now c.args.file v c.in_ok-rows.ensures.ok c.in_ok-found.ensures.ok rs) k i c.in_ok-region.ensures.names c.in-Ok.ensures.basis w.0 w.1 w.2
-    (g.K.Sink.held c.args.output.now) (g.K.Sink.held c.write_waves.new.output) (g.K.Sink.faults c.args.output.now) (g.K.Sink.faults c.write_waves.new.output) e.refusal (h (w.1 ++ w.0 ∷ []) fs goes) calm) c.write_waves.ensures.stopped c.write_waves.ensures.calm
+    err_with c.write_waves.result _ _ _ _ (λ e h calm sources. after_cut true cut sources c.args.options
+    (cut_texts (option_copied c.args.file) c.args.after.now c.args.source.now) v
+    (read_texts true sources c.args.options c.args.after.now c.args.source.now c.args.file v c.in_ok-rows.ensures.ok c.in_ok-found.ensures.ok rs)
+    k i c.in_ok-region.ensures.names c.in-Ok.ensures.basis w.0 w.1 w.2
+    (g.K.Sink.held c.args.output.now) (g.K.Sink.held c.write_waves.new.output) (g.K.Sink.faults c.args.output.now) (g.K.Sink.faults c.write_waves.new.output)
+    e.refusal (h (w.1 ++ w.0 ∷ []) fs goes) calm) c.write_waves.ensures.stopped c.write_waves.ensures.calm
 
 pub returns-clause-told : goal.returns-clause-told
 returns-clause-told g c = on_err c.write_waves.result _ _ (λ e u. of_unnamed c.args.source.now e u) c.write_waves.ensures.told

@@ -17,5 +17,6 @@ returns-in-Ok-clause-ok c =
       | else-is_cut w ↦
           let first : IsFirstBasis n fs c.in-Ok.root = subst (λ o. IfOk o (IsFirstBasis n fs)) (sym w.root-is ∙ c.in-Ok.is) w.first_basis-root.ensures.ok in
           let all = subst (λ z. IsRegionCut z n c.requires.region.0 c.args.region.now) w.if-is_cut.false c.requires.region.1 in
-          subst (λ (k : Region). StartsIn n k fs c.in-Ok.root) (sym all) (start_in n fs c.in-Ok.root (record { inside = generators_in n c.args.set.now c.requires.set; first = first }))
+          subst (λ (k : Region). StartsIn n k fs c.in-Ok.root) (sym all)
+          (start_in n fs c.in-Ok.root (record { inside = generators_in n c.args.set.now c.requires.set; first = first }))
     ]

@@ -9,7 +9,8 @@ use Rattle.gfan_common.proofs.PerformedLaws.{on_err}
 use Rattle.gfan_lists.proofs.after.start.Goals as goal
 
 pub taken_in-requires : goal.taken_in-requires
-taken_in-requires g c = (cut_region c.args.is_cut (length c.args.ring.now) c.requires.region.0 c.args.region.now c.requires.region.1).root.width ∙ sym c.requires.same
+taken_in-requires g c = (cut_region c.args.is_cut (length c.args.ring.now) c.requires.region.0 c.args.region.now c.requires.region.1).root.width ∙
+    sym c.requires.same
 
 pub returns-in_err-basis-clause-err : goal.returns-in_err-basis-clause-err
 returns-in_err-basis-clause-err g c =
@@ -47,12 +48,14 @@ check_listed-requires-clause-variables g c =
 pub returns-in_err-check_listed-clause-err : goal.returns-in_err-check_listed-clause-err
 returns-in_err-check_listed-clause-err g c =
     let p = err_from_is_err_and c.from_residual-in_err-check_listed.result c.from_residual-in_err-check_listed.ensures.1 in
-    let u = subst (λ (fs : List Terms). IsUnlisted fs c.args.marked.now c.in_ok-root.root c.in_ok-basis.basis c.in_err-check_listed.field-0.0) (c.deref.ensures.value ∙ c.in_ok-generators.ensures) c.in_err-check_listed.ensures.err in
+    let u = subst (λ (fs : List Terms). IsUnlisted fs c.args.marked.now c.in_ok-root.root c.in_ok-basis.basis c.in_err-check_listed.field-0.0)
+    (c.deref.ensures.value ∙ c.in_ok-generators.ensures) c.in_err-check_listed.ensures.err in
     rw (p.1, p.2) (inl (IsStartRefused.unlisted c.in_ok-basis.basis c.in_ok-root.root c.in_ok-basis.ensures.ok tt c.in_ok-root.ensures.ok u))
 
 pub waves_after-requires-clause-basis : goal.waves_after-requires-clause-basis
 waves_after-requires-clause-basis g c κs within =
-    taken_node (length c.args.ring.now) c.args.region.now (generators_of c.args.set.now) c.args.marked.now c.in_ok-root.root c.in_ok-basis.basis c.requires.same c.in_ok-root.ensures.ok c.in_ok-basis.ensures.ok
+    taken_node (length c.args.ring.now) c.args.region.now (generators_of c.args.set.now) c.args.marked.now c.in_ok-root.root c.in_ok-basis.basis c.requires.same
+    c.in_ok-root.ensures.ok c.in_ok-basis.ensures.ok
 
 pub returns-clause-ok : goal.returns-clause-ok
 returns-clause-ok g c =
@@ -65,7 +68,8 @@ returns-clause-ok g c =
     let first = c.in_ok-root.ensures.ok in
     let t = c.in_ok-basis.ensures.ok in
     let l = subst (λ (gs : List Terms). IsListedBy gs s root b) (c.deref.ensures.value ∙ c.in_ok-generators.ensures) c.in_ok-check_listed.ensures.ok in
-    IfOk-weaker c.waves_after.result _ _ (λ waves h. let f = h n fs root first (listed_node n k fs s root b c.requires.same first t l) in (b, f.0, t, f.1)) c.waves_after.ensures.ok
+    IfOk-weaker c.waves_after.result _ _ (λ waves h. let f = h n fs root first (listed_node n k fs s root b c.requires.same first t l) in
+    (b, f.0, t, f.1)) c.waves_after.ensures.ok
 
 pub returns-clause-err : goal.returns-clause-err
 returns-clause-err g c =
@@ -78,4 +82,5 @@ returns-clause-err g c =
     let first = c.in_ok-root.ensures.ok in
     let t = c.in_ok-basis.ensures.ok in
     let l = subst (λ (gs : List Terms). IsListedBy gs s root b) (c.deref.ensures.value ∙ c.in_ok-generators.ensures) c.in_ok-check_listed.ensures.ok in
-    on_err c.waves_after.result _ _ (λ r h. inl (IsStartRefused.on_the_way b root h.0 t tt first l (listed_tree n k fs s root b c.requires.same first t l c.args.options.pairs h.0 h.1) h.2)) c.waves_after.ensures.err
+    on_err c.waves_after.result _ _ (λ r h. inl (IsStartRefused.on_the_way b root h.0 t tt first l
+    (listed_tree n k fs s root b c.requires.same first t l c.args.options.pairs h.0 h.1) h.2)) c.waves_after.ensures.err

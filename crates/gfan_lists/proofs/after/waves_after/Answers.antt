@@ -12,7 +12,8 @@ returns-in_err-waves-clause-err g c =
 
 pub returns-clause-ok : goal.returns-clause-ok
 returns-clause-ok g c = λ n fs root first node.
-    after_goes_on n c.args.region.now fs c.args.pairs c.args.basis root c.in-Ok.walker c.args.workers c.in_ok-waves.waves first node c.in-Ok.ensures.ok c.in_ok-waves.ensures
+    after_goes_on n c.args.region.now fs c.args.pairs c.args.basis root c.in-Ok.walker c.args.workers c.in_ok-waves.waves first node c.in-Ok.ensures.ok
+    c.in_ok-waves.ensures
 
 pub returns-in-Err-clause-err : goal.returns-in-Err-clause-err
 returns-in-Err-clause-err g c = (c.in-Err.error, c.in-Err.ensures.cause, ap (λ r. r.refusal) c.from.ensures)

@@ -6,4 +6,5 @@ use Rattle.gfan_lists.proofs.bases.waves_of.Goals as goal
 
 pub new-requires-clause-basis : goal.new-requires-clause-basis
 new-requires-clause-basis g c κs within =
-    subst (λ (k : Region). IsNode k c.args.root) (sym (positive_is c.args.root.variables c.variables.result c.in_ok-region.region c.variables.ensures c.in_ok-region.ensures)) c.requires.basis
+    subst (λ (k : Region). IsNode k c.args.root) (sym (positive_is c.args.root.variables c.variables.result c.in_ok-region.region c.variables.ensures
+    c.in_ok-region.ensures)) c.requires.basis

@@ -35,11 +35,13 @@ write_waves-requires-clause-row g c κs within =
 pub returns-clause-done : goal.returns-clause-done
 returns-clause-done g c =
     let n = length c.args.ring.now in
-    on_ok c.write_waves.result _ _ (λ h fs s. h [] fs (subst (λ w. GoesOnBehind [] n c.args.region.now fs c.args.options.pairs w) (sym c.in_ok-waves.ensures.start)
+    on_ok c.write_waves.result _ _ (λ h fs s. h [] fs (subst (λ w. GoesOnBehind [] n c.args.region.now fs c.args.options.pairs w)
+    (sym c.in_ok-waves.ensures.start)
     (first_goes_on n c.args.region.now fs c.args.options.pairs c.args.alloc c.args.workers c.args.root s))) c.write_waves.ensures.done
 
 pub returns-clause-stopped : goal.returns-clause-stopped
 returns-clause-stopped g c =
     let n = length c.args.ring.now in
-    on_err c.write_waves.result _ _ (λ e h fs s. h [] fs (subst (λ w. GoesOnBehind [] n c.args.region.now fs c.args.options.pairs w) (sym c.in_ok-waves.ensures.start)
+    on_err c.write_waves.result _ _ (λ e h fs s. h [] fs (subst (λ w. GoesOnBehind [] n c.args.region.now fs c.args.options.pairs w)
+    (sym c.in_ok-waves.ensures.start)
     (first_goes_on n c.args.region.now fs c.args.options.pairs c.args.alloc c.args.workers c.args.root s))) c.write_waves.ensures.stopped

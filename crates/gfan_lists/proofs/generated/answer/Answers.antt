@@ -17,7 +17,8 @@ pub returns-in_err-summary-clause-err : goal.returns-in_err-summary-clause-err
 returns-in_err-summary-clause-err g c =
     let o = c.args.given.now in
     let p = err_from_is_err_and c.from_residual-in_err-summary.result c.from_residual-in_err-summary.ensures.1 in
-    rw (p.1, p.2) (summary_refuses o.number o.limit o.pairs c.in_err-summary.field-0.0.refusal (c.in_err-summary.ensures.err (generated_set o.number) (generated_begins o.number c.in_ok-root.root c.in_ok-root.ensures.ok)))
+    rw (p.1, p.2) (summary_refuses o.number o.limit o.pairs c.in_err-summary.field-0.0.refusal (c.in_err-summary.ensures.err (generated_set o.number)
+    (generated_begins o.number c.in_ok-root.root c.in_ok-root.ensures.ok)))
 
 pub returns-in_err-text-clause-err : goal.returns-in_err-text-clause-err
 returns-in_err-text-clause-err g c =
@@ -28,4 +29,5 @@ returns-in_err-text-clause-err g c =
 pub returns-clause-ok : goal.returns-clause-ok
 returns-clause-ok g c =
     let o = c.args.given.now in
-    summary_answers o.number o.limit o.pairs c.in_ok-summary.summary c.in_ok-text.text.items (c.in_ok-summary.ensures.ok (generated_set o.number) (generated_begins o.number c.in_ok-root.root c.in_ok-root.ensures.ok)) c.in_ok-text.ensures
+    summary_answers o.number o.limit o.pairs c.in_ok-summary.summary c.in_ok-text.text.items (c.in_ok-summary.ensures.ok (generated_set o.number)
+    (generated_begins o.number c.in_ok-root.root c.in_ok-root.ensures.ok)) c.in_ok-text.ensures

@@ -5,7 +5,8 @@ use Rattle.gfan_lists.proofs.SummaryLaws.{generated_ring}
 use Rattle.gfan_lists.proofs.generated.first_basis.Goals as goal
 
 pub basis_by_several_ways-requires-clause-variables : goal.basis_by_several_ways-requires-clause-variables
-basis_by_several_ways-requires-clause-variables c = subst (HaveRingVariables 4) (sym (c.deref.ensures.value ∙ c.in_ok-generators.ensures)) (generated_ring c.args.number)
+basis_by_several_ways-requires-clause-variables c =
+    subst (HaveRingVariables 4) (sym (c.deref.ensures.value ∙ c.in_ok-generators.ensures)) (generated_ring c.args.number)
 
 pub basis_by_several_ways-requires-clause-suited : goal.basis_by_several_ways-requires-clause-suited
 basis_by_several_ways-requires-clause-suited c =

@@ -12,7 +12,8 @@ returns-in_err-weight-clause-err c =
 
 pub with_weight-requires : goal.with_weight-requires
 with_weight-requires c =
-    c.requires.weights ∙ sym (weight_long c.args.basis.now.variables c.args.basis.now.items c.in_ok-weight.weight c.in_ok-weight.ensures.ok ∙ c.requires.variables)
+    c.requires.weights ∙ sym (weight_long c.args.basis.now.variables c.args.basis.now.items c.in_ok-weight.weight c.in_ok-weight.ensures.ok ∙
+    c.requires.variables)
 
 pub returns-in_err-weights-clause-err : goal.returns-in_err-weights-clause-err
 returns-in_err-weights-clause-err c =

@@ -16,12 +16,15 @@ autoreduce-requires c = reducible c.args.marked.now c.in-Ok.basis c.items.ensure
 
 pub returns-in-Ok-autoreduce-clause-reduced : goal.returns-in-Ok-autoreduce-clause-reduced
 returns-in-Ok-autoreduce-clause-reduced c =
-    reduced_from c.args.marked.now c.in-Ok.basis c.items.ensures.variables c.in-Ok.ensures.value c.in-Ok.ensures.basis c.in-Ok-autoreduce.reduced c.in-Ok-autoreduce.ensures.value c.in-Ok-autoreduce.ensures.arranged c.in-Ok-autoreduce.ensures.reduced
+    reduced_from c.args.marked.now c.in-Ok.basis c.items.ensures.variables c.in-Ok.ensures.value c.in-Ok.ensures.basis c.in-Ok-autoreduce.reduced
+    c.in-Ok-autoreduce.ensures.value c.in-Ok-autoreduce.ensures.arranged c.in-Ok-autoreduce.ensures.reduced
 
 pub returns-in-Ok-autoreduce-clause-own : goal.returns-in-Ok-autoreduce-clause-own
 returns-in-Ok-autoreduce-clause-own c =
-    reduced_own c.args.marked.now c.in-Ok.basis c.items.ensures.variables c.in-Ok.ensures.value c.in-Ok.ensures.basis c.in-Ok-autoreduce.reduced c.in-Ok-autoreduce.ensures.value c.in-Ok-autoreduce.ensures.arranged c.in-Ok-autoreduce.ensures.reduced
+    reduced_own c.args.marked.now c.in-Ok.basis c.items.ensures.variables c.in-Ok.ensures.value c.in-Ok.ensures.basis c.in-Ok-autoreduce.reduced
+    c.in-Ok-autoreduce.ensures.value c.in-Ok-autoreduce.ensures.arranged c.in-Ok-autoreduce.ensures.reduced
 
 pub returns-clause-err : goal.returns-clause-err
 returns-clause-err c =
-    IsReducingRefusal.at_tails c.in-Ok.basis c.in-Err-autoreduce.error c.in-Ok.ensures.basis.marked c.in-Ok.ensures.value c.in-Err-autoreduce.ensures.cause (c.of_check-in-Err-autoreduce.ensures ∙ ap of_check c.from.ensures)
+    IsReducingRefusal.at_tails c.in-Ok.basis c.in-Err-autoreduce.error c.in-Ok.ensures.basis.marked c.in-Ok.ensures.value c.in-Err-autoreduce.ensures.cause
+    (c.of_check-in-Err-autoreduce.ensures ∙ ap of_check c.from.ensures)

@@ -11,15 +11,18 @@ use Rattle.gfan_lists.proofs.given_basis.root_above.Goals as goal
 
 pub to_root-requires : goal.to_root-requires
 to_root-requires c =
-    subst (λ (k : Region). IsNode k c.args.reduced) (sym (positive_is c.args.reduced.variables c.variables.result c.in_ok-region.region c.variables.ensures c.in_ok-region.ensures)) c.requires
+    subst (λ (k : Region). IsNode k c.args.reduced) (sym (positive_is c.args.reduced.variables c.variables.result c.in_ok-region.region c.variables.ensures
+    c.in_ok-region.ensures)) c.requires
 
 pub returns-clause-value : goal.returns-clause-value
 returns-clause-value c =
-    subst (λ (k : Region). IfOk c.to_root.result (IsRootFor k c.args.reduced)) (positive_is c.args.reduced.variables c.variables.result c.in_ok-region.region c.variables.ensures c.in_ok-region.ensures) c.to_root.ensures.value
+    subst (λ (k : Region). IfOk c.to_root.result (IsRootFor k c.args.reduced))
+    (positive_is c.args.reduced.variables c.variables.result c.in_ok-region.region c.variables.ensures c.in_ok-region.ensures) c.to_root.ensures.value
 
 pub returns-clause-way : goal.returns-clause-way
 returns-clause-way c =
-    subst (λ (k : Region). IfErr c.to_root.result (IsWayRefused k c.args.pairs c.args.reduced)) (positive_is c.args.reduced.variables c.variables.result c.in_ok-region.region c.variables.ensures c.in_ok-region.ensures) c.to_root.ensures.way
+    subst (λ (k : Region). IfErr c.to_root.result (IsWayRefused k c.args.pairs c.args.reduced))
+    (positive_is c.args.reduced.variables c.variables.result c.in_ok-region.region c.variables.ensures c.in_ok-region.ensures) c.to_root.ensures.way
 
 pub returns-in_err-region-clause-way : goal.returns-in_err-region-clause-way
 returns-in_err-region-clause-way c =

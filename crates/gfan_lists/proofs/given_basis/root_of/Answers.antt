@@ -11,10 +11,12 @@ returns-in_err-reduced-clause-err c =
 
 pub returns-in-Ok-clause-root : goal.returns-in-Ok-clause-root
 returns-in-Ok-clause-root c =
-    root_starts_at c.args.marked.now c.in_ok-reduced.reduced c.in_ok-reduced.ensures.variables c.in_ok-reduced.ensures.reduced c.in-Ok.root c.in-Ok.ensures.value
+    root_starts_at c.args.marked.now c.in_ok-reduced.reduced c.in_ok-reduced.ensures.variables c.in_ok-reduced.ensures.reduced c.in-Ok.root
+    c.in-Ok.ensures.value
 
 pub returns-in-Err-clause-err : goal.returns-in-Err-clause-err
 returns-in-Err-clause-err c =
     IsGivenRootRefusal.on_the_way c.in_ok-reduced.reduced c.in-Err.error c.in_ok-reduced.ensures.basis c.in_ok-reduced.ensures.reduced
-    (way_of_set c.args.marked.now c.in_ok-reduced.reduced c.in_ok-reduced.ensures.variables c.in_ok-reduced.ensures.reduced c.args.pairs c.in-Err.error c.in-Err.ensures.way)
+    (way_of_set c.args.marked.now c.in_ok-reduced.reduced c.in_ok-reduced.ensures.variables c.in_ok-reduced.ensures.reduced c.args.pairs c.in-Err.error
+    c.in-Err.ensures.way)
     (ap (λ r. r.refusal) c.from.ensures)

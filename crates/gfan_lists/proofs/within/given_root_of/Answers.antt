@@ -40,6 +40,7 @@ returns-clause-err c =
     let f = c.in_ok-reduced.ensures.reduced in
     let e = c.in-Err.error in
     let order = MonomialOrder.weighted (gains k.root) in
-    let named = subst (λ (fs : List Terms). IsBasisRefusal order c.variables.result fs c.args.pairs e) (c.deref.ensures.value ∙ c.in_ok-generators.ensures.value) c.in-Err.ensures.err in
+    let named = subst (λ (fs : List Terms). IsBasisRefusal order c.variables.result fs c.args.pairs e)
+    (c.deref.ensures.value ∙ c.in_ok-generators.ensures.value) c.in-Err.ensures.err in
     let counted = subst (λ n. IsBasisRefusal order n (polys u.items) c.args.pairs e) (c.variables.ensures ∙ f.given.variables) named in
     IsGivenRegionRootRefusal.at_root u c.in_ok-reduced.ensures.basis f (e, counted, ap (λ r. r.refusal) c.from.ensures)

@@ -8,7 +8,8 @@ use Rattle.gfan_lists.proofs.within.root_of.Goals as goal
 
 pub root_in-requires-clause-ring : goal.root_in-requires-clause-ring
 root_in-requires-clause-ring c =
-    subst (λ n. HaveRingVariables n c.deref.result.now) (sym c.len.ensures.value) (in_ring (length c.args.ring.now) c.args.set.now c.deref.result.now c.requires.set (c.deref.ensures.value ∙ c.in_ok-generators.ensures))
+    subst (λ n. HaveRingVariables n c.deref.result.now) (sym c.len.ensures.value)
+    (in_ring (length c.args.ring.now) c.args.set.now c.deref.result.now c.requires.set (c.deref.ensures.value ∙ c.in_ok-generators.ensures))
 
 pub root_in-requires-clause-width : goal.root_in-requires-clause-width
 root_in-requires-clause-width c = c.requires.width ∙ sym c.len.ensures.value

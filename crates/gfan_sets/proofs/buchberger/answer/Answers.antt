@@ -22,11 +22,16 @@ returns-in_err-ring-clause-told c =
 pub returns-in-Err-clause-err : goal.returns-in-Err-clause-err
 returns-in-Err-clause-err c =
     IsRefusedOn.behind_text (c.in_ok-ring.field-0.ring, (c.in_ok-ring.field-0.set.items, c.in_ok-ring.field-0.vector)) c.in_ok-ring.ensures.ok
-    (subst (λ (ws : List Written). IsUnanswered (buchberger_command c.args.options) (c.in_ok-ring.field-0.ring, (ws, c.in_ok-ring.field-0.vector)) c.in-Err.refusal) c.deref.ensures.value c.in-Err.ensures.err)
+    (subst (λ (ws : List Written). IsUnanswered (buchberger_command c.args.options) (
+      c.in_ok-ring.field-0.ring,
+      (ws, c.in_ok-ring.field-0.vector),
+    ) c.in-Err.refusal) c.deref.ensures.value c.in-Err.ensures.err)
 
 pub returns-in-Err-clause-told : goal.returns-in-Err-clause-told
 returns-in-Err-clause-told c =
     let read = c.in_ok-ring.field-0 in
-    let unanswered = subst (λ (ws : List Written). IsUnanswered (buchberger_command c.args.options) (read.ring, (ws, read.vector)) c.in-Err.refusal) c.deref.ensures.value c.in-Err.ensures.err in
+    let unanswered = subst (λ (ws : List Written). IsUnanswered (buchberger_command c.args.options) (read.ring, (ws, read.vector)) c.in-Err.refusal)
+    c.deref.ensures.value c.in-Err.ensures.err in
     of_ring c.args.options c.args.source.now read.ring read.set.items read.vector c.in_ok-ring.ensures.ok c.in-Err.refusal
-    (named_job c.args.options read.ring read.set.items read.vector c.in-Err.refusal (in_ring (length read.ring) read.set.items (generators_of read.set.items) c.in_ok-ring.ensures.variables refl) unanswered)
+    (named_job c.args.options read.ring read.set.items read.vector c.in-Err.refusal (in_ring (length read.ring) read.set.items (generators_of read.set.items)
+    c.in_ok-ring.ensures.variables refl) unanswered)

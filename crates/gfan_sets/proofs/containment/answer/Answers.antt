@@ -25,14 +25,18 @@ returns-in_err-read-clause-told c =
 pub returns-in-Err-clause-err : goal.returns-in-Err-clause-err
 returns-in-Err-clause-err c =
     let r = c.in_ok-read.read in
-    let read = subst (λ (ws : List Written). IsTextOf ring_marked_set_and_set c.args.source.now (r.ring, (r.marked, ws))) (sym c.deref.ensures.value) c.in_ok-read.ensures.ok in
-    containment_refused c.args.source.now r.ring r.marked c.deref.result.now c.in-Err.error c.of_check.result.refusal read c.in-Err.ensures.err c.of_check.ensures.refusal
+    let read = subst (λ (ws : List Written). IsTextOf ring_marked_set_and_set c.args.source.now (r.ring, (r.marked, ws))) (sym c.deref.ensures.value)
+    c.in_ok-read.ensures.ok in
+    containment_refused c.args.source.now r.ring r.marked c.deref.result.now c.in-Err.error c.of_check.result.refusal read c.in-Err.ensures.err
+    c.of_check.ensures.refusal
 
 pub returns-in-Err-clause-told : goal.returns-in-Err-clause-told
 returns-in-Err-clause-told c =
     let r = c.in_ok-read.read in
-    let read = subst (λ (ws : List Written). IsTextOf ring_marked_set_and_set c.args.source.now (r.ring, (r.marked, ws))) (sym c.deref.ensures.value) c.in_ok-read.ensures.ok in
-    of_this_ring a_marked_set (a_set ∷ []) c.args.source.now r.ring (r.marked, c.deref.result.now) c.of_check.result (of_check c.in-Err.error) read c.of_check.ensures.refusal c.of_check.ensures.ring
+    let read = subst (λ (ws : List Written). IsTextOf ring_marked_set_and_set c.args.source.now (r.ring, (r.marked, ws))) (sym c.deref.ensures.value)
+    c.in_ok-read.ensures.ok in
+    of_this_ring a_marked_set (a_set ∷ []) c.args.source.now r.ring (r.marked, c.deref.result.now) c.of_check.result (of_check c.in-Err.error)
+    read c.of_check.ensures.refusal c.of_check.ensures.ring
     (named_containment c.args.source.now r.ring r.marked c.deref.result.now c.in-Err.error read c.in-Err.ensures.err)
 
 pub returns-in_err-text-clause-told : goal.returns-in_err-text-clause-told
@@ -43,5 +47,7 @@ returns-in_err-text-clause-told c =
 pub returns-clause-ok : goal.returns-clause-ok
 returns-clause-ok c =
     let r = c.in_ok-read.read in
-    let read = subst (λ (ws : List Written). IsTextOf ring_marked_set_and_set c.args.source.now (r.ring, (r.marked, ws))) (sym c.deref.ensures.value) c.in_ok-read.ensures.ok in
-    containment_answered c.args.source.now c.in_ok-text.text.items r.ring r.marked c.deref.result.now c.in-Ok.are read c.in-Ok.ensures.basis c.in-Ok.ensures.ok c.in_ok-text.ensures
+    let read = subst (λ (ws : List Written). IsTextOf ring_marked_set_and_set c.args.source.now (r.ring, (r.marked, ws))) (sym c.deref.ensures.value)
+    c.in_ok-read.ensures.ok in
+    containment_answered c.args.source.now c.in_ok-text.text.items r.ring r.marked c.deref.result.now c.in-Ok.are read c.in-Ok.ensures.basis c.in-Ok.ensures.ok
+    c.in_ok-text.ensures

@@ -20,7 +20,8 @@ pub returns-in_err-text-clause-err : goal.returns-in_err-text-clause-err
 returns-in_err-text-clause-err c =
     let p = err_from_is_err_and c.from_residual-in_err-text.result c.from_residual-in_err-text.ensures.1 in
     rw (p.1, p.2) (IsRefusedOn.behind_text (c.in_ok-ring.field-0.ring, (c.in_ok-ring.field-0.set.items, c.in_ok-ring.field-0.name.now)) c.in_ok-ring.ensures.ok
-    (subst (λ (ws : List Written). IsUnanswered homogenize_command (c.in_ok-ring.field-0.ring, (ws, c.in_ok-ring.field-0.name.now)) c.in_err-text.field-0.0) c.deref.ensures.value c.in_err-text.ensures.err))
+    (subst (λ (ws : List Written). IsUnanswered homogenize_command (c.in_ok-ring.field-0.ring, (ws, c.in_ok-ring.field-0.name.now)) c.in_err-text.field-0.0)
+    c.deref.ensures.value c.in_err-text.ensures.err))
 
 pub returns-in_err-text-clause-told : goal.returns-in_err-text-clause-told
 returns-in_err-text-clause-told c =

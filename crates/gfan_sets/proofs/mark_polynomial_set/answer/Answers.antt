@@ -17,7 +17,8 @@ returns-in_err-ring-clause-told c =
 pub returns-in_err-text-clause-err : goal.returns-in_err-text-clause-err
 returns-in_err-text-clause-err c =
     let p = err_from_is_err_and c.from_residual-in_err-text.result c.from_residual-in_err-text.ensures.1 in
-    rw (p.1, p.2) (IsRefusedOn.behind_text (c.in_ok-ring.field-0.ring, (c.in_ok-ring.field-0.set.items, c.in_ok-ring.field-0.vector)) c.in_ok-ring.ensures.ok c.in_err-text.ensures.err)
+    rw (p.1, p.2) (IsRefusedOn.behind_text (c.in_ok-ring.field-0.ring, (c.in_ok-ring.field-0.set.items, c.in_ok-ring.field-0.vector)) c.in_ok-ring.ensures.ok
+    c.in_err-text.ensures.err)
 
 pub returns-in_err-text-clause-told : goal.returns-in_err-text-clause-told
 returns-in_err-text-clause-told c =

@@ -21,11 +21,13 @@ returns-in_err-read-clause-told c =
 
 pub returns-in-Err-clause-err : goal.returns-in-Err-clause-err
 returns-in-Err-clause-err c =
-    check_refused c.args.source.now c.in_ok-read.read.ring c.in_ok-read.read.set c.in-Err.error c.of_check.result.refusal c.in_ok-read.ensures.ok c.in-Err.ensures.err c.of_check.ensures.refusal
+    check_refused c.args.source.now c.in_ok-read.read.ring c.in_ok-read.read.set c.in-Err.error c.of_check.result.refusal c.in_ok-read.ensures.ok
+    c.in-Err.ensures.err c.of_check.ensures.refusal
 
 pub returns-in-Err-clause-told : goal.returns-in-Err-clause-told
 returns-in-Err-clause-told c =
-    of_this_ring a_marked_set [] c.args.source.now c.in_ok-read.read.ring c.in_ok-read.read.set c.of_check.result (of_check c.in-Err.error) c.in_ok-read.ensures.ok c.of_check.ensures.refusal c.of_check.ensures.ring
+    of_this_ring a_marked_set [] c.args.source.now c.in_ok-read.read.ring c.in_ok-read.read.set c.of_check.result (of_check c.in-Err.error)
+    c.in_ok-read.ensures.ok c.of_check.ensures.refusal c.of_check.ensures.ring
     (named_test c.in_ok-read.read.ring c.in_ok-read.read.set c.in-Err.error c.in-Err.ensures.err)
 
 pub returns-in_err-text-clause-told : goal.returns-in_err-text-clause-told
@@ -35,4 +37,5 @@ returns-in_err-text-clause-told c =
 
 pub returns-clause-ok : goal.returns-clause-ok
 returns-clause-ok c =
-    marked_answered c.args.source.now c.in_ok-text.text.items c.in_ok-read.read.ring c.in_ok-read.read.set c.in-Ok.is_basis c.in_ok-read.ensures.ok c.in-Ok.ensures.ok c.in_ok-text.ensures
+    marked_answered c.args.source.now c.in_ok-text.text.items c.in_ok-read.read.ring c.in_ok-read.read.set c.in-Ok.is_basis c.in_ok-read.ensures.ok
+    c.in-Ok.ensures.ok c.in_ok-text.ensures

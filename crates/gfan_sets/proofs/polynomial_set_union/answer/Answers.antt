@@ -21,9 +21,15 @@ returns-in_err-read-clause-told c =
 
 pub union-requires : goal.union-requires
 union-requires c =
-    record { n = length c.in_ok-read.read.ring; each = subst (λ (ss : List (Vec Written Global)). AreAllIn (length c.in_ok-read.read.ring) (sets_in ss)) (sym c.deref.ensures.value) c.in_ok-read.ensures.variables }
+    record {
+      n = length c.in_ok-read.read.ring;
+      each = subst (λ (ss : List (Vec Written Global)). AreAllIn (length c.in_ok-read.read.ring) (sets_in ss)) (sym c.deref.ensures.value)
+          c.in_ok-read.ensures.variables;
+    }
 
 pub printed_set-requires : goal.printed_set-requires
 printed_set-requires c =
     subst (λ (fs : List Written). AreIn (length c.in_ok-read.read.ring) fs) (sym c.deref-2.ensures.value)
-    (c.in_ok-union.ensures.variables (length c.in_ok-read.read.ring) (subst (λ (ss : List (Vec Written Global)). AreAllIn (length c.in_ok-read.read.ring) (sets_in ss)) (sym c.deref.ensures.value) c.in_ok-read.ensures.variables))
+    (c.in_ok-union.ensures.variables (length c.in_ok-read.read.ring)
+    (subst (λ (ss : List (Vec Written Global)). AreAllIn (length c.in_ok-read.read.ring) (sets_in ss)) (sym c.deref.ensures.value)
+    c.in_ok-read.ensures.variables))

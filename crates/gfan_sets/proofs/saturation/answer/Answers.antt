@@ -28,7 +28,8 @@ returns-in_err-text-clause-err c =
     let p = err_from_is_err_and c.from_residual-in_err-text.result c.from_residual-in_err-text.ensures.1 in
     let r = c.in_ok-ring.field-0 in
     rw (p.1, p.2) (IsRefusedOn.behind_text (r.ring, (r.set.items, None)) (without_vector c.args.source.now r.ring r.set.items r.vector c.in_ok-ring.ensures.ok)
-    (subst (λ (ws : List Written). IsUnanswered (saturation_command c.args.options) (r.ring, (ws, None)) c.in_err-text.field-0.0) c.deref.ensures.value c.in_err-text.ensures.err))
+    (subst (λ (ws : List Written). IsUnanswered (saturation_command c.args.options) (r.ring, (ws, None)) c.in_err-text.field-0.0)
+    c.deref.ensures.value c.in_err-text.ensures.err))
 
 pub returns-in_err-text-clause-told : goal.returns-in_err-text-clause-told
 returns-in_err-text-clause-told c =
@@ -40,5 +41,6 @@ returns-clause-ok c =
     let r = c.in_ok-ring.field-0 in record {
       value = (r.ring, (r.set.items, None));
       read = without_vector c.args.source.now r.ring r.set.items r.vector c.in_ok-ring.ensures.ok;
-      answer = subst (λ (ws : List Written). IsAnswerFor (saturation_command c.args.options) (r.ring, (ws, None)) c.in_ok-text.text.items) c.deref.ensures.value c.in_ok-text.ensures.ok;
+      answer = subst (λ (ws : List Written). IsAnswerFor (saturation_command c.args.options) (r.ring, (ws, None)) c.in_ok-text.text.items)
+          c.deref.ensures.value c.in_ok-text.ensures.ok;
     }

@@ -20,7 +20,8 @@ returns-in_err-read-clause-told c =
 
 pub stats-requires : goal.stats-requires
 stats-requires c =
-    subst (λ (k : ℕ). AreSetsIn k c.deref.result.now) (sym c.len.ensures.value) (subst (λ (ss : List MarkedPolynomials). AreSetsIn (length c.in_ok-read.read.ring) ss) (sym c.deref.ensures.value) c.in_ok-read.ensures.variables)
+    subst (λ (k : ℕ). AreSetsIn k c.deref.result.now) (sym c.len.ensures.value)
+    (subst (λ (ss : List MarkedPolynomials). AreSetsIn (length c.in_ok-read.read.ring) ss) (sym c.deref.ensures.value) c.in_ok-read.ensures.variables)
 
 pub returns-in_err-stats-clause-err : goal.returns-in_err-stats-clause-err
 returns-in_err-stats-clause-err c =
@@ -39,5 +40,6 @@ returns-clause-ok c = record {
   value = (c.in_ok-read.read.ring, c.in_ok-read.read.sets.items);
   read = c.in_ok-read.ensures.ok;
   answer = stats_answered c.len.result c.in_ok-read.read.ring c.in_ok-read.read.sets.items c.in_ok-stats.stats c.in_ok-text.text.items c.len.ensures.value
-      (subst (λ (ss : List MarkedPolynomials). AreStatistics c.len.result ss c.in_ok-stats.stats) c.deref.ensures.value c.in_ok-stats.ensures.ok) c.in_ok-text.ensures;
+      (subst (λ (ss : List MarkedPolynomials). AreStatistics c.len.result ss c.in_ok-stats.stats) c.deref.ensures.value c.in_ok-stats.ensures.ok)
+      c.in_ok-text.ensures;
 }

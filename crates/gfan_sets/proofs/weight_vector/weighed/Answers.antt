@@ -16,4 +16,5 @@ returns-in-Ok-weights_of-clause-ok c =
 pub returns-clause-err : goal.returns-clause-err
 returns-clause-err c =
     let bases = subst (λ (ts : List MarkedPolynomials). AllZip IsReducedAsRead c.args.sets.now ts) (sym c.deref.ensures.value) c.in-Ok.ensures.ok in
-    weight_unweighed c.args.sets.now c.deref.result.now c.in-Err-weights_of.error c.of_weight_error.result bases c.in-Err-weights_of.ensures.err c.of_weight_error.ensures
+    weight_unweighed c.args.sets.now c.deref.result.now c.in-Err-weights_of.error c.of_weight_error.result bases c.in-Err-weights_of.ensures.err
+    c.of_weight_error.ensures

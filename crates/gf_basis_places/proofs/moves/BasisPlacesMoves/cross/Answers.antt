@@ -17,7 +17,8 @@ returns-in_err-across-clause-err c =
     let l : c.args.number < length c.crossable-normals.result.now = omega (arith, c.if-number-count_of.false, c.count_of.ensures) in
     let flip = c.crossable-normals.ensures.only a (c.args.number, l, sym c.index-normals-number.is) in
     let p = err_from_is_err_and c.from_residual.result c.from_residual.ensures.1 in
-    rw p.1 (flip_here pairs v a r p.0 flip (subst (λ (z : MarkedPolynomials). IsFlipRefusal z.variables z.items a pairs r) c.basis.ensures c.in_err-across.ensures.cause) p.2)
+    rw p.1 (flip_here pairs v a r p.0 flip (subst (λ (z : MarkedPolynomials). IsFlipRefusal z.variables z.items a pairs r)
+    c.basis.ensures c.in_err-across.ensures.cause) p.2)
 
 pub returns-in_err-there-clause-err : goal.returns-in_err-there-clause-err
 returns-in_err-there-clause-err c =
@@ -27,7 +28,8 @@ returns-in_err-there-clause-err c =
     let w = c.in_ok-across.across in
     let l : c.args.number < length c.crossable-normals.result.now = omega (arith, c.if-number-count_of.false, c.count_of.ensures) in
     let flip = c.crossable-normals.ensures.only a (c.args.number, l, sym c.index-normals-number.is) in
-    let step : IsCrossingStep v a w = step_across v w a c.requires.node flip (subst (λ (z : MarkedPolynomials). IsNeighbour z.variables z.items a w.items) c.basis.ensures c.in_ok-across.ensures.value)
+    let step : IsCrossingStep v a w = step_across v w a c.requires.node flip (subst (λ (z : MarkedPolynomials). IsNeighbour z.variables z.items a w.items)
+    c.basis.ensures c.in_ok-across.ensures.value)
     (c.in_ok-across.ensures.variables ∙ ap (λ (z : MarkedPolynomials). z.variables) c.basis.ensures) in
     let p = err_from_is_err_and c.from_residual-in_err-there.result c.from_residual-in_err-there.ensures.1 in
     rw p.1 (subst (IsPlaceRefusal pairs v) (sym p.2) (beside pairs v w a c.in_err-there.field-0.0 step (c.in_err-there.ensures.err pairs)))
@@ -42,13 +44,19 @@ returns-clause-ok c =
     let l : n < length ns = omega (arith, c.if-number-count_of.false, c.count_of.ensures) in
     let least : n < 18446744073709551615 = omega (arith, l, c.count_of.ensures, c.count_of.type_inv) in
     let flip = c.crossable-normals.ensures.only a (n, l, sym c.index-normals-number.is) in
-    let step : IsCrossingStep v a w = step_across v w a c.requires.node flip (subst (λ (z : MarkedPolynomials). IsNeighbour z.variables z.items a w.items) c.basis.ensures c.in_ok-across.ensures.value)
+    let step : IsCrossingStep v a w = step_across v w a c.requires.node flip (subst (λ (z : MarkedPolynomials). IsNeighbour z.variables z.items a w.items)
+    c.basis.ensures c.in_ok-across.ensures.value)
     (c.in_ok-across.ensures.variables ∙ ap (λ (z : MarkedPolynomials). z.variables) c.basis.ensures) in
     let same = c.in_ok-there.ensures.ok in
     let there : IsCrossingStep v a c.in_ok-there.there = subst (IsCrossingStep v a) (sym same) step in
     let at : a ≡ get_or ns n [] = c.index-normals-number.is ∙ get_or_default ns n a [] l in (
       least,
-      record { normals = ns; crossable = c.crossable-normals.ensures; inside = l; step = subst (λ (z : List ℤ). IsCrossingStep v z c.in_ok-there.there) at there },
+      record {
+        normals = ns;
+        crossable = c.crossable-normals.ensures;
+        inside = l;
+        step = subst (λ (z : List ℤ). IsCrossingStep v z c.in_ok-there.there) at there;
+      },
       subst (λ (z : List ℤ). IsCrossingStep v z c.in_ok-there.there) (sym c.in_ok-step.ensures) there,
       step_place _ v c.in_ok-there.there a c.requires there,
     )

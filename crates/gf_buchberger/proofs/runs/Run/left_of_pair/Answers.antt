@@ -12,4 +12,5 @@ pub left_in_wide_run-requires-clause-reducers : goal.left_in_wide_run-requires-c
 left_in_wide_run-requires-clause-reducers c = subst (λ (s : State). AreReducers c.args.order.now s.members) (sym c.narrow_left.ensures.same) c.requires.reducers
 
 pub returns-in-Some-clause-ok : goal.returns-in-Some-clause-ok
-returns-in-Some-clause-ok c = subst (λ (s : State). IsLeftOfPair c.args.order.now s c.args.i c.args.j c.in-Some.left) c.narrow_left.ensures.same c.in-Some.ensures
+returns-in-Some-clause-ok c = subst (λ (s : State). IsLeftOfPair c.args.order.now s c.args.i c.args.j c.in-Some.left)
+    c.narrow_left.ensures.same c.in-Some.ensures

@@ -8,7 +8,8 @@ returns-clause-value c = kept_all c.args.self.now c.self.inside.variables c.self
     ∙ ap (λ (z : List (List ℤ)). z ++ units c.args.self.now.variables c.args.self.now.variables) (sym c.as_slice.ensures.value)
 
 pub returns-clause-front : goal.returns-clause-front
-returns-clause-front c = subst (λ (z : List (List ℤ)). length c.args.self.now.normals ≤ length z) (sym c.as_slice.ensures.value) (kept_front c.args.self.now c.self.inside.variables c.self.inside.count c.self.inside.vectors.items (sym c.self.view_is))
+returns-clause-front c = subst (λ (z : List (List ℤ)). length c.args.self.now.normals ≤ length z) (sym c.as_slice.ensures.value)
+    (kept_front c.args.self.now c.self.inside.variables c.self.inside.count c.self.inside.vectors.items (sym c.self.view_is))
 
 pub returns-clause-units : goal.returns-clause-units
 returns-clause-units c = kept_units c.args.self.now c.self.inside.variables c.self.inside.count c.self.inside.vectors.items (sym c.self.view_is)

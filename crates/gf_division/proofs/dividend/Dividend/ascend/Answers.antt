@@ -4,4 +4,5 @@ use Rattle.gf_division.proofs.DescendingParts.{descending-front}
 use Rattle.gf_division.proofs.dividend.Dividend.ascend.Goals as goal
 
 pub returns-clause-over : goal.returns-clause-over
-returns-clause-over c = c.has_passed.ensures.no c.terms-test.false (descending-front c.terms.self.above.items c.terms.invariant.passed (subst IsDescending c.terms.invariant.above c.requires))
+returns-clause-over c = c.has_passed.ensures.no c.terms-test.false (descending-front c.terms.self.above.items c.terms.invariant.passed
+    (subst IsDescending c.terms.invariant.above c.requires))

@@ -8,5 +8,7 @@ pub invariant_of-self : goal.invariant_of-self
 invariant_of-self c = subst (All (λ (fs : List Terms). HasOneTermMember c.self.inside.variables fs → ⊥)) (sym c.in_err-push.ensures.items) c.self.invariant
 
 pub invariant_of-self-2 : goal.invariant_of-self-2
-invariant_of-self-2 c = subst (All (λ (fs : List Terms). HasOneTermMember c.self.inside.variables fs → ⊥)) (sym c.in_ok-push.ensures.items) (All-push (λ (fs : List Terms). HasOneTermMember c.self.inside.variables fs → ⊥) c.self.inside.lists.items c.new.result c.self.invariant
-    (λ member. c.requires (subst (λ n. HasOneTermMember n c.args.forms.items) c.self.view_is (subst (λ (fs : List Terms). HasOneTermMember c.self.inside.variables fs) c.new.ensures member))))
+invariant_of-self-2 c = subst (All (λ (fs : List Terms). HasOneTermMember c.self.inside.variables fs → ⊥)) (sym c.in_ok-push.ensures.items)
+    (All-push (λ (fs : List Terms). HasOneTermMember c.self.inside.variables fs → ⊥) c.self.inside.lists.items c.new.result c.self.invariant
+    (λ member. c.requires (subst (λ n. HasOneTermMember n c.args.forms.items) c.self.view_is
+    (subst (λ (fs : List Terms). HasOneTermMember c.self.inside.variables fs) c.new.ensures member))))

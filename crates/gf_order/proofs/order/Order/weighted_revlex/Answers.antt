@@ -6,7 +6,8 @@ use Rattle.std.proofs.Common.{length, subst, All, pos, ◌≤ℤ◌}
 use Rattle.gf_order.proofs.order.Order.weighted_revlex.Goals as goal
 
 pub returns-in-None-clause-term_order : goal.returns-in-None-clause-term_order
-returns-in-None-clause-term_order c = term-order (length c.args.weight) (MonomialOrder.weighted_revlex (gains c.args.weight)) (positive-gains c.args.weight (subst (All (λ w. pos 1 ≤ℤ w)) c.as_slice.ensures.value c.in-None.ensures))
+returns-in-None-clause-term_order c = term-order (length c.args.weight) (MonomialOrder.weighted_revlex (gains c.args.weight))
+    (positive-gains c.args.weight (subst (All (λ w. pos 1 ≤ℤ w)) c.as_slice.ensures.value c.in-None.ensures))
 
 pub returns-in-None-clause-entries : goal.returns-in-None-clause-entries
 returns-in-None-clause-entries c = length-gains c.args.weight

@@ -9,7 +9,13 @@ returns-in_err-poly-clause-cause c =
     rw (p.1, p.2) (monic_cause _ _ _ _ _ c.self.view_is c.coefficient-by.ensures.term c.in_err-poly.ensures.cause)
 
 pub invariant_of-result : goal.invariant_of-result
-invariant_of-result c = omega (arith, length-products c.coefficient-by.result c.self.inside.poly c.in_ok-poly.poly c.coefficient-by.ensures.nonzero c.in_ok-poly.ensures.terms, c.self.invariant)
+invariant_of-result c = omega (
+  arith,
+  length-products c.coefficient-by.result c.self.inside.poly c.in_ok-poly.poly c.coefficient-by.ensures.nonzero
+      c.in_ok-poly.ensures.terms,
+  c.self.invariant,
+)
 
 pub returns-clause-value : goal.returns-clause-value
-returns-clause-value c = monic_value _ _ _ _ _ c.self.view_is c.coefficient-by.ensures.term c.coefficient-by.ensures.nonzero c.in_ok-poly.ensures.terms c.in_ok-poly.ensures.fits
+returns-clause-value c = monic_value _ _ _ _ _ c.self.view_is c.coefficient-by.ensures.term c.coefficient-by.ensures.nonzero c.in_ok-poly.ensures.terms
+    c.in_ok-poly.ensures.fits

@@ -9,4 +9,8 @@ returns c =
     (λ t. p.0 (c.are_same.ensures.0 t), λ q. c.are_same.ensures.1 (p.1 q))
 
 pub returns-then-word : goal.returns-then-word
-returns-then-word c = (λ t. absurd (cc), λ q. absurd (c.if-word.true (word-unique c.args.self.now c.word.result c.word-2.result c.word.ensures (subst (λ x. IsWordOf x c.word-2.result) (sym q) c.word-2.ensures))))
+returns-then-word c = (
+  λ t. absurd (cc),
+  λ q. absurd (c.if-word.true (word-unique c.args.self.now c.word.result c.word-2.result c.word.ensures
+      (subst (λ x. IsWordOf x c.word-2.result) (sym q) c.word-2.ensures))),
+)

@@ -11,7 +11,8 @@ pub known-requires-clause-total : goal.known-requires-clause-total
 known-requires-clause-total c = c.total_of.ensures ∙ ap degree (sym (placed-front c.args.exponents.now c.padded.result _ refl c.padded.ensures))
 
 pub known-requires-clause-word : goal.known-requires-clause-word
-known-requires-clause-word c = subst (λ x. IsWordOf x c.word_of.result) (sym (placed-front c.args.exponents.now c.padded.result _ refl c.padded.ensures)) c.word_of.ensures
+known-requires-clause-word c = subst (λ x. IsWordOf x c.word_of.result) (sym (placed-front c.args.exponents.now c.padded.result _ refl c.padded.ensures))
+    c.word_of.ensures
 
 pub returns : goal.returns
 returns c = c.known.ensures ∙ placed-front c.args.exponents.now c.padded.result _ refl c.padded.ensures

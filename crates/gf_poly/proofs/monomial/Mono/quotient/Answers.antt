@@ -6,23 +6,49 @@ use Rattle.gf_poly.proofs.PlacedLaws.{placed-front, placed_by_front, placed-minu
 use Rattle.gf_poly.proofs.monomial.Mono.quotient.Goals as goal
 
 -- the first places of the differences
-front : (x y places others : Exponents) (n : ℕ) → length x ≡ length y → n ≡ length x → IsPlaced x places → IsPlaced y others → take n (minus places others) ≡ minus x y
+front : (x y places others : Exponents) (n : ℕ) → length x ≡ length y → n ≡ length x → IsPlaced x places → IsPlaced y others →
+    take n (minus places others) ≡ minus x y
 front x y places others n e m h k = placed-front (minus x y) (minus places others) n (m ∙ sym (length-minus x y e)) (placed-minus x y places others e h k)
 
 pub differences-all-requires-clause-divides : goal.differences-all-requires-clause-divides
-differences-all-requires-clause-divides c = placed-divides c.args.self.now c.args.by.now c.places.result.now c.places-2.result.now c.places.ensures c.places-2.ensures c.requires.divides
+differences-all-requires-clause-divides c = placed-divides c.args.self.now c.args.by.now c.places.result.now c.places-2.result.now c.places.ensures
+    c.places-2.ensures c.requires.divides
 
 pub overflow_sub-self-inside : goal.overflow_sub-self-inside
-overflow_sub-self-inside c = omega (arith, degree-minus c.args.self.now c.args.by.now c.requires.same_variables c.requires.divides, c.self.invariant.total_degree ∙ ap degree c.self.view_is, c.by.invariant.total_degree ∙ ap degree c.by.view_is)
+overflow_sub-self-inside c = omega (
+  arith,
+  degree-minus c.args.self.now c.args.by.now c.requires.same_variables c.requires.divides,
+  c.self.invariant.total_degree ∙ ap degree c.self.view_is,
+  c.by.invariant.total_degree ∙ ap degree c.by.view_is,
+)
 
 pub known-requires-clause-placed : goal.known-requires-clause-placed
-known-requires-clause-placed c = rw c.differences-all.ensures (placed_by_front (minus c.args.self.now c.args.by.now) (minus c.places.result.now c.places-2.result.now) _ (c.variables-n.ensures ∙ sym (length-minus c.args.self.now c.args.by.now c.requires.same_variables)) (placed-minus c.args.self.now c.args.by.now c.places.result.now c.places-2.result.now c.requires.same_variables c.places.ensures c.places-2.ensures))
+known-requires-clause-placed c = rw c.differences-all.ensures (placed_by_front (minus c.args.self.now c.args.by.now)
+    (minus c.places.result.now c.places-2.result.now) _ (c.variables-n.ensures ∙ sym (length-minus c.args.self.now c.args.by.now c.requires.same_variables))
+    (placed-minus c.args.self.now c.args.by.now c.places.result.now c.places-2.result.now c.requires.same_variables c.places.ensures c.places-2.ensures))
 
 pub known-requires-clause-total : goal.known-requires-clause-total
-known-requires-clause-total c = rw (c.differences-all.ensures, front c.args.self.now c.args.by.now c.places.result.now c.places-2.result.now _ c.requires.same_variables c.variables-n.ensures c.places.ensures c.places-2.ensures) (omega (arith, degree-minus c.args.self.now c.args.by.now c.requires.same_variables c.requires.divides, c.self.invariant.total_degree ∙ ap degree c.self.view_is, c.by.invariant.total_degree ∙ ap degree c.by.view_is))
+known-requires-clause-total c = rw (
+  c.differences-all.ensures,
+  front c.args.self.now c.args.by.now c.places.result.now c.places-2.result.now _
+      c.requires.same_variables c.variables-n.ensures c.places.ensures c.places-2.ensures,
+)
+    (omega (
+      arith,
+      degree-minus c.args.self.now c.args.by.now c.requires.same_variables c.requires.divides,
+      c.self.invariant.total_degree ∙ ap degree c.self.view_is,
+      c.by.invariant.total_degree ∙ ap degree c.by.view_is,
+    ))
 
 pub returns-clause-value : goal.returns-clause-value
-returns-clause-value c = c.known.ensures ∙ rw c.differences-all.ensures (front c.args.self.now c.args.by.now c.places.result.now c.places-2.result.now _ c.requires.same_variables c.variables-n.ensures c.places.ensures c.places-2.ensures)
+returns-clause-value c = c.known.ensures ∙ rw c.differences-all.ensures (front c.args.self.now c.args.by.now c.places.result.now c.places-2.result.now _
+    c.requires.same_variables c.variables-n.ensures c.places.ensures c.places-2.ensures)
 
 pub returns-clause-product : goal.returns-clause-product
-returns-clause-product c = rw (c.known.ensures, c.differences-all.ensures, front c.args.self.now c.args.by.now c.places.result.now c.places-2.result.now _ c.requires.same_variables c.variables-n.ensures c.places.ensures c.places-2.ensures) (plus-minus c.args.self.now c.args.by.now c.requires.same_variables c.requires.divides)
+returns-clause-product c = rw (
+  c.known.ensures,
+  c.differences-all.ensures,
+  front c.args.self.now c.args.by.now c.places.result.now c.places-2.result.now _
+      c.requires.same_variables c.variables-n.ensures c.places.ensures c.places-2.ensures,
+)
+    (plus-minus c.args.self.now c.args.by.now c.requires.same_variables c.requires.divides)

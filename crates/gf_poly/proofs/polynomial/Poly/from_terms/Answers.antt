@@ -15,4 +15,6 @@ returns-in_err-terms-clause-cause c =
     rw (p.1, p.2) (cause_of _ _ _ c.in_ok-ordered.ensures.terms (rw c.deref-2.ensures.value at c.in_err-terms.ensures.cause))
 
 pub returns-clause-variables : goal.returns-clause-variables
-returns-clause-variables c = record { at = λ n h. let k = rw c.deref-2.ensures.value at c.in_ok-terms.ensures.variables in k.at n (c.in_ok-ordered.ensures.terms.variables.at n h) }
+returns-clause-variables c = record {
+  at = λ n h. let k = rw c.deref-2.ensures.value at c.in_ok-terms.ensures.variables in k.at n (c.in_ok-ordered.ensures.terms.variables.at n h);
+}

@@ -8,5 +8,6 @@ pub invariant_of-result : goal.invariant_of-result
 invariant_of-result g c =
     let w = c.args.walker in
     let t = w.tree in
-    inr (bounded g.T.Tree.before g.T.Tree.up g.T.Tree.is_node g.T.FiniteTree.count g.met.T.Tree.strict t (g.met.T.Tree.tree t) (g.met.T.Tree.nodes t) (g.met.T.FiniteTree.level t) (g.met.T.FiniteTree.finite t) w refl
+    inr (bounded g.T.Tree.before g.T.Tree.up g.T.Tree.is_node g.T.FiniteTree.count g.met.T.Tree.strict t (g.met.T.Tree.tree t) (g.met.T.Tree.nodes t)
+    (g.met.T.FiniteTree.level t) (g.met.T.FiniteTree.finite t) w refl
     (subst (IsBelowSomeTop g.T.Tree.is_node g.T.Tree.up) c.walker.view_is c.walker.invariant) c.zero.result c.zero.ensures)

@@ -14,7 +14,8 @@ returns-in-Before-clause-list g c =
     let up = g.T.Tree.up a.tree in
     rw (← c.self.view_is)
     (λ nodes left. gives lt up g.met.T.Tree.strict (g.met.T.Tree.tree a.tree) Before a.here a.depth Listed a.here a.depth (Some c.in_ok-node.node)
-    (λ top r at. listed_here lt up top r a.here c.in_ok-node.node a.depth c.in_ok-node.ensures.ok at) nodes (subst (λ m. Leaves lt up m a.here a.depth nodes) c.in-Before.is left))
+    (λ top r at. listed_here lt up top r a.here c.in_ok-node.node a.depth c.in_ok-node.ensures.ok at) nodes
+    (subst (λ m. Leaves lt up m a.here a.depth nodes) c.in-Before.is left))
 
 -- what the search finds is the first of what is left
 pub returns-in_ok-node-in-Some : goal.returns-in_ok-node-in-Some
@@ -22,12 +23,14 @@ returns-in_ok-node-in-Some g c =
     let lt = g.T.Tree.before in
     let a = c.self.inside in
     let up = g.T.Tree.up a.tree in
-    let step : Steps lt up a.mark a.here a.depth Listed c.in-Some.next c.in-Some.depth (Some c.in_ok-node-in-Some.node) = λ top r at. found lt up g.met.T.Tree.strict top a.mark r c.in-Some.next c.in_ok-node-in-Some.node c.in-Some.depth
+    let step : Steps lt up a.mark a.here a.depth Listed c.in-Some.next c.in-Some.depth (Some c.in_ok-node-in-Some.node) =
+    λ top r at. found lt up g.met.T.Tree.strict top a.mark r c.in-Some.next c.in_ok-node-in-Some.node c.in-Some.depth
     ((subst (FindsNext lt up a.here a.mark a.depth) c.in-Some.is c.in_ok-next.ensures.next) top r at) c.in_ok-node-in-Some.ensures.ok in
     rw (← c.self.view_is)
     (record {
       first = step;
-      list = gives lt up g.met.T.Tree.strict (g.met.T.Tree.tree a.tree) a.mark a.here a.depth Listed c.in-Some.next c.in-Some.depth (Some c.in_ok-node-in-Some.node) step;
+      list = gives lt up g.met.T.Tree.strict (g.met.T.Tree.tree a.tree) a.mark a.here a.depth Listed c.in-Some.next c.in-Some.depth
+          (Some c.in_ok-node-in-Some.node) step;
       here = c.in_ok-node-in-Some.ensures.ok;
       ended = tt;
       tree = refl;

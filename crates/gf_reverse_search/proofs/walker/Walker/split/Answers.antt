@@ -21,6 +21,8 @@ returns-in-Ok-Some-clause-parts g c =
     let old = c.args.self in
     let new = c.advance.new.self in
     rw (c.none.ensures)
-    (λ nodes l. subst (λ w. AreSplitParts lt up nodes (record { tree = c.in-Ok.tree; here = c.in-Ok-Some.next; mark = Before; depth = 0 }) (record { tree = w.tree; here = w.here; mark = Finished; depth = w.depth })) (sym c.rest-in-Ok-Some.view_is)
-    (split_parts lt up g.met.T.Tree.strict old new (g.met.T.Tree.tree old.tree) c.in-Ok-Some.next c.in-Ok.tree (c.in-Ok.ensures.ok ∙ ap (λ w. w.tree) c.rest.view_is) c.in-Ok-Some.ensures.tree
+    (λ nodes l. subst (λ w. AreSplitParts lt up nodes (record { tree = c.in-Ok.tree; here = c.in-Ok-Some.next; mark = Before; depth = 0 })
+    (record { tree = w.tree; here = w.here; mark = Finished; depth = w.depth })) (sym c.rest-in-Ok-Some.view_is)
+    (split_parts lt up g.met.T.Tree.strict old new (g.met.T.Tree.tree old.tree) c.in-Ok-Some.next c.in-Ok.tree
+    (c.in-Ok.ensures.ok ∙ ap (λ w. w.tree) c.rest.view_is) c.in-Ok-Some.ensures.tree
     (subst (Advances lt up old new) c.in-Ok-Some.field-0-is c.in-Ok-Some.ensures.first) nodes l))

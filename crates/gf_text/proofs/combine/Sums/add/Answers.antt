@@ -2,7 +2,8 @@ use Rattle.gf_text.proofs.SetsLaws.{adds_fit, adds_overflow, adds_exponent, keep
 use Rattle.gf_text.proofs.combine.Sums.add.Goals as goal
 
 pub returns-in_ok-push-in-Ok : goal.returns-in_ok-push-in-Ok
-returns-in_ok-push-in-Ok c = rw c.in-Fit.is (adds_fit c.args.n c.args.terms.now c.in-Fit.written.items c.push.new.self.items c.in-Ok.next c.in-Ok.ensures.ok c.in_ok-push-in-Ok.ensures.items)
+returns-in_ok-push-in-Ok c = rw c.in-Fit.is (adds_fit c.args.n c.args.terms.now c.in-Fit.written.items c.push.new.self.items c.in-Ok.next c.in-Ok.ensures.ok
+    c.in_ok-push-in-Ok.ensures.items)
 
 pub returns-in-Err-Overflow : goal.returns-in-Err-Overflow
 returns-in-Err-Overflow c =
@@ -15,7 +16,8 @@ returns-in-Err-Exponent c =
     rw (c.in-Fit.is, c.in-Err-Exponent.field-0-is) (adds_exponent c.args.n c.args.terms.now c.in-Fit.written.items c.in-Err-Exponent.overflow cause)
 
 pub returns-in-Err-check_terms : goal.returns-in-Err-check_terms
-returns-in-Err-check_terms c = rw c.in-Overflow.is (overflow_exponent c.args.n c.args.terms.now c.in-Overflow.field-0 c.in-Err-check_terms.first c.in-Err-check_terms.ensures.err)
+returns-in-Err-check_terms c =
+    rw c.in-Overflow.is (overflow_exponent c.args.n c.args.terms.now c.in-Overflow.field-0 c.in-Err-check_terms.first c.in-Err-check_terms.ensures.err)
 
 pub returns-in_default : goal.returns-in_default
 returns-in_default c = rw c.in-Overflow.is (keeps_overflow c.args.n c.args.terms.now c.in-Overflow.field-0 c.in_default.ensures.ok)

@@ -16,5 +16,6 @@ returns-clause-list g c =
     let root = c.args.root in
     let is : c.push-2.new.row.items ≡ Ready root ∷ Under (record { tree = t; here = root; mark = Listed; depth = 0 }) ∷ [] = search rules in
     λ nodes l.
-    let k = gives lt up g.met.T.Tree.strict (g.met.T.Tree.tree t) Before root 0 Listed root 0 (Some root) (λ top r at. listed_here lt up top r root root 0 refl at) nodes l in
+    let k = gives lt up g.met.T.Tree.strict (g.met.T.Tree.tree t) Before root 0 Listed root 0 (Some root)
+    (λ top r at. listed_here lt up top r root root 0 refl at) nodes l in
     subst (λ ps. PiecesLeave (IsLeftAt lt g.T.Tree.up) ps nodes) (sym is) (k.0, k.1, (k.0, [], sym (append-nil k.0), k.2, refl))

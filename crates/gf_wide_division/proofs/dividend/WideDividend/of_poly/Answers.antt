@@ -5,7 +5,10 @@ use Rattle.gf_wide_division.specs.Values.{value_terms}
 use Rattle.gf_wide_division.proofs.dividend.WideDividend.of_poly.Goals as goal
 
 pub terms-preserved : goal.terms-preserved
-terms-preserved c = copied_term c.terms-all.result.now c.terms.terms.items c.push.new.self.items c.terms.i c.index-all-i.result (record { coef = c.copy-coef.result; mono = c.copy-mono.result; waits = c.is_open-waits.result }) c.terms-test.true c.index-all-i.is c.copy-coef.ensures c.copy-mono.ensures c.in_ok-push.ensures.items c.terms.invariant
+terms-preserved c = copied_term c.terms-all.result.now c.terms.terms.items c.push.new.self.items c.terms.i c.index-all-i.result
+    (record { coef = c.copy-coef.result; mono = c.copy-mono.result; waits = c.is_open-waits.result }) c.terms-test.true c.index-all-i.is c.copy-coef.ensures
+    c.copy-mono.ensures c.in_ok-push.ensures.items c.terms.invariant
 
 pub returns-clause-value : goal.returns-clause-value
-returns-clause-value c = ap uncut (all_narrowed c.terms-all.result.now c.args.f.now (value_terms c.terms.terms.items) c.terms.i c.terms-all.ensures.value c.terms-test.false c.terms.invariant)
+returns-clause-value c = ap uncut (all_narrowed c.terms-all.result.now c.args.f.now (value_terms c.terms.terms.items) c.terms.i c.terms-all.ensures.value
+    c.terms-test.false c.terms.invariant)

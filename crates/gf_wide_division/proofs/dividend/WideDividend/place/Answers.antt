@@ -5,14 +5,17 @@ use Rattle.gf_wide_division.proofs.dividend.WideDividend.place.Goals as goal
 pub terms-preserved : goal.terms-preserved
 terms-preserved c = record {
   within = omega arith;
-  over = over_more c.args.x.now c.args.self.now.terms.items c.terms.i c.index.result.now (omega arith) c.index.ensures (sym c.in-Greater.ensures) c.terms.invariant.over;
+  over = over_more c.args.x.now c.args.self.now.terms.items c.terms.i c.index.result.now (omega arith) c.index.ensures (sym c.in-Greater.ensures)
+      c.terms.invariant.over;
 }
 
 pub returns-in-Equal-clause-place : goal.returns-in-Equal-clause-place
-returns-in-Equal-clause-place c = descends_here c.args.x.now c.args.self.now.terms.items c.terms.i c.index.result.now _ (omega arith) c.index.ensures c.in-Equal.ensures (λ z. absurd (cc)) c.terms.invariant.over
+returns-in-Equal-clause-place c = descends_here c.args.x.now c.args.self.now.terms.items c.terms.i c.index.result.now _ (omega arith)
+    c.index.ensures c.in-Equal.ensures (λ z. absurd (cc)) c.terms.invariant.over
 
 pub returns-in-Less-clause-place : goal.returns-in-Less-clause-place
-returns-in-Less-clause-place c = descends_here c.args.x.now c.args.self.now.terms.items c.terms.i c.index.result.now _ (omega arith) c.index.ensures c.in-Less.ensures (λ z. absurd (cc)) c.terms.invariant.over
+returns-in-Less-clause-place c = descends_here c.args.x.now c.args.self.now.terms.items c.terms.i c.index.result.now _ (omega arith)
+    c.index.ensures c.in-Less.ensures (λ z. absurd (cc)) c.terms.invariant.over
 
 pub returns-clause-place : goal.returns-clause-place
 returns-clause-place c = descends_end c.args.x.now c.args.self.now.terms.items c.terms.i (omega arith) c.terms.invariant.over

@@ -9,4 +9,6 @@ pub bounds-terms-place : goal.bounds-terms-place
 bounds-terms-place c = inside_there c.terms-terms.result.now c.args.self.now c.args.place c.terms-terms.ensures.value c.requires
 
 pub returns : goal.returns
-returns c = ap (λ (t : WideTerm). t.mono) (sym c.index-terms-place.is) ∙ head_value c.terms-terms.result.now c.args.place c.index-terms-place.result (inside_there c.terms-terms.result.now c.args.self.now c.args.place c.terms-terms.ensures.value c.requires) c.index-terms-place.is ∙ ap (λ (f : Terms). head_of f c.args.place) c.terms-terms.ensures.value
+returns c = ap (λ (t : WideTerm). t.mono) (sym c.index-terms-place.is) ∙ head_value c.terms-terms.result.now c.args.place c.index-terms-place.result
+    (inside_there c.terms-terms.result.now c.args.self.now c.args.place c.terms-terms.ensures.value c.requires) c.index-terms-place.is ∙
+    ap (λ (f : Terms). head_of f c.args.place) c.terms-terms.ensures.value
