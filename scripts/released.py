@@ -1,22 +1,28 @@
 """What scripts/make-release, scripts/check-release and scripts/make-package share: the version, the released program, and how a program is compared with it.
 
-The released program is release/gfan-x86_64-linux.gz. Beside it, release/gfan-x86_64-linux.txt has a line `NAME VALUE` for each of
+The released program is release/gfan-x86_64-linux.gz. It is linked by scripts/portable.py of the object file that the toolchain makes, so that it runs with glibc
+2.31 too. That file is release/gfan-x86_64-linux.o.gz: the toolchain doesn't keep it, and anyone can see that it is the one of a program, since the toolchain's
+own linker makes the program of it byte for byte. Beside them, release/gfan-x86_64-linux.txt has a line `NAME VALUE` for each of
 
 - `version`: that of the repository, as VERSION has it;
 - `sources`: the sum of the sources that it is built from, as `scripts/sum-sources gfan_main` prints it;
 - `kit`: the toolchain that proved and built it, as `rt version` prints it;
 - `sha256`: the SHA-256 of the program, unpacked;
-- `glibc`: the version of glibc from which on the program runs.
+- `glibc`: the version of glibc from which on the program runs: 2.31 at least, the earliest that it is tried with.
 """
 import gzip
 import hashlib
 import pathlib
 import struct
 import subprocess
+import tempfile
 import zlib
+
+import portable
 
 ROOT = pathlib.Path(__file__).resolve().parent.parent
 PACKED = ROOT / "release" / "gfan-x86_64-linux.gz"
+OBJECT = ROOT / "release" / "gfan-x86_64-linux.o.gz"
 RECORD = ROOT / "release" / "gfan-x86_64-linux.txt"
 NAMES = ("version", "sources", "kit", "sha256", "glibc")
 
@@ -28,8 +34,12 @@ ROW, LOADED, FOR_LOADER = 56, 1, 2
 TEXTS, NEEDS, NEED_COUNT = 5, 0x6FFFFFFE, 0x6FFFFFFF
 
 
+# The earliest glibc that the released program is tried with.
+TRIED = (2, 31)
+
+
 class NoProgram(Exception):
-    """A file that isn't a program for Linux on x86-64, or a release that can't be read."""
+    """A file that isn't a program for Linux on x86-64, or a release that can't be made or read."""
 
 
 def version():
@@ -87,8 +97,35 @@ def stripped(program):
     return bytes(made)
 
 
+def object_of(file):
+    """The object file of the built program in this file: FILE.o, or else the released one; None where there is neither."""
+    beside = file.with_name(f"{file.name}.o")
+    if beside.is_file():
+        return beside.read_bytes()
+    try:
+        return gzip.decompress(OBJECT.read_bytes()) if OBJECT.is_file() else None
+    except (OSError, EOFError, zlib.error) as fault:
+        raise NoProgram(f"release/{OBJECT.name} can't be unpacked: {fault}") from fault
+
+
+def to_release(file, made):
+    """What is released of the built program in this file, of which `made` is the object file: that, linked anew and stripped; where it is None, the program, stripped."""
+    built = file.read_bytes()
+    if made is None:
+        return stripped(built)
+    with tempfile.NamedTemporaryFile(suffix=".o") as at:
+        at.write(made)
+        at.flush()
+        try:
+            if portable.as_built(at.name) != built:
+                raise NoProgram(f"the object file isn't that of {file}: the toolchain links another program of it")
+            return stripped(portable.linked(at.name))
+        except portable.NotLinked as fault:
+            raise NoProgram(f"the object file of {file} can't be linked: {fault}") from fault
+
+
 def glibc_of(program):
-    """The version of glibc from which on the program runs: the latest of those whose functions it calls."""
+    """The version of glibc from which on the program runs: the latest of those whose functions it calls, or 2.31, the earliest that it is tried with."""
     rows = list(segments(program))
 
     def place(address):
@@ -105,7 +142,7 @@ def glibc_of(program):
                 found.setdefault(name, value)
     if TEXTS not in found or NEEDS not in found:
         raise NoProgram("a program that needs no version of glibc")
-    texts, at, latest = place(found[TEXTS]), place(found[NEEDS]), (2,)
+    texts, at, latest = place(found[TEXTS]), place(found[NEEDS]), TRIED
     for _ in range(found.get(NEED_COUNT, 0)):
         _, count, _, first, after = struct.unpack_from("<HHIII", program, at)
         one = at + first
