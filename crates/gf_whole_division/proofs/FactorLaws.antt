@@ -1,22 +1,20 @@
 -- Whole numbers among fractions, and multiples of polynomials.
 -- To cite: whole-+, whole-neg, whole_zero, nonzero_whole, nonzero_factor, multiple-same, multiple_refl, multiple_trans, multiple_back, times-coefficient,
 -- multiple_of_times, none_there, irreducible-multiple.
-use Rattle.std.specs.Prelude.{◌≡◌, ◌≢◌, ℕ, zero, suc, ℤ, pos, neg_ℤ, ◌+ℤ◌, ◌*ℤ◌, if◌then◌else◌, Bool, true, false, [], ◌∷◌, ◌++◌}
-use Rattle.std.proofs.Common.{arith, refl, sym, ap, ◌∙◌, subst, inl, inr}
+use Rattle.std.specs.Prelude.{◌≡◌, ◌≢◌, ℕ, suc, ℤ, pos, neg_ℤ, ◌+ℤ◌, ◌*ℤ◌, if◌then◌else◌, [], ◌∷◌}
+use Rattle.std.proofs.Common.{arith, refl, sym, ap, ◌∙◌}
 use Rattle.std.proofs.lemmas.Int.{ints}
 use Rattle.gf_int_theory.specs.Integers.{cancel_factor}
-use Rattle.gf_frac.specs.Fraction.{Fraction, over-is, whole, over, zero_ℚ, one_ℚ, ◌+ℚ◌, ◌*ℚ◌, neg_ℚ, reciprocal_ℚ}
-use Rattle.gf_frac.proofs.FractionLaws.{over-+, over-neg, num_by_zero, zero-+ℚ, +ℚ-zero, *ℚ-zero}
-use Rattle.gf_frac.proofs.FractionLaws.{zero-*ℚ, one-*ℚ, *ℚ_assoc, *ℚ-+ℚ, zero-not-one, reciprocal_ℚ-*ℚ}
-use Rattle.gf_exponents_theory.specs.Exponents.{Exponents, same}
-use Rattle.gf_poly.specs.declared.Term.{Term}
+use Rattle.gf_frac.specs.Fraction.{Fraction, over-is, whole, zero_ℚ, one_ℚ, ◌+ℚ◌, ◌*ℚ◌, neg_ℚ, reciprocal_ℚ}
+use Rattle.gf_frac.proofs.FractionLaws.{over-+, over-neg, num_by_zero, zero-+ℚ, *ℚ-zero}
+use Rattle.gf_frac.proofs.FractionLaws.{one-*ℚ, *ℚ_assoc, zero-not-one, reciprocal_ℚ-*ℚ}
+use Rattle.gf_exponents_theory.specs.Exponents.{Exponents}
 use Rattle.gf_poly.specs.Polynomial.{Terms, coefficient, SamePolynomial, times}
 use Rattle.gf_poly.specs.Products.{IsScaled}
 use Rattle.gf_poly.specs.Marking.{MarkedPolynomial}
 use Rattle.gf_poly.proofs.MarkingLaws.{nonzero_reciprocal}
-use Rattle.gf_poly.proofs.PolynomialLaws.{coefficient-times, coefficient-++}
+use Rattle.gf_poly.proofs.PolynomialLaws.{coefficient-times}
 use Rattle.gf_poly.proofs.ProductLaws.{nonzero_product}
-use Rattle.gf_ideal_theory.specs.Membership.{HasMonomial}
 use Rattle.gf_ideal_theory.specs.Reduction.{IsIrreducible}
 use Rattle.gf_ideal_theory.proofs.Identities.{whole-*}
 use Rattle.gf_whole_division.specs.Values.{HasNone, IsMultipleOf}

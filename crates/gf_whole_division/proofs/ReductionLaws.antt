@@ -1,29 +1,36 @@
 -- Steps up to a factor.
 -- To cite: keeps_refl, keeps_trans, keeps_same, keeps_divided, added_parts, moved_last, coefficient_last, step_kept, divided_parts, remainder_reached,
 -- pair_start, pair_started,
--- passed, added, plain_times, divided_lists, member_there, reduce_kept, remainder_left, empty_remainder, keeps_first, keeps_pair,
+-- passed, added, plain_times, divided_lists, divided_at, member_there, reduce_kept, remainder_left, empty_remainder, keeps_first, keeps_pair,
 -- not_zero, multiple_empty, more_variables, pair_formed, start_multiple, no_items.
 use Rattle.std.specs.Prelude.{◌≡◌, ◌≢◌, ◌↔◌, IsTrue, false, ℕ, ◌+◌, ◌<◌, ℤ, pos}
-use Rattle.std.specs.Prelude.{neg_ℤ, ◌*ℤ◌, true, List, [], ◌∷◌, ◌++◌, length, Contains, if◌then◌else◌, Bool}
-use Rattle.std.proofs.Common.{arith, refl, sym, ap, ◌∙◌, append_assoc, subst, get_or, take}
+use Rattle.std.specs.Prelude.{neg_ℤ, true, List, [], ◌∷◌, ◌++◌, length, Contains, None, if◌then◌else◌, Bool}
+use Rattle.std.proofs.Common.{arith, refl, sym, ap, ◌∙◌, subst, get_or, take}
 use Rattle.std.proofs.lemmas.List.{get_or_default, take_more}
 use Rattle.gf_frac.specs.Fraction.{Fraction, whole, ◌+ℚ◌, ◌*ℚ◌, neg_ℚ, zero_ℚ, one_ℚ}
 use Rattle.gf_frac.proofs.FractionLaws.{+ℚ_comm, +ℚ_assoc, +ℚ-zero, zero-+ℚ, *ℚ_comm, *ℚ_assoc}
 use Rattle.gf_frac.proofs.FractionLaws.{*ℚ-+ℚ, *ℚ-zero, neg_ℚ-*ℚ, *ℚ-neg_ℚ, one-*ℚ, *ℚ-one, zero-not-one}
-use Rattle.gf_exponents_theory.specs.Exponents.{Exponents, same, plus, join, Divides}
+use Rattle.gf_exponents_theory.specs.Exponents.{Exponents, plus, join, Divides}
 use Rattle.gf_exponents_theory.proofs.ExponentsLaws.{plus-nil, same-refl, same_of}
 use Rattle.gf_poly.specs.declared.Term.{Term}
 use Rattle.gf_poly.specs.Polynomial.{Terms, coefficient, SamePolynomial, times, HasVariables, KeepsVariables}
 use Rattle.gf_poly.specs.Marking.{MarkedPolynomial, HasMarkedTerm}
 use Rattle.gf_poly.specs.Products.{IsScaled}
-use Rattle.gf_poly.proofs.PolynomialLaws.{coefficient-++, coefficient-factor, times-times, times-++, times-plain, SamePolynomial-times, coefficient-same}
+use Rattle.gf_poly.proofs.PolynomialLaws.{coefficient-++, coefficient-factor, times-times, times-++, times-plain, SamePolynomial-times}
 use Rattle.gf_poly.proofs.DescendingLaws.{HasVariables-push}
 use Rattle.gf_poly.proofs.ProductLaws.{nonzero_product, HasVariables-at}
-use Rattle.gf_ideal_theory.specs.Reduction.{IsStep, Reached, IsSPolynomial, IsIrreducible}
-use Rattle.gf_ideal_theory.proofs.StepLaws.{reached-here, reached-next, reached_trans}
+use Rattle.gf_ideal_theory.specs.NormalForms.{IsRuleReached}
+use Rattle.gf_ideal_theory.specs.Reduction.{IsStep, Reached, IsIrreducible}
+use Rattle.gf_ideal_theory.specs.Settled.{IsAt}
+use Rattle.gf_ideal_theory.proofs.StepLaws.{reached-here, reached_trans}
 use Rattle.gf_ideal_theory.proofs.Identities.{whole-*}
-use Rattle.gf_division.specs.Remainders.{IsRemainder}
-use Rattle.gf_division.proofs.ReducerLaws.{member_at, member_contained}
+use Rattle.gf_division.specs.Reducers.{IsFirstFor}
+use Rattle.gf_division.specs.Remainders.{ReachedBeside}
+use Rattle.gf_division.proofs.FirstStepLaws.{IsFirstReached}
+use Rattle.gf_division.proofs.NormalFormExists.{normal_form-of_first}
+use Rattle.gf_division.proofs.ReducerLaws.{NoneDivides, member_contained}
+use Rattle.gf_division.proofs.RemainderLaws.{reached_by}
+use Rattle.gf_division.proofs.RuleLaws.{no_multiple}
 use Rattle.gf_division.specs.SPolynomials.{AreLcmCofactors, KeepsPairVariables}
 use Rattle.gf_division.proofs.StepLaws.{head_length}
 use Rattle.gf_whole.specs.Common.{IsCommonTo}
@@ -110,9 +117,10 @@ factors l g s u c k a h e =
     turned u g s = sym (*ℚ_assoc u g s) ∙ *ℚ_comm (u *ℚ g) s ∙ ap (λ z. s *ℚ z) (*ℚ_comm u g)
 
 pub step_kept : (bs : List MarkedPolynomial) (b : MarkedPolynomial) (old new : Terms) (t : WholeTerm) (p : List WholeTerm) (l g s u : ℤ) (x : Exponents) →
-    Contains bs b → IsWholeMultiple l p b.poly → IsCommonTo l t.coef g s u → t.coef ≢ pos 0 → coefficient old t.mono ≡ whole t.coef → plus x b.head ≡ t.mono →
+    IsFirstFor bs t.mono b → IsWholeMultiple l p b.poly → IsCommonTo l t.coef g s u → t.coef ≢ pos 0 → coefficient old t.mono ≡ whole t.coef →
+    plus x b.head ≡ t.mono →
     SamePolynomial new (times (whole s) [] old ++ times (whole (neg_ℤ u)) x (whole_terms p)) → KeepsReached bs old new
-step_kept bs b old new t p l g s u x inside m common n there product same_new = record { at = kept }
+step_kept bs b old new t p l g s u x first m common n there product same_new = record { at = kept }
   where
     kept : (f : Terms) → IsMultipleReached bs f old → IsMultipleReached bs f new
     kept f r =
@@ -125,14 +133,14 @@ step_kept bs b old new t p l g s u x inside m common n there product same_new = 
           at = t.mono;
           member = b;
           rest = x;
-          contained = inside;
+          contained = member_contained bs first.place b first.at;
           there = nz;
           divides = same_of t.mono (plus x b.head) (sym product);
           equal = λ e. refl;
         } in
         record {
           poly = next;
-          reached = reached-next (Contains bs) f r.poly next r.reached step;
+          reached = ReachedBeside.next r.poly next r.reached step tt first;
           multiple = record {
             factor = whole s *ℚ k;
             nonzero = nonzero_product (whole s) k (nonzero_whole s (nonzero_factor l g s m.nonzero common.first)) r.multiple.nonzero;
@@ -152,21 +160,42 @@ step_kept bs b old new t p l g s u x inside m common n there product same_new = 
 
 -- ---- the beginning and the end
 
+-- steps by first members, up to equal polynomials
+first_along : (bs : List MarkedPolynomial) (f g h : Terms) → SamePolynomial g h → IsFirstReached bs f g → IsFirstReached bs f h
+first_along bs f g h s (IsFirstReached.here k e) = IsFirstReached.here h (λ x. e x ∙ s x)
+first_along bs f g h s (IsFirstReached.next k l r t) = IsFirstReached.next k h r (record {
+  step = record {
+    at = t.step.at;
+    member = t.step.member;
+    rest = t.step.rest;
+    contained = t.step.contained;
+    there = t.step.there;
+    divides = t.step.divides;
+    equal = λ x. sym (s x) ∙ t.step.equal x;
+  };
+  first = t.first;
+})
+
+first_reached : (bs : List MarkedPolynomial) (f g : Terms) → ReachedBeside bs None f g → IsFirstReached bs f g
+first_reached bs f _ ReachedBeside.here = IsFirstReached.here f (λ x. refl)
+first_reached bs f _ (ReachedBeside.next g h r s b d) = IsFirstReached.next g h (first_reached bs f g r) (record { step = s; first = d })
+
 -- what is left, divided by a number, is a multiple of a remainder
 pub remainder_reached : (bs : List MarkedPolynomial) (f start left p : Terms) → KeepsReached bs start left → IsIrreducible (Contains bs) left →
     IsMultipleOf left p → IsMultipleOf f start → IsRemainderMultiple bs f p
 remainder_reached bs f start left p k i m s =
-    let r : IsMultipleReached bs f left = k.at f (record { poly = f; reached = reached-here (Contains bs) f; multiple = s }) in
+    let r : IsMultipleReached bs f left = k.at f (record { poly = f; reached = ReachedBeside.here; multiple = s }) in
     let back : IsMultipleOf p r.poly = multiple_back r.poly p (multiple_trans r.poly left p r.multiple m) in
     let rest : Terms = times back.factor [] p in
     let eq : SamePolynomial r.poly rest = λ e. back.scaled e ∙ sym (times-coefficient back.factor p e) in
+    let none : IsIrreducible (Contains bs) rest =
+    irreducible-multiple (Contains bs) rest left (multiple_trans rest r.poly left (multiple_refl rest r.poly eq) r.multiple) i in
     record {
       factor = back.factor;
       nonzero = back.nonzero;
-      is = record {
-        reached = reached_trans (Contains bs) f r.poly rest r.reached (Reached.here rest eq);
-        irreducible = irreducible-multiple (Contains bs) rest left (multiple_trans rest r.poly left (multiple_refl rest r.poly eq) r.multiple) i;
-      };
+      is = record { reached = reached_trans (Contains bs) f r.poly rest (reached_by bs None f r.poly r.reached) (Reached.here rest eq); irreducible = none };
+      normal_form =
+          λ h. normal_form-of_first bs h.0 f rest h.1 (first_along bs f r.poly rest eq (first_reached bs f r.poly r.reached)) none;
     }
 
 -- multiples of two members that make one of their S-polynomial
@@ -243,9 +272,20 @@ divided_lists k f g a b h l ea eb n eh el =
     divided_parts (whole k) (whole_terms f) (whole_terms g) (whole_terms h) (whole_terms l) (nonzero_whole k n) (ap whole_terms (sym ea) ∙ eh)
     (ap whole_terms (sym eb) ∙ el)
 
+-- the mark at the place j divides x, and none before it
+pub divided_at : (bs : List MarkedPolynomial) (x h : Exponents) (j : ℕ) (b : MarkedPolynomial) → IsAt bs j b → h ≡ b.head → length h ≡ length x →
+    Divides h x → NoneDivides bs j x → IsDividedAt bs x j
+divided_at bs x h j b a e l d k = record {
+  member = b;
+  at = a;
+  variables = ap length (sym e) ∙ l;
+  divides = subst (λ (y : Exponents). Divides y x) e d;
+  first = k.none;
+}
+
 -- the member that is found, as it is read
 pub record IsMemberFor (bs : List MarkedPolynomial) (x : Exponents) (b : MarkedPolynomial) : Type 0 where
-  pub contained : Contains bs b
+  pub first : IsFirstFor bs x b
   pub variables : length b.head ≡ length x
   pub divides : Divides b.head x
 
@@ -254,7 +294,7 @@ pub member_there : (bs : List MarkedPolynomial) (x y : Exponents) (j : ℕ) (b :
 member_there bs x y j b ex d e =
     let same_member : d.member ≡ b = sym d.at.is ∙ get_or_default bs j d.member b d.at.within ∙ sym e in
     subst (λ (z : Exponents). IsMemberFor bs z b) ex (subst (IsMemberFor bs y) same_member (record {
-      contained = member_contained bs j d.member d.at;
+      first = record { place = j; at = d.at; before = λ i c l m. no_multiple c.head y (d.first i c l m) };
       variables = d.variables;
       divides = d.divides;
     }))
@@ -262,12 +302,12 @@ member_there bs x y j b ex d e =
 -- the step at the last term that waits
 pub reduce_kept : (bs : List MarkedPolynomial) (b : MarkedPolynomial) (done rest left : List WholeTerm) (new : Terms) (t : WholeTerm) (p : List WholeTerm)
     (l g s u k : ℤ) (x h : Exponents) →
-    Contains bs b → IsWholeMultiple l p b.poly → IsCommonTo l t.coef g s u → t.coef ≢ pos 0 → rest ≡ left ++ t ∷ [] → HasNone t.mono (whole_terms done) →
-    HasNone t.mono (whole_terms left) → h ≡ b.head → plus x h ≡ t.mono → k ≡ neg_ℤ u →
+    IsFirstFor bs t.mono b → IsWholeMultiple l p b.poly → IsCommonTo l t.coef g s u → t.coef ≢ pos 0 → rest ≡ left ++ t ∷ [] →
+    HasNone t.mono (whole_terms done) → HasNone t.mono (whole_terms left) → h ≡ b.head → plus x h ≡ t.mono → k ≡ neg_ℤ u →
     SamePolynomial new (times (whole s) [] (whole_terms done ++ whole_terms rest) ++ times (whole k) x (whole_terms p)) →
     KeepsReached bs (whole_terms done ++ whole_terms rest) new
-reduce_kept bs b done rest left new t p l g s u k x h inside m common n er hd hl eh product ek sum =
-    step_kept bs b (whole_terms done ++ whole_terms rest) new t p l g s u x inside m common n
+reduce_kept bs b done rest left new t p l g s u k x h first m common n er hd hl eh product ek sum =
+    step_kept bs b (whole_terms done ++ whole_terms rest) new t p l g s u x first m common n
     (ap (λ (z : List WholeTerm). coefficient (whole_terms done ++ whole_terms z) t.mono) er
     ∙ ap (λ (z : Terms). coefficient (whole_terms done ++ z) t.mono) (values_push left t)
     ∙ coefficient_last (whole_terms done) (whole_terms left) (term_value t) hd hl)
@@ -292,6 +332,7 @@ empty_remainder bs f p ef ep = subst (λ (z : Terms). IsRemainderMultiple bs z p
   factor = one_ℚ;
   nonzero = λ z. zero-not-one (sym z);
   is = record { reached = reached-here (Contains bs) []; irreducible = λ x h d. h refl };
+  normal_form = λ h. record { reached = IsRuleReached.here [] (λ e. refl); irreducible = λ x h d. h refl };
 }))
 
 -- a polynomial in the variables of the first term, or of a mark

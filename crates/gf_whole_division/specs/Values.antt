@@ -1,11 +1,10 @@
 -- Terms with whole coefficients, as the polynomials that they stand for, and polynomials up to a factor.
 -- Laws: proofs/ValueLaws.antt.
-use Rattle.std.specs.Prelude.{◌≡◌, ◌≢◌, ℤ, pos, List, [], ◌∷◌, map, false, None, Some}
-use Rattle.std.specs.declared.option.Option.{Option}
+use Rattle.std.specs.Prelude.{◌≡◌, ◌≢◌, ℤ, pos, List, map, false}
 use Rattle.gf_frac.specs.Fraction.{Fraction, whole, zero_ℚ}
 use Rattle.gf_exponents_theory.specs.Exponents.{Exponents, same}
 use Rattle.gf_poly.specs.declared.Term.{Term}
-use Rattle.gf_poly.specs.Polynomial.{Terms, coefficient}
+use Rattle.gf_poly.specs.Polynomial.{Terms}
 use Rattle.gf_poly.specs.Products.{IsScaled}
 use Rattle.gf_poly.specs.Marking.{Each}
 use Rattle.gf_whole_division.specs.declared.terms.WholeTerm.{WholeTerm}

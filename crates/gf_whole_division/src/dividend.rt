@@ -1,8 +1,8 @@
 //! A polynomial under reduction, up to a factor.
 
-ghost use Rattle.std.specs.Prelude.{◌≡◌, ◌↔◌, ◌++◌, ◌∷◌, [], ◌<◌, ◌-◌, length, pos, IfSome, OnOk, IsTrue};
+ghost use Rattle.std.specs.Prelude.{◌≡◌, ◌↔◌, ◌++◌, ◌∷◌, [], ◌<◌, ◌-◌, length, pos, IfOk, IfSome, OnOk, IsTrue};
 ghost use Rattle.gf_frac.specs.Fraction.{whole};
-ghost use Rattle.gf_exponents_theory.specs.Exponents.{Divides};
+ghost use Rattle.gf_exponents_theory.specs.Exponents.{Divides, degree as total_degree};
 ghost use Rattle.gf_poly.specs.Polynomial.{SamePolynomial, times};
 ghost use Rattle.gf_whole_division.specs.Values.{whole_terms, HasNone, IsMultipleOf};
 ghost use Rattle.gf_whole_division.specs.Reductions.{IsDividedAt, KeepsReached, terms_of};
@@ -23,29 +23,34 @@ pub struct WholeDividend {
     words: usize,
 }
 
-/// Whether the mark of the member divides `x`.
-fn is_divided(x: &Mono, degree: u64, member: &WholeMember) -> bool
-    ensures { IsTrue result → (length member.now.head ≡ length x.now) × Divides member.now.head x.now }
+/// Whether the mark divides `x`, whose degree is given: a mark of greater degree doesn't.
+fn is_divided(x: &Mono, degree: u64, mark: &Mono) -> bool
+    requires variables { length mark.now ≡ length x.now }
+    requires degree { degree ≡ total_degree x.now }
+    ensures { IsTrue result ↔ Divides mark.now x.now }
 {
-    let mark = member.head();
-    if degree < mark.degree() || mark.exponents().len() != x.exponents().len() {
+    if degree < mark.degree() {
         return false;
     }
     mark.divides(x)
 }
 
-/// The place of the first member whose mark divides `x`.
-pub fn divisor_of(x: &Mono, by: &[WholeMember]) -> Option<usize>
-    ensures { IfSome result (IsDividedAt by.now x.now) }
+/// The place of the first member whose mark divides `x`, if there is one. `Beyond` where a mark before that isn't in the variables of `x`.
+pub fn divisor_of(x: &Mono, by: &[WholeMember]) -> Result<Option<usize>, Beyond>
+    ensures { IfOk result (λ found. IfSome found (IsDividedAt by.now x.now)) }
 {
     let degree = x.degree();
     'members: for j in 0..by.len() {
         let member = &by[j];
-        if is_divided(x, degree, member) {
-            return Some(j);
+        let mark = member.head();
+        if mark.exponents().len() != x.exponents().len() {
+            return Err(Beyond);
+        }
+        if is_divided(x, degree, mark) {
+            return Ok(Some(j));
         }
     }
-    None
+    Ok(None)
 }
 
 /// Whether no term has the monomial `x`.
@@ -136,7 +141,8 @@ impl WholeDividend {
     {
         let last = self.rest.len() - 1;
         let t = &self.rest[last];
-        let Some(j) = divisor_of(&t.mono, by) else {
+        let found = divisor_of(&t.mono, by)?;
+        let Some(j) = found else {
             return self.pass();
         };
         if t.coef.is_zero() {

@@ -154,7 +154,8 @@ fn remainder_of(
     Err(Beyond)
 }
 
-/// A remainder of a polynomial, up to a factor, in 127 bits.
+/// A remainder of a polynomial, up to a factor, in 127 bits: each term is reduced by the first member whose mark divides its monomial. Where some
+/// weight marks the members, it is a multiple of the normal form.
 ///
 /// # Errors
 ///

@@ -1,4 +1,4 @@
-use Rattle.std.proofs.Common.{◌≡◌, ◌≤◌, ◌+◌, ◌-◌, length, []}
+use Rattle.std.proofs.Common.{◌≤◌, ◌+◌, ◌-◌, length, []}
 use Rattle.gf_frac.specs.Fraction.{whole}
 use Rattle.gf_poly.specs.Polynomial.{times}
 use Rattle.gf_whole_division.specs.Values.{whole_terms}
