@@ -1,8 +1,8 @@
 -- Covered pairs: they stay so while members are appended, and where each pair is settled or covered, all are settled.
-use Rattle.std.specs.Prelude.{◌≡◌, ◌≢◌, ◌⊎◌, ℕ, zero, suc, ◌+◌, ◌*◌, ◌-◌, ◌<◌, ◌≤◌, max, min, List, [], ◌∷◌, ◌++◌, length, slice_index_or}
+use Rattle.std.specs.Prelude.{◌≡◌, ◌≢◌, ◌⊎◌, ℕ, zero, suc, ◌+◌, ◌*◌, ◌<◌, ◌≤◌, max, min, List, [], ◌∷◌, ◌++◌, length, slice_index_or}
 use Rattle.std.proofs.Common.{arith, refl, sym, ap, ◌∙◌, subst, inl, inr}
 use Rattle.std.proofs.lemmas.Bool.{cases_lt}
-use Rattle.gf_exponents_theory.specs.Exponents.{Exponents, join, minus, plus, degree}
+use Rattle.gf_exponents_theory.specs.Exponents.{Exponents, join, minus, plus}
 use Rattle.gf_exponents_theory.proofs.ExponentsLaws.{same_of}
 use Rattle.gf_exponents_theory.specs.SixOrders.{MonomialOrder, below_of}
 use Rattle.gf_exponents_theory.proofs.SixOrdersLaws.{order-is}

@@ -8,6 +8,7 @@ pub mod RunLaws  -- the states of a run, one step further
 pub mod AppendLaws  -- a member that is appended
 pub mod CoveredLaws  -- covered pairs, and why they are settled at the end
 pub mod ReducedPairLaws  -- one pair reduced
+pub mod WholeLaws  -- what is left by a reduction in whole numbers
 pub mod RunSteps  -- from one state of a run to the next
 pub mod SettleLaws  -- all pairs of a run
 pub mod GeneratorsOfRuns  -- generators that enter a run

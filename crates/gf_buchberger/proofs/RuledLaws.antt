@@ -1,9 +1,9 @@
 -- Runs by the rule of the program: what refuses one is an operation of it, and where its operations stay within limits only memory may be wanting.
 -- Such a run is a run of Buchberger's algorithm.
 -- To cite: ruled_generators_stop, ruled_stop, ruled_tails_stop, if_within_rule, not_of_numbers; run_of_ruled, ruled_within_limits. The rest are steps.
-use Rattle.std.specs.Prelude.{◌≡◌, ◌⊎◌, ℕ, zero, suc, ◌+◌, ◌<◌, ◌≤◌, Bool, true, false, List, [], ◌∷◌, length, sum_by, slice_index_or, Contains, Result, Ok}
+use Rattle.std.specs.Prelude.{◌≡◌, ℕ, zero, suc, ◌<◌, ◌≤◌, Bool, true, false, List, [], ◌∷◌, length, sum_by, slice_index_or, Result, Ok}
 use Rattle.std.specs.Prelude.{Err, IfErr}
-use Rattle.std.proofs.Common.{arith, refl, sym, ap, ◌∙◌, subst, inl, inr}
+use Rattle.std.proofs.Common.{arith, refl, sym, ap, subst, inl, inr}
 use Rattle.std.proofs.lemmas.List.Sums.{sum_by-cons}
 use Rattle.gf_frac.specs.Fraction.{Fraction}
 use Rattle.gf_frac.specs.declared.refusal.Op.{Op}
@@ -12,7 +12,7 @@ use Rattle.gf_int_theory.proofs.ListLaws.{Contains-here}
 use Rattle.gf_poly.specs.declared.error.PolyError.{PolyError}
 use Rattle.gf_poly.specs.declared.error.PolyError.TheVariants as errors
 use Rattle.gf_poly.specs.Polynomial.{Terms}
-use Rattle.gf_poly.specs.Marking.{MarkedPolynomial, MarkedPolynomials}
+use Rattle.gf_poly.specs.Marking.{MarkedPolynomials}
 use Rattle.gf_ideal_theory.specs.NormalForms.{IsNormalForm}
 use Rattle.gf_ideal_theory.specs.WorkLists.{IsOrigin, IsWorkList, IsRunOperation, IsRunExponents}
 use Rattle.gf_ideal_theory.proofs.DividingLaws.{member_contained}

@@ -1,6 +1,6 @@
 -- Where Buchberger's algorithm stands: the list of members, the marks of their pairs, the pairs that wait.
 -- Laws: proofs/RunLaws.antt. Source: Becker, Weispfenning, Gröbner Bases, 5.5 (criteria, and what settles a pair).
-use Rattle.std.specs.Prelude.{◌≡◌, ◌≢◌, ◌⊎◌, ℕ, ◌+◌, ◌<◌, ◌≤◌, true, false, List, [], ◌∷◌, ◌++◌, length, Contains, MatchOption}
+use Rattle.std.specs.Prelude.{◌≡◌, ◌≢◌, ◌⊎◌, ℕ, ◌+◌, ◌<◌, ◌≤◌, true, List, [], ◌∷◌, ◌++◌, length, Contains, MatchOption}
 use Rattle.std.specs.declared.option.Option.{Option}
 use Rattle.gf_frac.specs.Fraction.{Fraction}
 use Rattle.gf_frac.specs.declared.refusal.Op.{Op}
@@ -23,14 +23,12 @@ use Rattle.gf_division.specs.NormalForms.{HasSomeWeight}
 use Rattle.gf_division.specs.Steps.{IsReductionRefusal}
 use Rattle.gf_division.specs.SPolynomials.{IsMonicPairRefusal}
 use Rattle.gf_buchberger.specs.declared.runs.Run.{Run}
-use Rattle.gf_buchberger.specs.declared.runs.Stop.{Stop}
-use Rattle.gf_buchberger.specs.declared.runs.Stop.TheVariants as stops
 use Rattle.gf_buchberger.specs.declared.queue.Waiting.{Waiting}
 use Rattle.gf_buchberger.specs.declared.queue.Strategy.{Strategy}
 use Rattle.gf_buchberger.specs.Keys.{IsKeyOf}
 use Rattle.gf_buchberger.specs.Jobs.{IsBasisJob}
 use Rattle.gf_buchberger.specs.Covered.{IsCovered}
-use Rattle.gf_buchberger.specs.Pairs.{PairMarks, IsPairTable, is_settled, settled_count, with_settled, with_member}
+use Rattle.gf_buchberger.specs.Pairs.{PairMarks, IsPairTable, is_settled, with_settled, with_member}
 
 -- ---- members
 
@@ -218,19 +216,23 @@ pub record IsReducedPair (order : MonomialOrder) (old new : State) (i j : ℕ) :
   pub variables : (n : ℕ) → MembersHaveVariables n old.members → HasVariables n r
   pub left : ((r ≡ []) × (new ≡ old)) ⊎ ((r ≢ []) × IsAppended order r old new)
 
--- what is left of the S-polynomial of the members at i and j
-pub record IsLeftOfPair (order : MonomialOrder) (at : State) (i j : ℕ) (left : Option MarkedPolynomial) : Type 0 where
+-- what is left of the S-polynomial of the members of bs at i and j
+pub record IsLeftOfMembers (order : MonomialOrder) (bs : List MarkedPolynomial) (i j : ℕ) (left : Option MarkedPolynomial) : Type 0 where
   pub b : MarkedPolynomial
   pub c : MarkedPolynomial
-  pub at_i : IsAt at.members i b
-  pub at_j : IsAt at.members j c
+  pub at_i : IsAt bs i b
+  pub at_j : IsAt bs j c
   pub s : Terms
   pub is_s : IsSPolynomial b c s
   pub r : Terms
-  pub normal : IsRemainder at.members s r
-  pub rule : IsNormalForm at.members s r
-  pub variables : (n : ℕ) → MembersHaveVariables n at.members → HasVariables n r
+  pub normal : IsRemainder bs s r
+  pub rule : IsNormalForm bs s r
+  pub variables : (n : ℕ) → MembersHaveVariables n bs → HasVariables n r
   pub is_left : IsLeftMember order r left
+
+-- those of a state
+abbrev pub IsLeftOfPair : MonomialOrder → State → ℕ → ℕ → Option MarkedPolynomial → Type 0
+IsLeftOfPair order at i j = IsLeftOfMembers order at.members i j
 
 -- the pair is excused, and nothing was done, or it was reduced
 abbrev pub IsPairWorkedOff : MonomialOrder → State → State → ℕ → ℕ → Type 0

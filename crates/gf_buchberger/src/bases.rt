@@ -2,6 +2,7 @@
 
 ghost use Rattle.std.specs.Prelude.{◌≡◌, IfOk, IfErr};
 ghost use Rattle.gf_order.specs.Comparisons.{HasEntries};
+ghost use Rattle.gf_poly.specs.Marking.{HaveVariables};
 ghost use Rattle.gf_ideal_theory.specs.Bases.{AreArranged};
 ghost use Rattle.gf_ideal_theory.specs.Marks.{HasPositiveWeight, IsRealisable};
 ghost use Rattle.gf_division.specs.Autoreduction.{IsAutoreduced, IsReducedOf, IsAutoreductionRefusal};
@@ -13,7 +14,8 @@ ghost use Rattle.gf_buchberger.specs.Jobs.{HaveRingVariables, IsSuited, IsBasisJ
 ghost use Rattle.gf_buchberger.specs.Runs.{MembersHaveVariables};
 
 use crate::generators::entered;
-use crate::guides::guide_of;
+use crate::guides::{guide_of, ranking_of};
+use crate::members::Members;
 use crate::queue::Strategy;
 use crate::runs::{Numbers, Run, Stop, settle_all};
 use gf_division::{Guide, autoreduce_by};
@@ -57,6 +59,14 @@ pub fn refused(refusal: PolyError) -> BasisError
     }
 }
 
+/// The members of a run, as a set in `n` variables.
+fn set_of(n: u32, members: Members) -> MarkedSet
+    requires { HaveVariables n members.items }
+    ensures { result ≡ record { variables = n; items = members.items } }
+{
+    MarkedSet::new(n, members.into_marked())
+}
+
 /// The answer of a run whose budget is spent.
 fn spent(alloc: Global, n: u32, run: Run) -> BasisError
     requires { MembersHaveVariables n run.members.items }
@@ -64,7 +74,7 @@ fn spent(alloc: Global, n: u32, run: Run) -> BasisError
 {
     match run.table.unsettled(alloc) {
         Ok(unsettled) => BasisError::PairBudget {
-            basis: MarkedSet::new(n, run.members),
+            basis: set_of(n, run.members),
             unsettled: Pairs::new(unsettled),
         },
         Err(_) => BasisError::Memory,
@@ -131,7 +141,11 @@ pub fn run_by(
         Ok(guide) => guide,
         Err(_) => return Err(BasisError::Memory),
     };
-    let start = match entered(alloc, job.set, job.order, strategy, numbers, guide) {
+    let ranking = match &numbers {
+        Numbers::Narrow => None,
+        Numbers::Wide(_) => ranking_of(alloc, job.n, job.order),
+    };
+    let start = match entered(alloc, job.set, job.order, strategy, numbers, guide, ranking) {
         Ok(start) => start,
         Err(refusal) => return Err(refused(refusal)),
     };
@@ -145,7 +159,7 @@ pub fn run_by(
         numbers,
         ..
     } = run;
-    let members = MarkedSet::new(job.n, members);
+    let members = set_of(job.n, members);
     match interreduced(alloc, &members, &mut guide, &numbers) {
         Ok(basis) => Ok(basis),
         Err(refusal) => Err(refused(refusal)),

@@ -81,25 +81,40 @@ fn is_covering(x: &Mono, y: &Mono, multiple: &Mono, z: &Mono, i: usize, j: usize
     are_coprime_or_below(x, z, i, k, rank) && are_coprime_or_below(z, y, k, j, rank)
 }
 
-/// Which members are redundant: for each the place of a later one whose mark divides its mark, or its own place where there was none.
+/// What is told of a monomial at a glance: a monomial divides another one only if each bit of its mask is one of the other's.
+fn mask_of(x: &Mono) -> u64 {
+    let exponents = x.exponents();
+    let bits = (64 / exponents.len().clamp(1, 64)) as u32;
+    let mut mask = 0u64;
+    'variables: for e in exponents {
+        let spare = 64 - bits.min(*e).min(64);
+        let ones = u64::MAX.wrapping_shr(spare);
+        let more = if spare < 64 { ones } else { 0 };
+        mask = mask.wrapping_shl(bits) | more;
+    }
+    mask
+}
+
+/// What is kept of a member.
+#[derive(Clone, Copy)]
+struct Kept {
+    /// The place of a later member whose mark divides its mark, or its own place where there was none.
+    by: usize,
+    /// The mask of its mark.
+    mask: u64,
+}
+
+/// Which members are redundant, since the mark of a later one divides theirs.
 #[derive(Drop)]
 pub struct Redundant {
-    by: Vec<usize>,
+    kept: Vec<Kept>,
 }
 
 impl Redundant {
     /// The list for no members.
     pub fn new(alloc: Global) -> Redundant {
         Redundant {
-            by: Vec::new(alloc),
-        }
-    }
-
-    /// Whether a later member's mark divided that of the one at k.
-    fn has(&self, k: usize) -> bool {
-        match self.by.get(k) {
-            Some(by) => *by != k,
-            None => false,
+            kept: Vec::new(alloc),
         }
     }
 
@@ -112,12 +127,17 @@ impl Redundant {
         requires { MembersHaveVariables (length head.now) members.now }
     {
         let last = members.len();
-        'members: for k in 0..self.by.len().min(last) {
-            if self.by[k] == k && head.divides(members[k].head()) {
-                self.by[k] = last;
+        let mask = mask_of(head);
+        'members: for k in 0..self.kept.len().min(last) {
+            let one = self.kept[k];
+            if one.by == k && mask & !one.mask == 0 && head.divides(members[k].head()) {
+                self.kept[k] = Kept {
+                    by: last,
+                    mask: one.mask,
+                };
             }
         }
-        self.by.push(last)?;
+        self.kept.push(Kept { by: last, mask })?;
         Ok(())
     }
 
@@ -151,13 +171,18 @@ impl Redundant {
         requires multiple { IsMultipleOf members.now i j multiple.now }
         ensures { IsTrue result → IsCovered members.now i j }
     {
-        if let Some(by) = self.by.get(i) {
-            if Redundant::covers_at(members, multiple, i, j, *by) {
+        if let Some(first) = self.kept.get(i) {
+            if Redundant::covers_at(members, multiple, i, j, first.by) {
                 return true;
             }
         }
-        'members: for k in 0..members.len() {
-            if !self.has(k) && Redundant::covers_at(members, multiple, i, j, k) {
+        let beyond = !mask_of(multiple);
+        'members: for k in 0..self.kept.len() {
+            let one = self.kept[k];
+            if one.by == k
+                && one.mask & beyond == 0
+                && Redundant::covers_at(members, multiple, i, j, k)
+            {
                 return true;
             }
         }

@@ -1,10 +1,11 @@
-//! The order of a run, as one that tells which terms a long reduction takes first, in narrow or in wide numbers.
+//! The order of a run, as one that tells which terms a long reduction takes first, in narrow, in wide or in whole numbers.
 
 ghost use Rattle.gf_order.specs.Comparisons.{HasEntries};
 
 use gf_division::Guide;
 use gf_order::Order;
 use gf_poly::ROOM;
+use gf_whole_division::Ranking;
 use gf_wide_division::Precedence;
 use std::alloc::{AllocError, Global};
 
@@ -50,4 +51,14 @@ pub fn precedence_of(alloc: Global, n: u32, order: &Order) -> Result<Precedence,
 {
     let weights = weights(alloc, n as usize, order)?;
     Ok(Precedence::by(weights, order.is_by_revlex()))
+}
+
+/// The order of a run in `n` variables, as a ranking of the terms of reductions in whole numbers; none if memory runs out.
+pub fn ranking_of(alloc: Global, n: u32, order: &Order) -> Option<Ranking>
+    requires { HasEntries n order.now }
+{
+    match weights(alloc, n as usize, order) {
+        Ok(weights) => Some(Ranking::by(weights, order.is_by_revlex())),
+        Err(_) => None,
+    }
 }

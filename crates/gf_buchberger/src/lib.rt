@@ -14,6 +14,7 @@ mod homogeneity;
 mod laws;
 mod leading;
 mod left;
+mod members;
 mod pairs;
 mod queue;
 mod runs;

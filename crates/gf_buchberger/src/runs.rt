@@ -7,24 +7,27 @@ ghost use Rattle.gf_ideal_theory.specs.Reduction.{HasOneMonomial};
 ghost use Rattle.gf_buchberger.specs.Covered.{IsCovered};
 ghost use Rattle.gf_buchberger.specs.Progress.{IsWorkedThrough, IsStop};
 ghost use Rattle.gf_buchberger.specs.Runs.{AreReducers, IsMultipleAt, IsReducedPair, IsPairWorkedOff, IsSettlingRefusal, AreComparable};
-ghost use Rattle.gf_buchberger.specs.Runs.{MembersHaveSomeVariables, state_of, IsState, PairsPushed, IsJoinable, IsJoined, IsTakenUp, IsLeftOfPair};
+ghost use Rattle.gf_buchberger.specs.Runs.{MembersHaveSomeVariables, state_of, IsState, PairsPushed, IsJoinable, IsJoined, IsTakenUp};
+ghost use Rattle.gf_buchberger.specs.Runs.{IsLeftOfPair, IsLeftOfMembers};
 ghost use Rattle.gf_buchberger.specs.Runs.{CountsAsSettled, IsChain, IsExcused, IsSettledBy, IsSomeRun};
 
 use crate::covered::Redundant;
 use crate::left::{left_of, left_of_wide};
+use crate::members::{Members, Multiples};
 use crate::pairs::PairTable;
 use crate::queue::{Queue, Strategy, Waiting};
 use crate::sugars::Sugars;
 use gf_division::{Guide, remainder, s_poly};
 use gf_order::Order;
 use gf_poly::{Marked, Mono, PolyError};
+use gf_whole_division::{Ranking, whole_remainder_of_pair};
 use gf_wide_division::{Beyond, Precedence, wide_remainder_of_pair};
 use std::alloc::{AllocError, Global};
 
 /// The members so far, the marks of their pairs, and the pairs that wait.
 #[derive(Drop)]
 pub struct Run {
-    pub members: Vec<Marked>,
+    pub members: Members,
     pub table: PairTable,
     pub queue: Queue,
     pub strategy: Strategy,
@@ -39,7 +42,8 @@ pub struct Run {
 pub enum Numbers {
     /// By fractions of 128 bits.
     Narrow,
-    /// By fractions of 512 bits where those of 128 bits overflow, with the order in which terms are reduced then.
+    /// Once coefficients are long by whole numbers of 512 bits; else by fractions of 128 bits, and by those of 512 bits where they overflow, with the
+    /// order in which terms are reduced then.
     Wide(Precedence),
 }
 
@@ -114,16 +118,52 @@ fn push_pairs(
     Ok(())
 }
 
+/// What is left of the S-polynomial of the members at i and j, reduced by these whole multiples: nothing where the remainder is zero, else its monic
+/// form in 128 bits, marked at its greatest monomial. None where a number leaves its range, or if memory runs out.
+fn left_by_multiples(
+    alloc: Global,
+    order: &Order,
+    by: &Multiples,
+    i: usize,
+    j: usize,
+) -> Option<Option<Marked>>
+    requires first { i < length by.now.members.items }
+    requires second { j < length by.now.members.items }
+    requires reducers { AreReducers order.now by.now.members.items }
+    ensures { IfSome result (IsLeftOfMembers order.now by.now.members.items i j) }
+{
+    let found = whole_remainder_of_pair(
+        alloc,
+        &by.members[i],
+        &by.members[j],
+        &by.members,
+        &by.ranking,
+    );
+    let Ok(r) = found else {
+        return None;
+    };
+    match left_of(order, r) {
+        Ok(left) => Some(left),
+        Err(_) => None,
+    }
+}
+
 impl Run {
-    /// The run that has no members yet.
-    pub fn new(alloc: Global, strategy: Strategy, numbers: Numbers, guide: Guide) -> Run
+    /// The run that has no members yet. With an order of terms it reduces by whole multiples of its members, once their coefficients are long.
+    pub fn new(
+        alloc: Global,
+        strategy: Strategy,
+        numbers: Numbers,
+        guide: Guide,
+        ranking: Option<Ranking>,
+    ) -> Run
         ensures members { result.members.items ≡ [] }
         ensures table { result.table ≡ record { members = 0; marks = [] } }
         ensures queue { result.queue ≡ [] }
         ensures strategy { result.strategy ≡ strategy }
     {
         Run {
-            members: Vec::new(alloc),
+            members: Members::new(alloc, ranking),
             table: PairTable::new(alloc),
             queue: Queue::new(alloc),
             strategy,
@@ -139,7 +179,7 @@ impl Run {
     /// # Errors
     ///
     /// `Memory` if memory runs out, or if there are 2^32 - 1 members already; no other.
-    fn append(&mut self, order: &Order, member: Marked) -> Result<(), PolyError>
+    fn append(&mut self, alloc: Global, order: &Order, member: Marked) -> Result<(), PolyError>
         requires state { IsState (state_of self.old) }
         requires variables { IsJoinable order.now member self.old.members.items }
         ensures ok { OnOk result (IsJoined order.now member (state_of self.old) (state_of self.new)) }
@@ -150,14 +190,14 @@ impl Run {
             return Err(PolyError::Memory);
         }
         let excess = self.sugars.add(self.strategy, member.head())?;
-        self.redundant.add(&self.members, member.head())?;
+        self.redundant.add(self.members.marked(), member.head())?;
         self.table.add_member()?;
-        self.members.push(member)?;
+        self.members.push(alloc, member)?;
         push_pairs(
             &mut self.queue,
             self.strategy,
             order,
-            &self.members,
+            self.members.marked(),
             &self.sugars,
             &self.redundant,
             second as usize,
@@ -171,14 +211,19 @@ impl Run {
     /// # Errors
     ///
     /// `Memory` if memory runs out, or if there are 2^32 - 1 members already; no other.
-    pub fn take_up(&mut self, order: &Order, left: Option<Marked>) -> Result<(), PolyError>
+    pub fn take_up(
+        &mut self,
+        alloc: Global,
+        order: &Order,
+        left: Option<Marked>,
+    ) -> Result<(), PolyError>
         requires state { IsState (state_of self.old) }
         requires variables { IfSome left (λ b. IsJoinable order.now b self.old.members.items) }
         ensures ok { OnOk result (IsTakenUp order.now left (state_of self.old) (state_of self.new)) }
         ensures cause { IfErr result (λ e. e ≡ Memory) }
     {
         match left {
-            Some(member) => self.append(order, member),
+            Some(member) => self.append(alloc, order, member),
             None => Ok(()),
         }
     }
@@ -195,8 +240,8 @@ impl Run {
         let (lower, upper) = if p < q { (p, q) } else { (q, p) };
         self.table.is_settled(lower, upper)
             || are_coprime(
-                self.members[p as usize].head(),
-                self.members[q as usize].head(),
+                self.members.at(p as usize).head(),
+                self.members.at(q as usize).head(),
             )
     }
 
@@ -214,7 +259,7 @@ impl Run {
         if k == i || k == j {
             return false;
         }
-        if !self.members[k as usize].head().divides(multiple) {
+        if !self.members.at(k as usize).head().divides(multiple) {
             return false;
         }
         self.counts(i, k) && self.counts(k, j)
@@ -228,11 +273,11 @@ impl Run {
         ensures { IsTrue result → IsCovered self.now.members.items i j }
     {
         let (b, c) = (
-            self.members[i as usize].head(),
-            self.members[j as usize].head(),
+            self.members.at(i as usize).head(),
+            self.members.at(j as usize).head(),
         );
         self.redundant
-            .covers(&self.members, &b.lcm(c), i as usize, j as usize)
+            .covers(self.members.marked(), &b.lcm(c), i as usize, j as usize)
     }
 
     /// Whether the pair of i and j needs no reduction.
@@ -244,13 +289,13 @@ impl Run {
         ensures { IsTrue result → IsExcused (state_of self.now) i j }
     {
         let (b, c) = (
-            self.members[i as usize].head(),
-            self.members[j as usize].head(),
+            self.members.at(i as usize).head(),
+            self.members.at(j as usize).head(),
         );
         if are_coprime(b, c) {
             return true;
         }
-        if are_single(&self.members[i as usize], &self.members[j as usize]) {
+        if are_single(self.members.at(i as usize), self.members.at(j as usize)) {
             return true;
         }
         let multiple = b.lcm(c);
@@ -278,8 +323,12 @@ impl Run {
         ensures ok { IfOk result (IsLeftOfPair order.now (state_of self.old) i j) }
         ensures cause { IfErr result (IsSettlingRefusal order.now (state_of self.old) i j) }
     {
-        let s = s_poly(alloc, &self.members[i as usize], &self.members[j as usize])?;
-        let r = remainder(alloc, s, &self.members, &mut self.guide)?;
+        let s = s_poly(
+            alloc,
+            self.members.at(i as usize),
+            self.members.at(j as usize),
+        )?;
+        let r = remainder(alloc, s, self.members.marked(), &mut self.guide)?;
         left_of(order, r)
     }
 
@@ -301,9 +350,9 @@ impl Run {
     {
         let r = wide_remainder_of_pair(
             alloc,
-            &self.members[i as usize],
-            &self.members[j as usize],
-            &self.members,
+            self.members.at(i as usize),
+            self.members.at(j as usize),
+            self.members.marked(),
             first,
         )?;
         left_of_wide(alloc, order, &r)
@@ -334,9 +383,23 @@ impl Run {
         }
     }
 
+    /// What is left of the S-polynomial of the members at i and j, reduced by whole multiples of the members; none where there are none, where a
+    /// number leaves its range, or if memory runs out.
+    fn whole_left(&self, alloc: Global, order: &Order, i: u32, j: u32) -> Option<Option<Marked>>
+        requires first { i < length self.now.members.items }
+        requires second { j < length self.now.members.items }
+        requires reducers { AreReducers order.now self.now.members.items }
+        ensures { IfSome result (IsLeftOfPair order.now (state_of self.now) i j) }
+    {
+        match self.members.multiples() {
+            Some(by) => left_by_multiples(alloc, order, by, i as usize, j as usize),
+            None => None,
+        }
+    }
+
     /// What is left of the S-polynomial of the members at i and j: in fractions of 128 bits, and where they overflow in wide ones, if the run has
     /// them.
-    fn left_of_pair(
+    fn left_in_fractions(
         &mut self,
         alloc: Global,
         order: &Order,
@@ -359,6 +422,28 @@ impl Run {
         }
     }
 
+    /// What is left of the S-polynomial of the members at i and j: by whole multiples of the members, where there are some and the numbers fit, else
+    /// in fractions.
+    fn left_of_pair(
+        &mut self,
+        alloc: Global,
+        order: &Order,
+        i: u32,
+        j: u32,
+    ) -> Result<Option<Marked>, PolyError>
+        requires first { i < length self.old.members.items }
+        requires second { j < length self.old.members.items }
+        requires reducers { AreReducers order.now self.old.members.items }
+        ensures same { state_of self.new ≡ state_of self.old }
+        ensures ok { IfOk result (IsLeftOfPair order.now (state_of self.old) i j) }
+        ensures cause { IfErr result (IsSettlingRefusal order.now (state_of self.old) i j) }
+    {
+        match self.whole_left(alloc, order, i, j) {
+            Some(left) => Ok(left),
+            None => self.left_in_fractions(alloc, order, i, j),
+        }
+    }
+
     /// Reduces the S-polynomial of the members at i and j; what is left is a new member.
     fn reduce_pair(&mut self, alloc: Global, order: &Order, i: u32, j: u32) -> Result<(), PolyError>
         requires state { IsState (state_of self.old) }
@@ -369,7 +454,7 @@ impl Run {
         ensures cause { IfErr result (IsSettlingRefusal order.now (state_of self.old) i j) }
     {
         let left = self.left_of_pair(alloc, order, i, j)?;
-        self.take_up(order, left)
+        self.take_up(alloc, order, left)
     }
 
     /// Reduces the pair of i and j, unless it needs no reduction.

@@ -29,8 +29,8 @@ returns-in-Err-settle_all-clause-err c = stop_stops c.args.job.now.order.now c.a
     (state_of c.in-Ok-entered.start) c.in-Err-settle_all.stop c.stopped.result c.in-Ok-entered.ensures.ok.unsettled
     (c.in-Ok-entered.ensures.ok.run c.args.job.now.n c.requires.ring) c.in-Err-settle_all.ensures.stop c.stopped.ensures
 
-pub new-members-requires : goal.new-members-requires
-new-members-requires c =
+pub set_of-members-requires : goal.set_of-members-requires
+set_of-members-requires c =
     let e =
     is_end c.args.strategy c.args.job.now.order.now c.args.job.now.n c.args.job.now.pairs c.args.job.now.set.now (state_of c.in-Ok-entered.start)
     (state_of c.in-Ok-settle_all.run') c.requires c.in-Ok-entered.ensures.ok c.in-Ok-settle_all.ensures.done in
@@ -41,23 +41,24 @@ interreduced-requires c =
     let e =
     is_end c.args.strategy c.args.job.now.order.now c.args.job.now.n c.args.job.now.pairs c.args.job.now.set.now (state_of c.in-Ok-entered.start)
     (state_of c.in-Ok-settle_all.run') c.requires c.in-Ok-entered.ensures.ok c.in-Ok-settle_all.ensures.done in
-    end_realisable c.args.job.now.order.now c.args.job.now.n c.args.job.now.set.now _ c.new-members.result e c.new-members.ensures
+    end_realisable c.args.job.now.order.now c.args.job.now.n c.args.job.now.set.now _ c.set_of-members.result e c.set_of-members.ensures
 
 pub returns-in-Ok-interreduced-clause-ok : goal.returns-in-Ok-interreduced-clause-ok
 returns-in-Ok-interreduced-clause-ok c =
     let e =
     is_end c.args.strategy c.args.job.now.order.now c.args.job.now.n c.args.job.now.pairs c.args.job.now.set.now (state_of c.in-Ok-entered.start)
     (state_of c.in-Ok-settle_all.run') c.requires c.in-Ok-entered.ensures.ok c.in-Ok-settle_all.ensures.done in
-    arranged_basis c.args.job.now.order.now c.args.job.now.n c.args.job.now.set.now _ c.new-members.result c.in-Ok-interreduced.basis e c.new-members.ensures
-    c.in-Ok-interreduced.ensures.value c.in-Ok-interreduced.ensures.arranged c.in-Ok-interreduced.ensures.marked c.in-Ok-interreduced.ensures.reduced
+    arranged_basis c.args.job.now.order.now c.args.job.now.n c.args.job.now.set.now _ c.set_of-members.result c.in-Ok-interreduced.basis e
+    c.set_of-members.ensures c.in-Ok-interreduced.ensures.value
+    c.in-Ok-interreduced.ensures.arranged c.in-Ok-interreduced.ensures.marked c.in-Ok-interreduced.ensures.reduced
 
 pub returns-clause-err : goal.returns-clause-err
 returns-clause-err c =
     let e =
     is_end c.args.strategy c.args.job.now.order.now c.args.job.now.n c.args.job.now.pairs c.args.job.now.set.now (state_of c.in-Ok-entered.start)
     (state_of c.in-Ok-settle_all.run') c.requires c.in-Ok-entered.ensures.ok c.in-Ok-settle_all.ensures.done in
-    autoreduction_stops c.args.job.now.order.now c.args.job.now.n c.args.job.now.pairs c.args.job.now.set.now _ c.new-members.result
-    c.in-Err-interreduced.refusal c.refused-in-Err-interreduced.result e c.new-members.ensures c.in-Err-interreduced.ensures.cause
+    autoreduction_stops c.args.job.now.order.now c.args.job.now.n c.args.job.now.pairs c.args.job.now.set.now _ c.set_of-members.result
+    c.in-Err-interreduced.refusal c.refused-in-Err-interreduced.result e c.set_of-members.ensures c.in-Err-interreduced.ensures.cause
     c.refused-in-Err-interreduced.ensures
 
 pub returns-in-Err-entered-clause-by_rule : goal.returns-in-Err-entered-clause-by_rule
@@ -78,6 +79,6 @@ returns-clause-by_rule c =
     is_end c.args.strategy c.args.job.now.order.now c.args.job.now.n c.args.job.now.pairs c.args.job.now.set.now (state_of c.in-Ok-entered.start)
     (state_of c.in-Ok-settle_all.run') c.requires c.in-Ok-entered.ensures.ok done in
     ruled_tails_stop c.args.strategy c.args.job.now.order.now c.args.job.now.n c.args.job.now.set.now c.args.job.now.pairs
-    (state_of c.in-Ok-settle_all.run') c.new-members.result c.in-Err-interreduced.refusal c.refused-in-Err-interreduced.result
-    (done.settling.ruled c.args.strategy c.args.job.now.set.now c.in-Ok-entered.ensures.ok.ruled) done.none e.work c.new-members.ensures
+    (state_of c.in-Ok-settle_all.run') c.set_of-members.result c.in-Err-interreduced.refusal c.refused-in-Err-interreduced.result
+    (done.settling.ruled c.args.strategy c.args.job.now.set.now c.in-Ok-entered.ensures.ok.ruled) done.none e.work c.set_of-members.ensures
     c.in-Err-interreduced.ensures.cause c.refused-in-Err-interreduced.ensures

@@ -1,7 +1,6 @@
 use Rattle.std.proofs.Common.{sym, ap, ◌∙◌, length, subst}
-use Rattle.gf_exponents_theory.specs.Exponents.{Exponents, Divides, join}
+use Rattle.gf_exponents_theory.specs.Exponents.{Exponents, Divides}
 use Rattle.gf_poly.proofs.MonomialLaws.{length-join}
-use Rattle.gf_buchberger.specs.declared.covered.Rank.{Rank}
 use Rattle.gf_buchberger.specs.Covered.{AreCoprimeOrBelow, rank_of}
 use Rattle.gf_buchberger.proofs.covered.is_covering.Goals as goal
 

@@ -5,11 +5,11 @@ use Rattle.gf_buchberger.proofs.GeneratorsOfRuns.{entry_variables, left_comparab
 use Rattle.gf_buchberger.proofs.generators.wide_left.Goals as goal
 
 pub wide_remainder-requires-clause-marked : goal.wide_remainder-requires-clause-marked
-wide_remainder-requires-clause-marked c = subst HasSomeWeight (sym c.deref.ensures.value) c.requires.marked
+wide_remainder-requires-clause-marked c = subst HasSomeWeight (sym c.marked.ensures) c.requires.marked
 
 pub wide_remainder-requires-clause-variables : goal.wide_remainder-requires-clause-variables
-wide_remainder-requires-clause-variables c = entry_variables c.args.order.now c.args.run.now.members.items c.deref.result.now c.args.f.now c.args.f.now
-    c.deref.ensures.value refl c.requires.variables
+wide_remainder-requires-clause-variables c = entry_variables c.args.order.now c.args.run.now.members.items c.marked.result.now c.args.f.now c.args.f.now
+    c.marked.ensures refl c.requires.variables
 
 pub left_of_wide-requires : goal.left_of_wide-requires
 left_of_wide-requires c = left_comparable c.args.order.now c.args.run.now.members.items c.args.f.now c.args.f.now c.in_ok-r.r refl c.requires.variables
@@ -18,5 +18,5 @@ left_of_wide-requires c = left_comparable c.args.order.now c.args.run.now.member
 pub returns : goal.returns
 returns c =
     if_entry_left c.args.order.now
-    (state_of c.args.run.now) c.deref.result.now c.args.f.now c.args.f.now c.in_ok-r.r c.left_of_wide.result c.deref.ensures.value refl c.in_ok-r.ensures.value
+    (state_of c.args.run.now) c.marked.result.now c.args.f.now c.args.f.now c.in_ok-r.r c.left_of_wide.result c.marked.ensures refl c.in_ok-r.ensures.value
     c.in_ok-r.ensures.normal_form c.in_ok-r.ensures.variables c.left_of_wide.ensures

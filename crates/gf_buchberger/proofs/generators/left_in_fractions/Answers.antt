@@ -2,7 +2,7 @@ use Rattle.std.proofs.Common.{sym, subst}
 use Rattle.gf_division.specs.NormalForms.{HasSomeWeight}
 use Rattle.gf_buchberger.specs.Generators.{IsLeftOfEntry}
 use Rattle.gf_buchberger.specs.Runs.{State, IsAppendable}
-use Rattle.gf_buchberger.proofs.generators.left_of_entry.Goals as goal
+use Rattle.gf_buchberger.proofs.generators.left_in_fractions.Goals as goal
 
 pub left_in_wide_run-requires-clause-variables : goal.left_in_wide_run-requires-clause-variables
 left_in_wide_run-requires-clause-variables c = subst (λ (s : State). IsAppendable c.args.order.now c.args.f.now s.members) (sym c.narrow_left.ensures.same)

@@ -1,6 +1,6 @@
 use Rattle.std.proofs.Common.{◌<◌, length, sym, subst}
 use Rattle.gf_buchberger.specs.Runs.{State, AreReducers, IsLeftOfPair}
-use Rattle.gf_buchberger.proofs.runs.Run.left_of_pair.Goals as goal
+use Rattle.gf_buchberger.proofs.runs.Run.left_in_fractions.Goals as goal
 
 pub left_in_wide_run-requires-clause-first : goal.left_in_wide_run-requires-clause-first
 left_in_wide_run-requires-clause-first c = subst (λ (s : State). c.args.i < length s.members) (sym c.narrow_left.ensures.same) c.requires.first
