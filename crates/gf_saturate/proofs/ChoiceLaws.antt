@@ -1,5 +1,6 @@
 -- Which variables are enough to saturate by.
--- To cite: inside_more, inside_all, inside_along, two_of, joined_long, followed_enough, enough_same, enough_twice, enough_all, all_chosen, chosen_less.
+-- To cite: inside_more, inside_all, inside_along, more_enough, two_of, joined_long, followed_enough, enough_same, enough_twice, enough_all, all_chosen,
+-- chosen_less.
 -- The rest are steps.
 use Rattle.std.proofs.Common.{◌≡◌, ◌≢◌, ◌⊎◌, ℕ, zero, suc, ◌+◌, ◌<◌, ◌≤◌, true, List, [], ◌∷◌, ◌++◌}
 use Rattle.std.proofs.Common.{Contains, length, get_or, min, arith, sym, ap, ◌∙◌, subst, inl, inr}
@@ -208,7 +209,7 @@ joined_enough n fs a b x v rx r h f s = record {
         by (inr g) = omega (arith, entry-plus (powered p b) (powered p x) i, split i, powered-none p b i (h i (omega (arith, g))))
 
 -- with more of each variable
-more_enough : (n : ℕ) (fs : List Terms) (x y : Exponents) → AreInVariables n fs → IsInRing n y → ((i : ℕ) → entry x i ≤ entry y i) → IsEnoughFor n fs x y
+pub more_enough : (n : ℕ) (fs : List Terms) (x y : Exponents) → AreInVariables n fs → IsInRing n y → ((i : ℕ) → entry x i ≤ entry y i) → IsEnoughFor n fs x y
 more_enough n fs x y v ry l f s = record {
   power = s.power;
   member =

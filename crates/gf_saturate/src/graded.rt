@@ -57,7 +57,7 @@ fn lowered(alloc: Global, k: u32, grade: &[i128]) -> Result<IntVec, AllocError>
 }
 
 /// The order by twice the grade, less 1 at place `k`, then revlex: of monomials of one grade that with less of this variable is greater.
-fn lowered_order(alloc: Global, n: u32, k: u32, grade: &[i128]) -> Option<Order>
+pub(crate) fn lowered_order(alloc: Global, n: u32, k: u32, grade: &[i128]) -> Option<Order>
     ensures { IfSome result (IsByWeights n) }
 {
     let Ok(weight) = lowered(alloc, k, grade) else {
@@ -121,7 +121,7 @@ pub(crate) fn members_after(
 }
 
 /// The exponent of the variable at place `k`.
-fn exponent(x: &Mono, k: u32) -> u32
+pub(crate) fn exponent(x: &Mono, k: u32) -> u32
     requires { k < length x.now }
     ensures { result ≡ entry x.now k }
 {

@@ -10,6 +10,7 @@ mod choice;
 mod elimination;
 mod graded;
 mod grades;
+mod inverses;
 mod marks;
 mod monomials;
 mod narrowing;
@@ -17,6 +18,7 @@ mod proposals;
 mod relation;
 mod saturation;
 mod stages;
+mod units;
 mod vectors;
 mod widening;
 

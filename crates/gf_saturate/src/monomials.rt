@@ -35,7 +35,7 @@ pub(crate) fn has_one_term(n: u32, set: &[Poly]) -> bool
 }
 
 /// Whether some mark is 1.
-fn has_unit_mark(set: &MarkedSet) -> bool
+pub(crate) fn has_unit_mark(set: &MarkedSet) -> bool
     ensures { IsTrue result ↔ HasUnitMark set.now.items }
 {
     let items = set.items();

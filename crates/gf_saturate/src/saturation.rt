@@ -5,7 +5,9 @@ ghost use Rattle.gf_buchberger.specs.Jobs.{HaveRingVariables};
 ghost use Rattle.gf_saturate.specs.Saturating.{IsOnTheWay, IsStage, IsSaturation, IsSaturateRefusal, AreStepsWithinLimits};
 
 use crate::graded::by_division;
+use crate::inverses::by_inverses;
 use crate::stages::{Stage, first_stage, step};
+use crate::units::by_units;
 use gf_buchberger::{BasisError, basis};
 use gf_order::Order;
 use gf_poly::{MarkedSet, Poly, ROOM};
@@ -57,6 +59,36 @@ fn by_degree(alloc: Global, n: u32, set: &[Poly], pairs: u64) -> Result<MarkedSe
     }
 }
 
+/// The saturation by inverses of one variable after another; where that is refused, by more polynomials of it modulo which each variable is a unit.
+fn by_elimination(alloc: Global, n: u32, set: &[Poly], pairs: u64) -> Result<MarkedSet, BasisError>
+    requires room { n < ROOM }
+    requires variables { HaveRingVariables n set.now }
+    ensures ok { IfOk result (IsSaturation n set.now) }
+    ensures err { IfErr result (IsSaturateRefusal n set.now pairs) }
+{
+    match by_degree(alloc, n, set, pairs) {
+        Ok(saturation) => Ok(saturation),
+        Err(refusal) => match by_inverses(alloc, n, set, pairs) {
+            Some(saturation) => Ok(saturation),
+            None => Err(refusal),
+        },
+    }
+}
+
+/// The saturation of polynomials that aren't divided: of an ideal modulo which each variable is found to be a unit that is the ideal itself; else it is
+/// worked out by inverses.
+fn ungraded(alloc: Global, n: u32, set: &[Poly], pairs: u64) -> Result<MarkedSet, BasisError>
+    requires room { n < ROOM }
+    requires variables { HaveRingVariables n set.now }
+    ensures ok { IfOk result (IsSaturation n set.now) }
+    ensures err { IfErr result (IsSaturateRefusal n set.now pairs) }
+{
+    match by_units(alloc, n, set, pairs) {
+        Some(saturation) => Ok(saturation),
+        None => by_elimination(alloc, n, set, pairs),
+    }
+}
+
 /// The reduced Gröbner basis by deglex of the saturation, by the product of all `n` variables, of the ideal of these
 /// polynomials: of the ideal of the f of which some multiple by a power of that product is in theirs. `n` is at most 24, so that
 /// a monomial has room for one variable more.
@@ -65,14 +97,20 @@ fn by_degree(alloc: Global, n: u32, set: &[Poly], pairs: u64) -> Result<MarkedSe
 /// this weight, less 1 at x, then revlex: its members are divided by all that their terms share. At the end the basis by deglex is made. A
 /// variable that follows from others, by polynomials of two terms among those given, is left out.
 ///
-/// Else, and where one of these runs is refused, x is taken out so: with a new last variable t and `t*x - 1` among the generators a basis by
+/// Else, and where one of these runs is refused, it is tested whether each variable is a unit modulo the ideal: whether a run on the polynomials and the
+/// variable, with at most 1000 pairs, finds 1. If so, the ideal is its own saturation, and its basis by deglex is made, by a run in wider numbers too.
+///
+/// Else, and where that is refused, x is taken out so: with a new last variable t and `t*x - 1` among the generators a basis by
 /// the weight of t, then lex, is made, and its members without t generate the saturation by x. At the end the basis by deglex is made. A
 /// variable that occurs in no mark of the basis before, that of the polynomials by deglex at first, is left out: nothing is added by it. So
-/// is all the rest where 1 is reached. Each run of either way settles at most `pairs` pairs.
+/// is all the rest where 1 is reached.
+///
+/// Where that is refused, for one variable x after another that is no unit the members without t of a basis of the polynomials and `t*x - 1` join
+/// the polynomials. If each variable is a unit then, the basis by deglex is made. Each run of these ways settles at most `pairs` pairs.
 ///
 /// # Errors
 ///
-/// As those of `basis` of `gf_buchberger`, each of one of the runs of the second way: `Overflow` and `Exponent` only at an operation that a run
+/// As those of `basis` of `gf_buchberger`, each of one of the runs that take out x by inverses: `Overflow` and `Exponent` only at an operation that a run
 /// of Buchberger's algorithm on one of these sets may have, and whose operands don't fit; `PairBudget` only where a run on one
 /// of them would have to settle more pairs. The first basis by deglex, which has at most
 /// 1000 pairs, is left out where it is refused.
@@ -85,6 +123,6 @@ pub fn saturate(alloc: Global, n: u32, set: &[Poly], pairs: u64) -> Result<Marke
 {
     match by_division(alloc, n, set, pairs) {
         Some(saturation) => Ok(saturation),
-        None => by_degree(alloc, n, set, pairs),
+        None => ungraded(alloc, n, set, pairs),
     }
 }
