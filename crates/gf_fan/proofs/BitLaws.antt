@@ -1,4 +1,4 @@
--- What is known of rows at rays in the bits of words, one further; rows that are told by it to keep two cones apart.
+-- What is known of rows at rays in the bits of one word, one further; rows that are told by it to keep two cones apart.
 use Rattle.std.proofs.Common.{bit_and, ◌≡◌, ◌≢◌, ℕ, ◌+◌, ◌%◌, ◌<◌, ◌≤◌, List, [], ◌∷◌, ◌++◌, length, take, get_or, ℤ, pos, ◌≤ℤ◌, All, Contains, arith, sym, ap}
 use Rattle.std.proofs.Common.{◌∙◌, subst, ◌⊎◌, inl, inr, ◌↔◌}
 use Prim.Native.Nat.{min, max}
@@ -18,12 +18,11 @@ use Rattle.gf_fans_theory.proofs.PartNumbers.{of_map, in_map}
 use Rattle.gf_rays.specs.Cones.{RowsAndRays}
 use Rattle.gf_fan.specs.declared.bits.RowBits.{RowBits}
 use Rattle.gf_fan.specs.declared.bits.ConeBits.{ConeBits}
-use Rattle.gf_fan.specs.declared.table.Table.{Table}
 use Rattle.gf_fan.specs.Numbered.{AreAdded}
 use Rattle.gf_fan.specs.Signs.{AreEach}
-use Rattle.gf_fan.specs.Bits.{AreBitsOfRow, AreBitsOfRows, AreBitsOfCone, AreBitsOfFirst, IsExcludedBy, AreToldByBits, IsTableOf, IsTableOfTwo}
+use Rattle.gf_fan.specs.Bits.{AreBitsOfRow, AreBitsOfRows, AreBitsOfCone, AreBitsOfFirst, IsExcludedBy, AreToldByBits}
 use Rattle.gf_fan.proofs.SettledLaws.{HasSeparated}
-use Rattle.gf_fan.proofs.SignLaws.{each_more, two_of}
+use Rattle.gf_fan.proofs.EachLaws.{each_more}
 
 -- ---- a word, one bit further
 
@@ -97,21 +96,6 @@ pub first_bits : (rays : List (List ℤ)) (cones : List RowsAndRays) (i : ℕ) (
     AreEach (λ k (z : ConeBits). (d : RowsAndRays) → AreBitsOfCone rays (get_or cones k d) z) i out → AreBitsOfFirst cones out
 first_bits rays cones i out a = record { rays = rays; each = λ k c s h. a.each k s (let e = a.long in omega (arith, h, e)) c }
 
-pub table_of_two : (cones : List RowsAndRays) (t : Table) (i j : ℕ) (c d : RowsAndRays) → IsTableOf cones t → i < length cones → j < length cones →
-    c ≡ get_or cones i c → d ≡ get_or cones j d → IsTableOfTwo c d t i j
-table_of_two cones t i j c d a hi hj ec ed = record {
-  one = λ o.
-      let w = a.one o in
-      let lc : c.lineality ≡ w.0 = All-contains (λ (c : RowsAndRays). c.lineality ≡ w.0) cones c w.1 (i, hi, sym ec) in
-      let ld : d.lineality ≡ w.0 = All-contains (λ (c : RowsAndRays). c.lineality ≡ w.0) cones d w.1 (j, hj, sym ed) in lc ∙ sym ld;
-  bits = record {
-    rays = a.bits.rays;
-    first = λ s h. subst (λ z. AreBitsOfCone a.bits.rays z (get_or t.bits.items i s)) (sym ec) (a.bits.each i c s h);
-    second = λ s h. subst (λ z. AreBitsOfCone a.bits.rays z (get_or t.bits.items j s)) (sym ed) (a.bits.each j d s h);
-  };
-  signs = two_of cones t.signs.items i j c d a.signs ec ed;
-}
-
 -- ---- rows that are told to keep two cones apart do so
 
 -- no bit of both
@@ -140,8 +124,14 @@ differing a b x y i h = elim (cases_eq (bit_at a i) (bit_at b i)) [
       let o : bit_at (bit_or x y) i ≡ 1 = omega (arith, g, h, lo) in inr (bit_either x y i o)
 ]
 
+-- two words that differ nowhere
+pub same_of_none : (x y i : ℕ) → bit_xor x y ≡ 0 → bit_at x i ≡ bit_at y i
+same_of_none x y i e =
+    let lx = bit_at-lt x i in let ly = bit_at-lt y i in
+    let g : (bit_at x i + bit_at y i) % 2 ≡ 0 = sym (bit_at_xor x y i) ∙ ap (λ w. bit_at w i) e ∙ bit_at-zero i in omega (arith, g, lx, ly)
+
 -- a row of the one that is positive on no ray of the other, and not zero on r
-abbrev IsCut : RowsAndRays → RowsAndRays → List ℤ → Type 0
+abbrev pub IsCut : RowsAndRays → RowsAndRays → List ℤ → Type 0
 IsCut c d r = (h : List ℤ) × (Contains c.inequalities h × IsNowherePositive d.rays h × (dot h r ≢ pos 0))
 
 cut_of : (rays : List (List ℤ)) (c d : RowsAndRays) (s t : ConeBits) (i : ℕ) → AreBitsOfCone rays c s → AreBitsOfCone rays d t → i < length rays →
@@ -252,11 +242,13 @@ ray_told rays c d s t a b h r k =
 other_way : (s t : ConeBits) → AreToldByBits s t → AreToldByBits t s
 other_way s t h i = elim (h i) [ inl e ↦ inl (sym e) | inr w ↦ elim w [ inl x ↦ inr (inr x) | inr x ↦ inr (inl x) ] ]
 
-pub told_by_bits : (rays : List (List ℤ)) (c d : RowsAndRays) (s t : ConeBits) → AreBitsOfCone rays c s → AreBitsOfCone rays d t → AreToldByBits s t →
+-- rows that settle the rays of both
+pub separated_by : (c d : RowsAndRays) → ((r : List ℤ) → Contains c.rays r → Contains d.rays r ⊎ IsCut c d r ⊎ IsCut d c r) →
+    ((r : List ℤ) → Contains d.rays r → Contains c.rays r ⊎ IsCut d c r ⊎ IsCut c d r) →
     (left : List (List ℤ)) × (right : List (List ℤ)) × HasSeparated c d left right
-told_by_bits rays c d s t a b h =
-    let one = collected c d d.rays c.rays (ray_told rays c d s t a b h) in
-    let two = collected d c c.rays d.rays (ray_told rays d c t s b a (other_way s t h)) in
+separated_by c d f g =
+    let one = collected c d d.rays c.rays f in
+    let two = collected d c c.rays d.rays g in
     let left : List (List ℤ) = one.left ++ two.right in
     let right : List (List ℤ) = one.right ++ two.left in (
       left,
@@ -270,3 +262,7 @@ told_by_bits rays c d s t a b h =
             (Contains-append_right one.left two.right) two.settled;
       },
     )
+
+pub told_by_bits : (rays : List (List ℤ)) (c d : RowsAndRays) (s t : ConeBits) → AreBitsOfCone rays c s → AreBitsOfCone rays d t → AreToldByBits s t →
+    (left : List (List ℤ)) × (right : List (List ℤ)) × HasSeparated c d left right
+told_by_bits rays c d s t a b h = separated_by c d (ray_told rays c d s t a b h) (ray_told rays d c t s b a (other_way s t h))

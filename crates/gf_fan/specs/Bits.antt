@@ -1,12 +1,11 @@
 -- What is known of the rows of cones at few rays, in the bits of words.
-use Rattle.std.specs.Prelude.{◌≡◌, ◌≢◌, ◌⊎◌, ◌<◌, ℕ, List, [], ℤ, pos, ◌≤ℤ◌, All, Any, Contains, IsTrue, length, slice_index_or}
+use Rattle.std.specs.Prelude.{◌≡◌, ◌≢◌, ◌⊎◌, ◌<◌, ℕ, List, [], ℤ, pos, ◌≤ℤ◌, Any, Contains, length, slice_index_or}
 use Rattle.std.specs.Int.{bit_at}
 use Rattle.gf_vec.specs.Vector.{dot}
 use Rattle.gf_rays.specs.Cones.{RowsAndRays}
 use Rattle.gf_fan.specs.declared.bits.RowBits.{RowBits}
 use Rattle.gf_fan.specs.declared.bits.ConeBits.{ConeBits}
-use Rattle.gf_fan.specs.declared.table.Table.{Table}
-use Rattle.gf_fan.specs.Signs.{AreEach, AreSignsOfFirst, AreSignsOfTwo}
+use Rattle.gf_fan.specs.Signs.{AreEach}
 
 -- of a row at each of the rays: where its bit is clear it isn't positive, and where it is told not to be zero that is so
 pub record AreBitsOfRow (rays : List (List ℤ)) (h : List ℤ) (s : RowBits) : Type 0 where
@@ -45,21 +44,3 @@ IsExcludedBy rows own i = Any (λ (s : RowBits). IsLowOn s own × (bit_at s.cut 
 -- rows of two cones that are told to keep them apart but for the rays that they share
 abbrev pub AreToldByBits : ConeBits → ConeBits → Type 0
 AreToldByBits s t = (i : ℕ) → (bit_at s.own i ≡ bit_at t.own i) ⊎ IsExcludedBy s.rows.items t.own i ⊎ IsExcludedBy t.rows.items s.own i
-
--- ---- of cones before their pairs are looked at
-
--- all have one lineality basis
-abbrev pub AreOfOneBasis : List RowsAndRays → Type 0
-AreOfOneBasis cones = (lineality : List (List ℤ)) × All (λ (c : RowsAndRays). c.lineality ≡ lineality) cones
-
--- what is known of them
-pub record IsTableOf (cones : List RowsAndRays) (t : Table) : Type 0 where
-  pub one : IsTrue t.one → AreOfOneBasis cones
-  pub bits : AreBitsOfFirst cones t.bits.items
-  pub signs : AreSignsOfFirst cones t.signs.items
-
--- of two of them, at two places
-pub record IsTableOfTwo (c d : RowsAndRays) (t : Table) (i j : ℕ) : Type 0 where
-  pub one : IsTrue t.one → c.lineality ≡ d.lineality
-  pub bits : AreBitsOfTwo c d t.bits.items i j
-  pub signs : AreSignsOfTwo c d t.signs.items i j

@@ -32,7 +32,7 @@ pub(crate) struct ConeBits {
 }
 
 /// The word with the bit at `i` set.
-fn with_bit(word: u128, i: usize) -> u128
+pub(crate) fn with_bit(word: u128, i: usize) -> u128
     requires { i < 128 }
     ensures set { bit_at result i ≡ 1 }
     ensures others { (j : ℕ) → (j ≡ i → ⊥) → bit_at result j ≡ bit_at word j }
@@ -66,7 +66,7 @@ fn cut_with(word: u128, i: usize, sign: Sign) -> u128
 }
 
 /// What is known of a row at each of the rays.
-fn bits_of_row(h: &IntVec, rays: &[IntVec]) -> RowBits
+pub(crate) fn bits_of_row(h: &IntVec, rays: &[IntVec]) -> RowBits
     requires count { length rays.now ≤ 128 }
     requires width { AreRows (length h.now) rays.now }
     ensures { AreBitsOfRow rays.now h.now result }
@@ -94,7 +94,11 @@ fn own_bits(numbers: &[u32]) -> u128
 }
 
 /// The inequalities of all cones, each once.
-fn distinct_rows(alloc: Global, n: u32, cones: &[Rays]) -> Result<IndexSet<IntVec>, AllocError>
+pub(crate) fn distinct_rows(
+    alloc: Global,
+    n: u32,
+    cones: &[Rays],
+) -> Result<IndexSet<IntVec>, AllocError>
     requires { AreOfAmbient n cones.now }
     ensures { IfOk result (λ items. AreRows n items.keys) }
 {
@@ -217,7 +221,7 @@ fn cut_by(rows: &[RowBits], own: u128) -> u128
 }
 
 /// Whether each bit of `x` is one of `y`.
-fn is_word_below(x: u128, y: u128) -> bool
+pub(crate) fn is_word_below(x: u128, y: u128) -> bool
     ensures { IsTrue result → (i : ℕ) → bit_at x i ≤ bit_at y i }
 {
     x & y == x

@@ -2,23 +2,23 @@
 ghost use Rattle.std.specs.Prelude.{◌≡◌, All, IfOk, IsTrue};
 ghost use Rattle.gf_rays.specs.Cones.{RowsAndRays};
 ghost use Rattle.gf_fan.specs.Pairs.{AreOfAmbient};
-ghost use Rattle.gf_fan.specs.Bits.{AreOfOneBasis, IsTableOf};
+ghost use Rattle.gf_fan.specs.Tables.{AreOfOneBasis, IsTableOf};
 
 use crate::bits::{ConeBits, MOST_RAYS, bits_by};
 use crate::known::have_their_rays;
 use crate::numbering::Numbering;
-use crate::signs::{ConeSigns, signs_by};
+use crate::words::{Words, no_words, words_by};
 use gf_rays::Rays;
 use gf_vec::{IntVec, same_vectors};
 use std::alloc::{AllocError, Global};
 
-/// Whether all cones are known to have one lineality basis, and what is known of their rows at their rays: in bits where the rays are
-/// few, else in signs.
+/// Whether all cones are known to have one lineality basis, and what is known of their rows at their rays: in the bits of one word
+/// where the rays are few, else in those of several.
 #[derive(Drop)]
 pub(crate) struct Table {
     pub(crate) one: bool,
     pub(crate) bits: Vec<ConeBits>,
-    pub(crate) signs: Vec<ConeSigns>,
+    pub(crate) words: Words,
 }
 
 /// Whether all cones have this lineality basis.
@@ -56,13 +56,13 @@ pub(crate) fn table_of(alloc: Global, n: u32, cones: &[Rays]) -> Result<Table, A
         return Ok(Table {
             one,
             bits,
-            signs: Vec::new(alloc),
+            words: no_words(alloc),
         });
     }
-    let signs = signs_by(alloc, n, &numbering, cones)?;
+    let words = words_by(alloc, n, &numbering, cones)?;
     Ok(Table {
         one,
         bits: Vec::new(alloc),
-        signs,
+        words,
     })
 }

@@ -1,7 +1,7 @@
 use Rattle.std.proofs.Common.{refl, sym, subst}
 use Rattle.gf_gordan.specs.Alternative.{AreRows}
 use Rattle.gf_fan.proofs.NumberLaws.{rays_there}
-use Rattle.gf_fan.proofs.SignLaws.{common_width, cone_width}
+use Rattle.gf_fan.proofs.EachLaws.{common_width, cone_width}
 use Rattle.gf_fan.proofs.BitLaws.{cone_bits_more, first_bits}
 use Rattle.gf_fan.proofs.bits.bits_by.Goals as goal
 

@@ -1,7 +1,7 @@
 use Rattle.std.proofs.Common.{[], length, arith, get_or}
 use Rattle.gf_fan.specs.declared.bits.RowBits.{RowBits}
 use Rattle.gf_fan.specs.Bits.{AreBitsOfRow}
-use Rattle.gf_fan.proofs.SignLaws.{read_more, each_done}
+use Rattle.gf_fan.proofs.EachLaws.{read_more, each_done}
 use Rattle.gf_fan.proofs.bits.bits_of_rows.Goals as goal
 
 pub loop-h-preserved : goal.loop-h-preserved
