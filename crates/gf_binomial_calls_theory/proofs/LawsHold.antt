@@ -21,7 +21,7 @@ use Rattle.gf_binomial_calls_theory.proofs.TreeLaws.{flip_narrow, tree_narrow}
 use Rattle.gf_binomial_calls_theory.proofs.SaturationLaws.{saturation_narrow, cone_narrow}
 use Rattle.gf_binomial_calls_theory.proofs.CheckLaws.{polys_binomial, autoreduction_fits, paired_fits, test_fits, monic_forms_fit}
 use Rattle.gf_binomial_calls_theory.specs.Limits.{LimitsAreMet}
-use Rattle.gf_binomial_calls_theory.proofs.LimitLaws.{plain_difference, runs_within, flip_within, search_within}
+use Rattle.gf_binomial_calls_theory.proofs.LimitLaws.{plain_difference, runs_within, ruled_within, flip_within, search_within}
 use Rattle.gf_binomial_calls_theory.proofs.SystemLimits.{small_search}
 use Rattle.gf_binomial_calls_theory.proofs.CheckLimits.{checks_within, tails_within}
 use Rattle.gf_binomial_calls_theory.proofs.TermLimits.{monomials_within}
@@ -64,6 +64,7 @@ pub limits_are_met : LimitsAreMet
 limits_are_met = record {
   generators = plain_difference;
   runs = runs_within;
+  ruled = ruled_within;
   flips = flip_within;
   search = search_within;
   small_search = small_search;

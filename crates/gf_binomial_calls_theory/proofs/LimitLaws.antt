@@ -1,5 +1,5 @@
 -- Runs and flips of an ideal that one pure difference binomial generates stay within their limits.
--- To cite: plain_difference, runs_within, flip_within, search_within.
+-- To cite: plain_difference, runs_within, ruled_within, flip_within, search_within.
 use Rattle.std.proofs.Common.{◌≡◌, ◌⊎◌, ℕ, zero, suc, ◌+◌, ◌<◌, ◌≤◌, ◌^◌, Bool, true, false, if◌then◌else◌, List, [], ◌∷◌, length, Contains, Some, ℤ, arith}
 use Rattle.std.proofs.Common.{refl, sym, ap, ◌∙◌, subst, inl, inr}
 use Rattle.gf_frac.specs.Fraction.{◌*ℚ◌, neg_ℚ, zero_ℚ, one_ℚ}
@@ -18,7 +18,11 @@ use Rattle.gf_ideal_theory.specs.WorkLists.{IsWorkList, IsRunExponents}
 use Rattle.gf_ideal_theory.proofs.Identities.{one_not_zero}
 use Rattle.gf_ideal_theory.proofs.StepLaws.{IsWithin, sum_within, monic-monomials}
 use Rattle.gf_division.specs.Autoreduction.{AreNeededForms}
+use Rattle.gf_buchberger.specs.declared.queue.Strategy.{Strategy}
 use Rattle.gf_buchberger.specs.Bases.{AreRunsWithinLimits}
+use Rattle.gf_buchberger.specs.Jobs.{HaveRingVariables}
+use Rattle.gf_buchberger.specs.Ruled.{AreRuledRunsWithinLimits}
+use Rattle.gf_buchberger.proofs.RuledLaws.{ruled_within_limits}
 use Rattle.gf_buchberger.specs.Pairs.{pairs_below}
 use Rattle.gf_gordan.specs.declared.error.ConeOverflow.{ConeOverflow}
 use Rattle.gf_facets_theory.specs.Rows.{negated, IsNormal}
@@ -107,6 +111,10 @@ runs_within order f budget p = record {
   exponents = λ left right o. run_short order f left right p.antichain p.short o;
   pairs = λ bs w. no_pairs (length bs) budget (work_forms order f bs p.antichain w).1;
 }
+
+pub ruled_within : (strategy : Strategy) (order : MonomialOrder) (n : ℕ) (f : Terms) (budget : ℕ) → HaveRingVariables n (f ∷ []) → IsPlainGenerator f →
+    AreRuledRunsWithinLimits strategy order (f ∷ []) budget
+ruled_within strategy order n f budget v p = ruled_within_limits strategy order n (f ∷ []) budget v (runs_within order f budget p)
 
 -- ---- flips
 

@@ -13,7 +13,10 @@ use Rattle.gf_gordan.specs.declared.error.ConeOverflow.{ConeOverflow}
 use Rattle.gf_division.specs.Autoreduction.{IsAutoreductionRefusal}
 use Rattle.gf_reduced.specs.Forms.{monic_set}
 use Rattle.gf_reduced.specs.Refusals.{AreChecksWithinLimits}
+use Rattle.gf_buchberger.specs.declared.queue.Strategy.{Strategy}
 use Rattle.gf_buchberger.specs.Bases.{AreRunsWithinLimits}
+use Rattle.gf_buchberger.specs.Jobs.{HaveRingVariables}
+use Rattle.gf_buchberger.specs.Ruled.{AreRuledRunsWithinLimits}
 use Rattle.gf_facets_theory.specs.Regions.{Region}
 use Rattle.gf_facets_theory.specs.Facets.{IsFlippable}
 use Rattle.gf_facets_theory.specs.MarkedBases.{IsBasisInRegion}
@@ -35,15 +38,17 @@ pub record IsPlainGenerator (f : Terms) : Type 0 where
 abbrev pub HasExponentsUpTo : ℕ → Terms → Type 0
 HasExponentsUpTo b f = (x : Exponents) → HasMonomial f x → (i : ℕ) → entry x i ≤ b
 
--- generators: x^p - x^q is a plain generator if neither monomial divides the other. runs, flips: for its ideal they stay within their
--- limits for each order, region and budget. search: so does the search over its bases, unless a step of the system of a normal leaves its
--- range. small_search: none does with at most three variables, and exponents and rows of the region up to 500. checks, tails: then the
--- checks of the generator as a marked set, with either term marked, stay within their limits, and so does the reduction of that set.
--- monomials: the search for an ideal of monomials always does, since it has no normal and no flip
+-- generators: x^p - x^q is a plain generator if neither monomial divides the other. runs, flips: for its ideal they stay within their limits for each
+-- order, region and budget. ruled: so does the run by the rule of the program. search: so does the search over its bases, unless a step of the system of a
+-- normal leaves its range. small_search: none does with at most three variables, and exponents and rows of the region up to 500. checks, tails: then the
+-- checks of the generator as a marked set, with either term marked, stay within their limits, and so does the reduction of that set. monomials: the search
+-- for an ideal of monomials always does, since it has no normal and no flip
 pub record LimitsAreMet : Type 0 where
   pub generators : (p q : Exponents) (f : Terms) → IsBinomialOf (Some p) (Some q) f → (Divides p q → ⊥) → (Divides q p → ⊥) →
       ((i : ℕ) → entry p i < 2 ^ 31) → ((i : ℕ) → entry q i < 2 ^ 31) → IsPlainGenerator f
   pub runs : (order : MonomialOrder) (f : Terms) (budget : ℕ) → IsPlainGenerator f → AreRunsWithinLimits order (f ∷ []) budget
+  pub ruled : (strategy : Strategy) (order : MonomialOrder) (n : ℕ) (f : Terms) (budget : ℕ) → HaveRingVariables n (f ∷ []) → IsPlainGenerator f →
+      AreRuledRunsWithinLimits strategy order (f ∷ []) budget
   pub flips : (n : ℕ) (f : Terms) (k : Region) (bs : List MarkedPolynomial) (a : List ℤ) (budget : ℕ) → IsInVariables n f →
       IsPlainGenerator f → IsBasisInRegion n (f ∷ []) k bs → IsFlippable n k bs a → IsFlipWithinLimits n bs a budget
   pub search : (F : Fan) (f : Terms) (pairs : ℕ) → F.ideal ≡ f ∷ [] → IsPlainGenerator f →
