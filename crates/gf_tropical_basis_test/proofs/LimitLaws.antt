@@ -1,10 +1,8 @@
 -- Where nothing leaves its limits, only memory may be wanting. To cite: test_memory.
-use Rattle.std.specs.Prelude.{Err, None}
+use Rattle.std.specs.Prelude.{None}
 use Rattle.std.proofs.Common.{◌≡◌, ℕ, List, [], ℤ, map, Contains, refl, sym, subst}
-use Rattle.gf_exponents_theory.specs.SixOrders.{MonomialOrder}
 use Rattle.gf_poly.specs.Polynomial.{Terms}
 use Rattle.gf_poly.specs.Marking.{MarkedPolynomial, MarkedPolynomials}
-use Rattle.gf_buchberger.proofs.BasesOfRuns.{if_within}
 use Rattle.gf_duality_theory.specs.Faces.{Rows}
 use Rattle.gf_fan.specs.FanLists.{FanLists}
 use Rattle.gf_patterns_theory.specs.Patterns.{points}
@@ -56,6 +54,6 @@ at_bases n fs h pairs e w p (AreBasesRefused.no_memory q) = no_memory e q
 
 pub test_memory : (n : ℕ) (fs : List Terms) (pairs : ℕ) (e : BasisTestError) → IsTestWithinLimits n fs pairs → IsVerdictRefusal n fs pairs e → HasNoMemory e
 test_memory n fs pairs e w (IsVerdictRefusal.at_prevariety r x q) = subst HasNoMemory (sym q) (tropical_memory n fs r w.prevariety x)
-test_memory n fs pairs e w (IsVerdictRefusal.at_root r x q) = subst HasNoMemory (sym q) (if_within {A = ℕ} MonomialOrder.deglex n pairs fs (Err r) w.root x)
+test_memory n fs pairs e w (IsVerdictRefusal.at_root r x q) = subst HasNoMemory (sym q) (x.1 w.root)
 test_memory n fs pairs e w (IsVerdictRefusal.at_bases h p x) = at_bases n fs h pairs e w p x
 test_memory n fs pairs e w (IsVerdictRefusal.no_memory q) = no_memory e q

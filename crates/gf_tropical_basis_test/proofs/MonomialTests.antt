@@ -10,7 +10,9 @@ use Rattle.gf_poly.specs.Polynomial.{Terms, HasVariables}
 use Rattle.gf_ideal_theory.specs.Membership.{HasMonomial}
 use Rattle.gf_duality_theory.proofs.ListLaws.{in_cons, none_in}
 use Rattle.gf_buchberger.specs.Bases.{unit_monomial}
+use Rattle.gf_buchberger.specs.declared.queue.Strategy.TheVariants.{Degree}
 use Rattle.gf_buchberger.proofs.MonomialRuns.{monomials_stay_within_limits}
+use Rattle.gf_buchberger.proofs.RuledLaws.{ruled_within_limits}
 use Rattle.gf_facets_theory.proofs.RowLaws.{term_of}
 use Rattle.gf_duality_theory.specs.Faces.{Rows}
 use Rattle.gf_rays.specs.Cones.{rows_of}
@@ -73,7 +75,8 @@ tests_of_monomials_stay_within_limits fans searches n b budget e hn hb v up shor
       (all_by (λ (f : Terms). f ≢ []) (unit_monomial e ∷ []) (λ f c q. not_empty e (sym (only (unit_monomial e) f c) ∙ q)))
       (all_by (HasVariables n) (unit_monomial e ∷ []) (λ f c. subst (HasVariables n) (sym (only (unit_monomial e) f c)) v)) up
       (λ k l. let z : k ≡ 0 = omega (arith, l) in subst (λ j. has_room n b j ≡ true) (sym z) room);
-  root = monomials_stay_within_limits MonomialOrder.deglex e budget short;
+  root = ruled_within_limits Degree MonomialOrder.deglex n (unit_monomial e ∷ []) budget
+      (record { each = λ f c. subst (HasVariables n) (sym (only (unit_monomial e) f c)) v }) (monomials_stay_within_limits MonomialOrder.deglex e budget short);
   search = searches.monomials (ideal_by n (unit_monomial e ∷ [])) budget (one_monomial e);
   faces = λ h d normals c p node a m. absurd (no_cone_of n e h c p m);
 }

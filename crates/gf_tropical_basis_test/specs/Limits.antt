@@ -3,7 +3,9 @@ use Rattle.std.specs.Prelude.{◌≡◌, ℕ, List, ℤ, map, Contains}
 use Rattle.gf_exponents_theory.specs.SixOrders.{MonomialOrder}
 use Rattle.gf_poly.specs.Polynomial.{Terms}
 use Rattle.gf_poly.specs.Marking.{MarkedPolynomials}
-use Rattle.gf_buchberger.specs.Bases.{AreRunsWithinLimits, IsWantOfMemory}
+use Rattle.gf_buchberger.specs.declared.queue.Strategy.TheVariants.{Degree}
+use Rattle.gf_buchberger.specs.Ruled.{AreRuledRunsWithinLimits}
+use Rattle.gf_buchberger.specs.Bases.{IsWantOfMemory}
 use Rattle.gf_duality_theory.specs.Faces.{Rows}
 use Rattle.gf_fan.specs.FanLists.{FanLists}
 use Rattle.gf_patterns_theory.specs.Patterns.{points}
@@ -29,11 +31,11 @@ HasNoMemory (Search r) = r ≡ tree.Memory
 HasNoMemory (Initial r) = IsMemoryWanted r
 HasNoMemory Memory = Unit {0}
 
--- each part of the test is within its limits: the prevariety, with no polynomial zero; the runs by deglex; the search over the bases; and for
--- each basis and each maximal cone of the prevariety the faces of the intersection of the closed cones
+-- each part of the test is within its limits: the prevariety, with no polynomial zero; the run by deglex that follows the rule of the program; the search
+-- over the bases; and for each basis and each maximal cone of the prevariety the faces of the intersection of the closed cones
 pub record IsTestWithinLimits (n : ℕ) (fs : List Terms) (pairs : ℕ) : Type 0 where
   pub prevariety : IsTropicalWithinLimits IsPairSystem n fs
-  pub root : AreRunsWithinLimits MonomialOrder.deglex fs pairs
+  pub root : AreRuledRunsWithinLimits Degree MonomialOrder.deglex fs pairs
   pub search : IsTreeWithinLimits (ideal_by n fs) pairs
   pub faces : (h : FanLists) (b : MarkedPolynomials) (normals : List (List ℤ)) (c : Rows) → IsPrevarietyFan n (map points fs) h → IsNodeIn (ideal_by n fs) b →
       AreNormals b.items normals → Contains (maximal_rows h) c → AreFacesWithinLimits n b.items normals c pairs

@@ -4,7 +4,9 @@ use Rattle.gf_poly.specs.Polynomial.{Terms}
 use Rattle.gf_poly.specs.Marking.{MarkedPolynomial, MarkedPolynomials}
 use Rattle.gf_exponents_theory.specs.SixOrders.{MonomialOrder}
 use Rattle.gf_buchberger.specs.declared.bases.BasisError.{BasisError}
-use Rattle.gf_buchberger.specs.Bases.{IsBasisRefusal}
+use Rattle.gf_buchberger.specs.declared.queue.Strategy.TheVariants.{Degree}
+use Rattle.gf_buchberger.specs.Ruled.{AreRuledRunsWithinLimits}
+use Rattle.gf_buchberger.specs.Bases.{IsBasisRefusal, IsWantOfMemory}
 use Rattle.gf_duality_theory.specs.Faces.{Rows}
 use Rattle.gf_fan.specs.FanLists.{FanLists}
 use Rattle.gf_patterns_theory.specs.Patterns.{points}
@@ -45,9 +47,11 @@ pub data AreBasesRefused (n : ℕ) (fs : List Terms) (cones : List Rows) (pairs 
 
 -- ---- the test
 
--- a refusal of the prevariety; of the first basis, by deglex; of the bases, with the maximal cones of the prevariety; or memory runs out
+-- a refusal of the prevariety; of the first basis, by deglex, which is want of memory where the run by the rule of the program stays within its limits; of
+-- the bases, with the maximal cones of the prevariety; or memory runs out
 pub data IsVerdictRefusal (n : ℕ) (fs : List Terms) (pairs : ℕ) (e : BasisTestError) : Type 0 where
   at_prevariety : (r : TropicalError) → IsTropicalRefusal IsPairSystem n fs r → e ≡ Prevariety r → IsVerdictRefusal n fs pairs e
-  at_root : (r : BasisError) → IsBasisRefusal MonomialOrder.deglex n fs pairs r → e ≡ Root r → IsVerdictRefusal n fs pairs e
+  at_root : (r : BasisError) → IsBasisRefusal MonomialOrder.deglex n fs pairs r
+      × (AreRuledRunsWithinLimits Degree MonomialOrder.deglex fs pairs → IsWantOfMemory r) → e ≡ Root r → IsVerdictRefusal n fs pairs e
   at_bases : (h : FanLists) → IsPrevarietyFan n (map points fs) h → AreBasesRefused n fs (maximal_rows h) pairs e → IsVerdictRefusal n fs pairs e
   no_memory : e ≡ Memory → IsVerdictRefusal n fs pairs e

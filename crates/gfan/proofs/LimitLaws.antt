@@ -1,6 +1,6 @@
 -- Where the list of `_bases` goes on past its limit, and nothing that the job may do leaves its limits, the limit is told.
 -- To cite: IsAtLimitOrMemory, one_limit, within_most, bases_refused, bases_unanswered. The rest are steps.
-use Rattle.std.specs.Prelude.{◌≡◌, ◌⊎◌, ℕ, ◌<◌, ◌≤◌, Bool, true, false, List, [], ◌∷◌, ◌++◌, length, Err, Option, None, Some, ℤ}
+use Rattle.std.specs.Prelude.{◌≡◌, ◌⊎◌, ℕ, ◌<◌, ◌≤◌, Bool, true, false, List, [], ◌∷◌, ◌++◌, length, Option, None, Some, ℤ}
 use Rattle.std.proofs.Common.{arith, refl, sym, ap, ◌∙◌, subst, inl, inr, length-append}
 use Rattle.gf_exponents_theory.specs.Orders.{gains}
 use Rattle.gf_exponents_theory.specs.SixOrders.{MonomialOrder}
@@ -11,8 +11,8 @@ use Rattle.gf_text.specs.declared.error.TextError.{TextError}
 use Rattle.gf_text.specs.declared.error.TextError.TheVariants as text_errors
 use Rattle.gf_text.specs.declared.written.Written.{Written}
 use Rattle.gf_gordan.specs.Alternative.{AreRows}
-use Rattle.gf_buchberger.specs.Bases.{AreRunsWithinLimits}
-use Rattle.gf_buchberger.proofs.BasesOfRuns.{if_within}
+use Rattle.gf_buchberger.specs.declared.queue.Strategy.TheVariants as strategies
+use Rattle.gf_buchberger.specs.Ruled.{AreRuledRunsWithinLimits}
 use Rattle.gf_weights.specs.Roots.{IsRegionOf}
 use Rattle.gf_weights.proofs.RegionLaws.{regions_are_one}
 use Rattle.gf_front.specs.declared.refusal.Refusal.{Refusal}
@@ -80,7 +80,7 @@ going_past o n fs most r v w h = going_past_in o n (all_positive n) fs most r v 
 
 list_past : (o : ListOptions) (n : ℕ) (fs : List Terms) (most : ℕ) (r : Refusal) → AreInVariables n fs → IsListPast o n fs most → IsListCause o n fs r →
     IsAtLimitOrMemory most r
-list_past o n fs most r v w (IsListCause.at_root e h q) = inr (q ∙ ap of_basis (if_within {A = Unit {0}} MonomialOrder.deglex n o.pairs fs (Err e) w.root h))
+list_past o n fs most r v w (IsListCause.at_root e h q) = inr (q ∙ ap of_basis (h.by_rule w.root))
 list_past o n fs most r v w (IsListCause.going h) = going_past o n fs most r v w.going h
 
 given_past : (o : ListOptions) (n : ℕ) (s : MarkedPolynomials) (most : ℕ) (r : Refusal) → HaveVariables s.variables s.items → AreInVariables n (polys s.items) →
@@ -144,8 +144,8 @@ region_past : (o : ListOptions) (n : ℕ) (rows : List (List ℤ)) (fs : List Te
 region_past o n rows fs most r v p (IsCauseWithin.at_region (w, (e, h, q))) = inr (q ∙ ap of_region (p.limits e h))
 region_past o n rows fs most r v p (IsCauseWithin.at_root k i (e, h, q)) =
     let same : k ≡ p.region = regions_are_one.one n rows k p.region i p.is_region in
-    inr (q ∙ ap of_basis (if_within {A = Unit {0}} (MonomialOrder.weighted (gains k.root)) n o.pairs fs (Err e)
-    (subst (λ (j : Region). AreRunsWithinLimits (MonomialOrder.weighted (gains j.root)) fs o.pairs) (sym same) p.root) h))
+    inr (q ∙ ap of_basis (h.by_rule
+    (subst (λ (j : Region). AreRuledRunsWithinLimits strategies.Degree (MonomialOrder.weighted (gains j.root)) fs o.pairs) (sym same) p.root)))
 region_past o n rows fs most r v p (IsCauseWithin.going k i h) =
     let same : k ≡ p.region = regions_are_one.one n rows k p.region i p.is_region in
     going_past_in o n p.region fs most r v p.is_region.region p.going (subst (λ (j : Region). IsGoingCauseIn o n j fs r) same h)
@@ -157,8 +157,9 @@ given_region_past o n rows s most r own v p (IsGivenCauseWithin.at_start (IsGive
     inr (reducing_only s r own p.basis p.checks p.tails h)
 given_region_past o n rows s most r own v p (IsGivenCauseWithin.at_start (IsGivenStartRefusal.at_root k i (IsGivenRegionRootRefusal.at_root u g f (e, h, q)))) =
     let same : k ≡ p.region = regions_are_one.one n rows k p.region i p.is_region in
-    inr (q ∙ ap of_basis (if_within {A = Unit {0}} (MonomialOrder.weighted (gains k.root)) s.variables o.pairs (polys u.items) (Err e)
-    (subst (λ (j : Region). AreRunsWithinLimits (MonomialOrder.weighted (gains j.root)) (polys u.items) o.pairs) (sym same) (p.root u f)) h))
+    inr (q ∙ ap of_basis (h.by_rule
+    (subst (λ (j : Region). AreRuledRunsWithinLimits strategies.Degree (MonomialOrder.weighted (gains j.root)) (polys u.items) o.pairs) (sym same)
+    (p.root u f))))
 given_region_past o n rows s most r own v p (IsGivenCauseWithin.going k i g h) =
     let same : k ≡ p.region = regions_are_one.one n rows k p.region i p.is_region in
     going_past_in o n p.region (polys s.items) most r v p.is_region.region p.going (subst (λ (j : Region). IsGoingCauseIn o n j (polys s.items) r) same h)

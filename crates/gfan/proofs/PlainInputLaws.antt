@@ -94,7 +94,7 @@ going_never before o n k fs x never (IsGoingCauseBehind.at_limit most h q) = cc
 going_never before o n k fs x never (IsGoingCauseBehind.at_certificates c) = no_weight c.uncertified.0 x c.uncertified.2
 
 list_never : (o : ListOptions) (n : ℕ) (fs : List Terms) (x : Overflow) → AreBinomials fs → IsListCause o n fs (refusals.Overflow x) → ⊥
-list_never o n fs x b (IsListCause.at_root e h q) = basis_never MonomialOrder.deglex n fs o.pairs e x b h q
+list_never o n fs x b (IsListCause.at_root e h q) = basis_never MonomialOrder.deglex n fs o.pairs e x b h.cause q
 list_never o n fs x b (IsListCause.going h) =
     going_never [] o n (all_positive n) fs x (λ y pairs k. refusals_tell_no_overflow.search (ideal_by n fs) pairs y b k) h
 
@@ -124,7 +124,7 @@ reduced_binomials s u b f g c = at (Contains-marked u.items g c)
     at p = subst IsBinomial p.2 (record { first = Some p.0.head; second = (two p.0 p.1).tail; binomial = (two p.0 p.1).binomial })
 
 summary_never : (limit pairs : ℕ) (fs : List Terms) (x : Overflow) → AreBinomials fs → IsSummaryCause limit pairs fs (refusals.Overflow x) → ⊥
-summary_never limit pairs fs x b (IsSummaryCause.at_root e h q) = basis_never MonomialOrder.deglex 4 fs pairs e x b h q
+summary_never limit pairs fs x b (IsSummaryCause.at_root e h q) = basis_never MonomialOrder.deglex 4 fs pairs e x b h.cause q
 summary_never limit pairs fs x b (IsSummaryCause.in_tree e h q) =
     search_never [] (list_to limit pairs) 4 (all_positive 4) fs e x (λ y pairs k. refusals_tell_no_overflow.search (ideal_by 4 fs) pairs y b k) h q
 summary_never limit pairs fs x b (IsSummaryCause.at_weight e h q) = no_weight e x q
@@ -193,7 +193,7 @@ module _ (source : List ℕ) (b : BeginsPlainly source) where
   cause_never : (o : ListOptions) (n : ℕ) (rows : List (List ℤ)) (fs : List Terms) (x : Overflow) → AreBinomials fs →
       IsCauseWithin o n rows fs (refusals.Overflow x) → ⊥
   cause_never o n rows fs x k (IsCauseWithin.at_region (w, (e, h, q))) = region_never e x q
-  cause_never o n rows fs x k (IsCauseWithin.at_root j i (e, h, q)) = basis_never (MonomialOrder.weighted (gains j.root)) n fs o.pairs e x k h q
+  cause_never o n rows fs x k (IsCauseWithin.at_root j i (e, h, q)) = basis_never (MonomialOrder.weighted (gains j.root)) n fs o.pairs e x k h.cause q
   cause_never o n rows fs x k (IsCauseWithin.going j i h) =
       going_never [] o n j fs x (λ y pairs l. refusals_tell_no_overflow.search (ideal_within n fs j) pairs y k l) h
 
@@ -207,7 +207,7 @@ module _ (source : List ℕ) (b : BeginsPlainly source) where
       (IsGivenRegionRootRefusal.at_basis (IsReducingRefusal.at_tails t d m a h q)))) =
       poly_never d x (λ y l. refusals_tell_no_overflow.monic_forms s t y k a (subst (λ c. IsAutoreductionRefusal t.items c) l h)) q
   given_cause_never o n rows s x k (IsGivenCauseWithin.at_start (IsGivenStartRefusal.at_root j i (IsGivenRegionRootRefusal.at_root u m f (e, h, q)))) =
-      basis_never (MonomialOrder.weighted (gains j.root)) s.variables (polys u.items) o.pairs e x (reduced_binomials s u k f) h q
+      basis_never (MonomialOrder.weighted (gains j.root)) s.variables (polys u.items) o.pairs e x (reduced_binomials s u k f) h.cause q
   given_cause_never o n rows s x k (IsGivenCauseWithin.going j i m h) =
       going_never [] o n j (polys s.items) x (λ y pairs l. refusals_tell_no_overflow.search (ideal_within n (polys s.items) j) pairs y (polys_binomial s k) l) h
 
@@ -277,8 +277,8 @@ given_binomials true v b = polys_binomial v.1 b
 
 unrooted_never : (from_basis is_cut : Bool) (v : Given from_basis) (k : Region) (pairs : ℕ) (x : Overflow) → AreGivenBinomials from_basis v →
     IsUnrooted from_basis is_cut v k pairs (refusals.Overflow x) → ⊥
-unrooted_never false false v k pairs x b h = basis_never MonomialOrder.deglex (length v.0) (generators_of v.1.0) pairs h.0 x b h.1 h.2
-unrooted_never false true v k pairs x b h = basis_never (MonomialOrder.weighted (gains k.root)) (length v.0) (generators_of v.1.0) pairs h.0 x b h.1 h.2
+unrooted_never false false v k pairs x b h = basis_never MonomialOrder.deglex (length v.0) (generators_of v.1.0) pairs h.0 x b h.1.cause h.2
+unrooted_never false true v k pairs x b h = basis_never (MonomialOrder.weighted (gains k.root)) (length v.0) (generators_of v.1.0) pairs h.0 x b h.1.cause h.2
 unrooted_never true false v k pairs x b (IsGivenRootRefusal.at_check e h q) =
     check_never v.1 e x (λ y i. refusals_tell_no_overflow.marked_basis 0 v.1 y b (subst (λ d. IsReducedBasisRefusal 0 v.1 d) i h)) q
 unrooted_never true false v k pairs x b (IsGivenRootRefusal.at_tails t d m a h q) =
@@ -291,7 +291,7 @@ unrooted_never true true v k pairs x b (IsGivenRegionRootRefusal.at_basis (IsRed
 unrooted_never true true v k pairs x b (IsGivenRegionRootRefusal.at_basis (IsReducingRefusal.at_tails t d m a h q)) =
     poly_never d x (λ y i. refusals_tell_no_overflow.monic_forms v.1 t y b a (subst (λ c. IsAutoreductionRefusal t.items c) i h)) q
 unrooted_never true true v k pairs x b (IsGivenRegionRootRefusal.at_root u m f (e, h, q)) =
-    basis_never (MonomialOrder.weighted (gains k.root)) v.1.variables (polys u.items) pairs e x (reduced_binomials v.1 u b f) h q
+    basis_never (MonomialOrder.weighted (gains k.root)) v.1.variables (polys u.items) pairs e x (reduced_binomials v.1 u b f) h.cause q
 
 -- reductions of such differences by such
 reduced_never : (bs : List MarkedPolynomial) (fs : List Terms) (d : PolyError) (x : Overflow) → AreMarkedBinomials (Contains bs) → AreBinomials fs →

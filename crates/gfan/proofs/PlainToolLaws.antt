@@ -417,7 +417,7 @@ module _ (n : ℕ) (fs : List Terms) (inside : AreInVariables n fs) (two : AreBi
 
   verdict_never : (pairs : ℕ) (e : BasisTestError) (x : Overflow) → IsVerdictRefusal n fs pairs e → refusals.Overflow x ≡ of_basis_test e → ⊥
   verdict_never pairs e x (IsVerdictRefusal.at_prevariety r h k) q = prevariety_never r x (q ∙ ap of_basis_test k)
-  verdict_never pairs e x (IsVerdictRefusal.at_root r h k) q = basis_never MonomialOrder.deglex n fs pairs r x two h (q ∙ ap of_basis_test k)
+  verdict_never pairs e x (IsVerdictRefusal.at_root r h k) q = basis_never MonomialOrder.deglex n fs pairs r x two h.0 (q ∙ ap of_basis_test k)
   verdict_never pairs e x (IsVerdictRefusal.at_bases l p h) q = at_bases_never _ pairs e x h q
   verdict_never pairs e x (IsVerdictRefusal.no_memory k) q = let m : refusals.Overflow x ≡ refusals.Memory = q ∙ ap of_basis_test k in cc
 

@@ -6,6 +6,7 @@ pub mod BasesTextLaws  -- pieces that follow one another are the text of the lis
 pub mod StoppedLaws  -- what stands where a list is refused, and why
 pub mod BasesLaws  -- how the list is written
 pub mod AheadLaws  -- bases that are taken out of a list before they are written
+pub mod FirstLaws  -- why the first basis of a list isn't there
 pub mod GivenBasisLaws  -- the list from a basis that is given
 pub mod ListExactLaws  -- refusals of `_bases` are told in one way
 pub mod WithinLaws  -- `_bases --within`

@@ -1,11 +1,9 @@
 -- `_bases` and `_bases -g`: their refusals are each told in one way.
 -- To cite: bases_exact, given_exact, given_tested; going_work, going_within_in, going_untested_in, list_untested. The rest are steps.
-use Rattle.std.specs.Prelude.{◌≡◌, ℕ, ◌<◌, false, List, [], ◌∷◌, length, Err, Option, None, Some}
+use Rattle.std.specs.Prelude.{◌≡◌, ℕ, ◌<◌, false, List, [], ◌∷◌, length, Option, None, Some}
 use Rattle.std.proofs.Common.{arith, refl, sym, ap, ◌∙◌, subst, inl}
-use Rattle.gf_exponents_theory.specs.SixOrders.{MonomialOrder}
 use Rattle.gf_poly.specs.Polynomial.{Terms}
 use Rattle.gf_poly.specs.Marking.{MarkedPolynomials, polys}
-use Rattle.gf_buchberger.proofs.BasesOfRuns.{if_within}
 use Rattle.gf_facets_theory.specs.Regions.{Region, all_positive}
 use Rattle.gf_tree.specs.Ideals.{ideal_by, ideal_within}
 use Rattle.gf_tree.specs.Refusals.{IsTreeWithinLimits}
@@ -60,7 +58,7 @@ going_within : (o : ListOptions) (n : ℕ) (fs : List Terms) (r : Refusal) → I
 going_within o n fs r w few all h = going_within_in o n (all_positive n) fs r (record { tree = w; few = few; certificates = all }) h
 
 list_within : (o : ListOptions) (n : ℕ) (fs : List Terms) (r : Refusal) → IsListWithin o n fs → IsListCause o n fs r → r ≡ refusals.Memory
-list_within o n fs r w (IsListCause.at_root e h q) = q ∙ ap of_basis (if_within {A = Unit {0}} MonomialOrder.deglex n o.pairs fs (Err e) w.root h)
+list_within o n fs r w (IsListCause.at_root e h q) = q ∙ ap of_basis (h.by_rule w.root)
 list_within o n fs r w (IsListCause.going h) = going_within o n fs r w.tree w.few w.certificates h
 
 given_within : (o : ListOptions) (n : ℕ) (s : MarkedPolynomials) (r : Refusal) → IsGivenListWithin o n s → IsGivenListCause o n s r → r ≡ refusals.Memory

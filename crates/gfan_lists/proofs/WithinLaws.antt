@@ -5,7 +5,7 @@
 -- region_unlisted, root_unlisted, start_unlisted; no_region_named, region_told, named_start; root_in_starts,
 -- given_region_starts; rows_hold, no_region_stopped, no_root_stopped, within_done, within_cut, no_start_stopped,
 -- given_within_done, given_within_cut. The rest are steps.
-use Rattle.std.specs.Prelude.{◌≡◌, ◌⊎◌, ℕ, false, List, [], ◌∷◌, length, Option, Some, None, Err, ℤ}
+use Rattle.std.specs.Prelude.{◌≡◌, ◌⊎◌, ℕ, false, List, [], ◌∷◌, length, Option, Some, None, ℤ}
 use Rattle.std.proofs.Common.{refl, sym, ap, ◌∙◌, subst, inl, inr}
 use Rattle.gf_exponents_theory.specs.Orders.{gains}
 use Rattle.gf_exponents_theory.specs.SixOrders.{MonomialOrder}
@@ -13,7 +13,6 @@ use Rattle.gf_poly.specs.Polynomial.{Terms}
 use Rattle.gf_poly.specs.Marking.{MarkedPolynomials, HaveVariables, polys}
 use Rattle.gf_ideal_theory.specs.Membership.{AreInVariables}
 use Rattle.gf_buchberger.specs.Bases.{IsArrangedBasis}
-use Rattle.gf_buchberger.proofs.BasesOfRuns.{if_within}
 use Rattle.gf_gordan.specs.Alternative.{AreRows}
 use Rattle.gf_reduced.specs.Markings.{IsMarkedGroebnerBasis}
 use Rattle.gf_reduced.proofs.GroebnerLaws.{polys_variables}
@@ -118,7 +117,7 @@ within_only : (o : ListOptions) (n : ℕ) (rows : List (List ℤ)) (fs : List Te
     r ≡ refusals.Memory
 within_only o n rows fs r w (IsCauseWithin.at_region (v, (e, h, q))) = q ∙ ap of_region (w.region e h)
 within_only o n rows fs r w (IsCauseWithin.at_root k i (e, h, q)) =
-    q ∙ ap of_basis (if_within {A = Unit {0}} (MonomialOrder.weighted (gains k.root)) n o.pairs fs (Err e) (w.root k i) h)
+    q ∙ ap of_basis (h.by_rule (w.root k i))
 within_only o n rows fs r w (IsCauseWithin.going k i h) = going_within_in o n k fs r (w.going k i) h
 
 within_same : (o : ListOptions) (n : ℕ) (rows : List (List ℤ)) (fs : List Terms) (r d : Refusal) → IsOfTest r → IsCauseWithin o n rows fs r →
@@ -179,7 +178,7 @@ given_within_only o n rows s r w (IsGivenCauseWithin.at_start (IsGivenStartRefus
 given_within_only o n rows s r w (IsGivenCauseWithin.at_start (IsGivenStartRefusal.at_root k i (IsGivenRegionRootRefusal.at_basis h))) =
     reducing_only s r w.variables w.basis w.checks w.tails h
 given_within_only o n rows s r w (IsGivenCauseWithin.at_start (IsGivenStartRefusal.at_root k i (IsGivenRegionRootRefusal.at_root u g f (e, h, q)))) =
-    q ∙ ap of_basis (if_within {A = Unit {0}} (MonomialOrder.weighted (gains k.root)) s.variables o.pairs (polys u.items) (Err e) (w.root k u i f) h)
+    q ∙ ap of_basis (h.by_rule (w.root k u i f))
 given_within_only o n rows s r w (IsGivenCauseWithin.going k i g h) = going_within_in o n k (polys s.items) r (w.going k i) h
 
 pub given_root_same : (k j : Region) (s : MarkedPolynomials) (pairs : ℕ) (r d : Refusal) → HaveVariables s.variables s.items → IsOfTest r →

@@ -7,7 +7,9 @@ use Rattle.gf_poly.specs.Marking.{MarkedPolynomials}
 use Rattle.gf_text.specs.RingText.{ring_text}
 use Rattle.gf_text.specs.declared.written.Written.{Written}
 use Rattle.gf_buchberger.specs.declared.bases.BasisError.{BasisError}
-use Rattle.gf_buchberger.specs.Bases.{IsBasisRefusal, AreRunsWithinLimits}
+use Rattle.gf_buchberger.specs.declared.queue.Strategy.TheVariants as strategies
+use Rattle.gf_buchberger.specs.Ruled.{AreRuledRunsWithinLimits}
+use Rattle.gf_buchberger.specs.Bases.{IsBasisRefusal, IsWantOfMemory}
 use Rattle.gf_flip.specs.declared.error.TreeError.{TreeError}
 use Rattle.gf_flip.specs.declared.error.TreeError.TheVariants as tree_errors
 use Rattle.gf_facets_theory.specs.Regions.{Region, all_positive}
@@ -211,9 +213,15 @@ IsBegunWhere o ring fs text r = IsBegunWhereIn o ring (all_positive (length ring
 
 -- ---- with the first basis
 
+-- why the basis of fs by the order, at which a list starts, isn't there: the operands of an operation of a run of Buchberger's algorithm, which don't fit;
+-- or a spent budget; or want of memory, and where the run by the rule of the program stays within its limits, that alone
+pub record IsFirstRefusal (order : MonomialOrder) (n : ℕ) (fs : List Terms) (pairs : ℕ) (e : BasisError) : Type 0 where
+  pub cause : IsBasisRefusal order n fs pairs e
+  pub by_rule : AreRuledRunsWithinLimits strategies.Degree order fs pairs → IsWantOfMemory e
+
 -- the first basis, by deglex, is refused; or the list is refused from this basis on
 pub data IsListCause (o : ListOptions) (n : ℕ) (fs : List Terms) (r : Refusal) : Type 0 where
-  at_root : (e : BasisError) → IsBasisRefusal MonomialOrder.deglex n fs o.pairs e → r ≡ of_basis e → IsListCause o n fs r
+  at_root : (e : BasisError) → IsFirstRefusal MonomialOrder.deglex n fs o.pairs e → r ≡ of_basis e → IsListCause o n fs r
   going : IsGoingCause o n fs r → IsListCause o n fs r
 
 -- if there are certificates, no operation of those of a basis of the ideal in a region leaves its limits
@@ -231,10 +239,10 @@ pub record IsGoingWithin (o : ListOptions) (n : ℕ) (k : Region) (fs : List Ter
 abbrev pub AreCertifiedWithin : ListOptions → ℕ → List Terms → Type 0
 AreCertifiedWithin o n fs = AreCertifiedWithinIn o n (all_positive n) fs
 
--- no operation on the way to the first basis leaves its limits, nor does one of the search at a basis of the ideal, or one of its
--- certificates if there are any, and the list isn't longer than its limit
+-- no operation of the run by the rule of the program to the first basis leaves its limits, nor does one of the search at a basis of the ideal, or one of
+-- its certificates if there are any, and the list isn't longer than its limit
 pub record IsListWithin (o : ListOptions) (n : ℕ) (fs : List Terms) : Type 0 where
-  pub root : AreRunsWithinLimits MonomialOrder.deglex fs o.pairs
+  pub root : AreRuledRunsWithinLimits strategies.Degree MonomialOrder.deglex fs o.pairs
   pub tree : IsTreeWithinLimits (ideal_by n fs) o.pairs
   pub few : (list : List MarkedPolynomials) → AreAllBases n fs list → IsWithinLimit o.limit list
   pub certificates : AreCertifiedWithin o n fs
@@ -252,10 +260,10 @@ pub record IsGoingPastIn (o : ListOptions) (n : ℕ) (k : Region) (fs : List Ter
 abbrev pub IsGoingPast : ListOptions → ℕ → List Terms → ℕ → Type 0
 IsGoingPast o n fs most = IsGoingPastIn o n (all_positive n) fs most
 
--- the list of all bases continues after its limit, and no operation before that leaves its limits, on the way to the first basis or from it
--- on
+-- the list of all bases continues after its limit, and no operation before that leaves its limits, of the run by the rule of the program to the first
+-- basis or from this basis on
 pub record IsListPast (o : ListOptions) (n : ℕ) (fs : List Terms) (most : ℕ) : Type 0 where
-  pub root : AreRunsWithinLimits MonomialOrder.deglex fs o.pairs
+  pub root : AreRuledRunsWithinLimits strategies.Degree MonomialOrder.deglex fs o.pairs
   pub going : IsGoingPast o n fs most
 
 -- ---- the command

@@ -9,7 +9,7 @@ use Rattle.gf_poly.specs.Marking.{MarkedPolynomials}
 use Rattle.gf_text.specs.RingText.{ring_text}
 use Rattle.gf_ideal_theory.specs.Membership.{AreInVariables}
 use Rattle.gf_buchberger.specs.declared.bases.BasisError.{BasisError}
-use Rattle.gf_buchberger.specs.Bases.{IsArrangedBasis, IsBasisRefusal}
+use Rattle.gf_buchberger.specs.Bases.{IsArrangedBasis}
 use Rattle.gf_exponents_theory.specs.Orders.{gains, IsWeightedBelow}
 use Rattle.gf_ideal_theory.specs.Bases.{IsReducedBasisFor}
 use Rattle.gf_reverse_theory.specs.Upward.{IsNodeIn}
@@ -24,7 +24,7 @@ use Rattle.gfan_lists.specs.declared.bases.Room.TheVariants.{Endless, Limited}
 use Rattle.gfan_common.specs.Causes.{of_basis}
 use Rattle.gfan_lists.specs.BasesList.{AreAllBasesIn}
 use Rattle.gfan_lists.specs.Certificates.{IsItemTextIn, IsItemRefusalIn}
-use Rattle.gfan_lists.specs.Bases.{later_item_text, AreItemTextsIn, IsTextBehind, IsFullTextBehind, IsBegunWhereBehind, begun_text}
+use Rattle.gfan_lists.specs.Bases.{later_item_text, AreItemTextsIn, IsTextBehind, IsFullTextBehind, IsBegunWhereBehind, begun_text, IsFirstRefusal}
 
 -- ---- pieces
 
@@ -85,7 +85,7 @@ IsFirstBasis n fs root = IsArrangedBasis MonomialOrder.deglex n fs root
 
 -- why this basis isn't computed
 abbrev pub IsRootRefusal : ℕ → List Terms → ℕ → Refusal → Type 0
-IsRootRefusal n fs pairs r = (e : BasisError) × IsBasisRefusal MonomialOrder.deglex n fs pairs e × (r ≡ of_basis e)
+IsRootRefusal n fs pairs r = (e : BasisError) × IsFirstRefusal MonomialOrder.deglex n fs pairs e × (r ≡ of_basis e)
 
 -- the list of the ideal of fs in n variables starts at root
 pub record StartsAt (n : ℕ) (fs : List Terms) (root : MarkedPolynomials) : Type 0 where

@@ -12,7 +12,6 @@ use Rattle.gf_small.specs.Degrees.{greatest}
 use Rattle.gf_small.specs.Counts.{degree_of_set}
 use Rattle.gf_text.specs.VectorText.{vector_text}
 use Rattle.gf_buchberger.specs.declared.bases.BasisError.{BasisError}
-use Rattle.gf_buchberger.specs.Bases.{IsBasisRefusal}
 use Rattle.gf_flip.specs.declared.error.TreeError.{TreeError}
 use Rattle.gf_weights.specs.declared.error.WeightError.{WeightError}
 use Rattle.gf_weights.specs.Weights.{IsPrintedWeight}
@@ -27,7 +26,7 @@ use Rattle.gfan_lists.specs.declared.bases.ListOptions.{ListOptions}
 use Rattle.gfan_common.specs.Printing.{count_line}
 use Rattle.gfan_common.specs.Causes.{of_basis, of_weight_error, of_tree}
 use Rattle.gfan_lists.specs.BasesList.{AreAllBases}
-use Rattle.gfan_lists.specs.Bases.{IsSearchRefused}
+use Rattle.gfan_lists.specs.Bases.{IsFirstRefusal, IsSearchRefused}
 
 -- ---- the output
 
@@ -98,7 +97,7 @@ pub record IsSumRefused (limit : ℕ) (fs : List Terms) (e : WideVector) : Type 
 -- the first basis, by deglex, is refused; or a call of the search, at a basis up to the limit or at the next one; or a weight, or the sum
 -- of the weights
 pub data IsSummaryCause (limit pairs : ℕ) (fs : List Terms) (r : Refusal) : Type 0 where
-  at_root : (e : BasisError) → IsBasisRefusal MonomialOrder.deglex 4 fs pairs e → r ≡ of_basis e → IsSummaryCause limit pairs fs r
+  at_root : (e : BasisError) → IsFirstRefusal MonomialOrder.deglex 4 fs pairs e → r ≡ of_basis e → IsSummaryCause limit pairs fs r
   in_tree : (e : TreeError) → IsSearchRefused (list_to limit pairs) 4 fs e → r ≡ of_tree e → IsSummaryCause limit pairs fs r
   at_weight : (e : WeightError) → IsWeightRefused limit fs e → r ≡ of_weight_error e → IsSummaryCause limit pairs fs r
   at_sum : (e : WideVector) → IsSumRefused limit fs e → r ≡ refusals.WideVector e → IsSummaryCause limit pairs fs r

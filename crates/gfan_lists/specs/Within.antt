@@ -8,7 +8,8 @@ use Rattle.gf_poly.specs.Polynomial.{Terms}
 use Rattle.gf_poly.specs.Marking.{MarkedPolynomials, HaveVariables, polys, IsArranged}
 use Rattle.gf_division.specs.Autoreduction.{IsAutoreductionRefusal}
 use Rattle.gf_buchberger.specs.declared.bases.BasisError.{BasisError}
-use Rattle.gf_buchberger.specs.Bases.{IsBasisRefusal, AreRunsWithinLimits}
+use Rattle.gf_buchberger.specs.declared.queue.Strategy.TheVariants as strategies
+use Rattle.gf_buchberger.specs.Ruled.{AreRuledRunsWithinLimits}
 use Rattle.gf_reduced.specs.Forms.{monic_set}
 use Rattle.gf_reduced.specs.Markings.{IsMarkedGroebnerBasis}
 use Rattle.gf_reduced.specs.Refusals.{AreChecksWithinLimits}
@@ -27,7 +28,7 @@ use Rattle.gf_frame.specs.Commands.{Writing, Command, IsAnswerFor, IsUnanswered}
 use Rattle.gfan_lists.specs.declared.bases.ListOptions.{ListOptions}
 use Rattle.gfan_common.specs.Forms.{generators_of}
 use Rattle.gfan_common.specs.Causes.{of_basis}
-use Rattle.gfan_lists.specs.Bases.{IsTextOfBasesIn, IsFullTextIn, IsBegunWhereIn, IsGoingCauseIn, IsGoingWithin, IsGoingPastIn}
+use Rattle.gfan_lists.specs.Bases.{IsFirstRefusal, IsTextOfBasesIn, IsFullTextIn, IsBegunWhereIn, IsGoingCauseIn, IsGoingWithin, IsGoingPastIn}
 use Rattle.gfan_lists.specs.GivenBasis.{IsReducedFrom, IsReducingRefusal}
 use Rattle.gfan_common.specs.ToolForms.{for_each}
 
@@ -72,7 +73,7 @@ pub record IsBegunWithin (o : ListOptions) (rows : List (List ℤ)) (ring : List
 
 -- the basis for the root of the region, ties broken by lex, is refused
 abbrev pub IsRegionRootRefusal : ℕ → Region → List Terms → ℕ → Refusal → Type 0
-IsRegionRootRefusal n k fs pairs r = (e : BasisError) × IsBasisRefusal (MonomialOrder.weighted (gains k.root)) n fs pairs e × (r ≡ of_basis e)
+IsRegionRootRefusal n k fs pairs r = (e : BasisError) × IsFirstRefusal (MonomialOrder.weighted (gains k.root)) n fs pairs e × (r ≡ of_basis e)
 
 -- there is no region; or there is one, and its first basis is refused, or the list from this basis on
 pub data IsCauseWithin (o : ListOptions) (n : ℕ) (rows : List (List ℤ)) (fs : List Terms) (r : Refusal) : Type 0 where
@@ -80,11 +81,11 @@ pub data IsCauseWithin (o : ListOptions) (n : ℕ) (rows : List (List ℤ)) (fs 
   at_root : (k : Region) → IsRegionOf n rows k → IsRegionRootRefusal n k fs o.pairs r → IsCauseWithin o n rows fs r
   going : (k : Region) → IsRegionOf n rows k → IsGoingCauseIn o n k fs r → IsCauseWithin o n rows fs r
 
--- no operation of finding the region and its root leaves its limits. Nor does one on the way to the first basis, of the search at a basis
--- of the ideal in the region, or of its certificates if there are any. The list isn't longer than its limit
+-- no operation of finding the region and its root leaves its limits. Nor does one of the run by the rule of the program to the first basis, of the search
+-- at a basis of the ideal in the region, or of its certificates if there are any. The list isn't longer than its limit
 pub record IsWithinRegion (o : ListOptions) (n : ℕ) (rows : List (List ℤ)) (fs : List Terms) : Type 0 where
   pub region : IsRegionWithinLimits n rows
-  pub root : (k : Region) → IsRegionOf n rows k → AreRunsWithinLimits (MonomialOrder.weighted (gains k.root)) fs o.pairs
+  pub root : (k : Region) → IsRegionOf n rows k → AreRuledRunsWithinLimits strategies.Degree (MonomialOrder.weighted (gains k.root)) fs o.pairs
   pub going : (k : Region) → IsRegionOf n rows k → IsGoingWithin o n k fs
 
 -- the vectors cut out a region in which the list continues after its limit, and no operation before that leaves its limits
@@ -92,7 +93,7 @@ pub record IsPastWithin (o : ListOptions) (n : ℕ) (rows : List (List ℤ)) (fs
   pub region : Region
   pub is_region : IsRegionOf n rows region
   pub limits : IsRegionWithinLimits n rows
-  pub root : AreRunsWithinLimits (MonomialOrder.weighted (gains region.root)) fs o.pairs
+  pub root : AreRuledRunsWithinLimits strategies.Degree (MonomialOrder.weighted (gains region.root)) fs o.pairs
   pub going : IsGoingPastIn o n region fs most
 
 -- ---- from a marked Gröbner basis, whose marking may be that of a weight outside the region
@@ -132,7 +133,7 @@ pub data IsGivenCauseWithin (o : ListOptions) (n : ℕ) (rows : List (List ℤ))
       IsGivenCauseWithin o n rows s r
 
 -- the members of the set are in its variables, and the set is a basis. No operation leaves its limits, of the region, of the checks, of the
--- reduction of the set, on the way to the first basis, or from it on. The list isn't longer than its limit
+-- reduction of the set, of the run by the rule of the program to the first basis, or from this basis on. The list isn't longer than its limit
 pub record IsGivenWithinRegion (o : ListOptions) (n : ℕ) (rows : List (List ℤ)) (s : MarkedPolynomials) : Type 0 where
   pub variables : HaveVariables s.variables s.items
   pub same : s.variables ≡ n
@@ -141,7 +142,7 @@ pub record IsGivenWithinRegion (o : ListOptions) (n : ℕ) (rows : List (List �
   pub checks : AreChecksWithinLimits s
   pub tails : (t : MarkedPolynomials) (d : PolyError) → IsArranged (monic_set s) t → IsAutoreductionRefusal t.items d → d ≡ errors.Memory
   pub root : (k : Region) (u : MarkedPolynomials) → IsRegionOf n rows k → IsReducedFrom s u →
-      AreRunsWithinLimits (MonomialOrder.weighted (gains k.root)) (polys u.items) o.pairs
+      AreRuledRunsWithinLimits strategies.Degree (MonomialOrder.weighted (gains k.root)) (polys u.items) o.pairs
   pub going : (k : Region) → IsRegionOf n rows k → IsGoingWithin o n k (polys s.items)
 
 -- the set is a basis, the list in the region continues after its limit, and no operation before that leaves its limits
@@ -152,7 +153,8 @@ pub record IsGivenPastWithin (o : ListOptions) (n : ℕ) (rows : List (List ℤ)
   pub basis : IsMarkedGroebnerBasis s.variables s.items
   pub checks : AreChecksWithinLimits s
   pub tails : (t : MarkedPolynomials) (d : PolyError) → IsArranged (monic_set s) t → IsAutoreductionRefusal t.items d → d ≡ errors.Memory
-  pub root : (u : MarkedPolynomials) → IsReducedFrom s u → AreRunsWithinLimits (MonomialOrder.weighted (gains region.root)) (polys u.items) o.pairs
+  pub root : (u : MarkedPolynomials) → IsReducedFrom s u →
+      AreRuledRunsWithinLimits strategies.Degree (MonomialOrder.weighted (gains region.root)) (polys u.items) o.pairs
   pub going : IsGoingPastIn o n region (polys s.items) most
 
 -- ---- the commands

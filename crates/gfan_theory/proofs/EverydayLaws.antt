@@ -7,6 +7,8 @@ use Rattle.gf_exponents_theory.specs.SixOrders.{MonomialOrder}
 use Rattle.gf_poly.specs.Polynomial.{Terms}
 use Rattle.gf_poly.specs.Marking.{MarkedPolynomial, MarkedPolynomials}
 use Rattle.gf_ideal_theory.specs.Membership.{AreInVariables}
+use Rattle.gf_buchberger.specs.declared.queue.Strategy.TheVariants as strategies
+use Rattle.gf_buchberger.specs.Jobs.{HaveRingVariables}
 use Rattle.gf_ideal_theory.specs.Reduction.{IsMonicForm}
 use Rattle.gf_gordan.specs.Sizes.{HaveEntriesUpTo}
 use Rattle.gf_duality_theory.proofs.ListLaws.{none_in}
@@ -17,7 +19,7 @@ use Rattle.gf_tree.specs.Ideals.{ideal_by, ideal_within}
 use Rattle.gf_weights.specs.Roots.{IsRegionOf}
 use Rattle.gf_weights.specs.Refusals.{AreCertificatesFittingIn}
 use Rattle.gf_binomials_theory.proofs.PrincipalBases.{alone_in, basis_forms, basis_short}
-use Rattle.gf_binomial_calls_theory.proofs.LimitLaws.{runs_within}
+use Rattle.gf_binomial_calls_theory.proofs.LimitLaws.{ruled_within}
 use Rattle.gf_binomial_calls_theory.proofs.SystemLimits.{small_search}
 use Rattle.gfan_lists.specs.declared.bases.ListOptions.{ListOptions}
 use Rattle.gfan_lists.specs.BasesList.{IsGivenIn}
@@ -30,9 +32,9 @@ use Rattle.gfan_theory.proofs.DifferenceLimits.{rows_small, regions_of_differenc
 use Rattle.gfan_theory.proofs.VariableLaws.{plain_of_variables, short_of_variables, in_variables, normals_differ}
 
 pub regions_of_binomials : RegionsOfBinomialsStayWithinLimits
-regions_of_binomials o n rows v f unlimited plain some small few differ inside g short = record {
+regions_of_binomials o n rows v f unlimited plain some small few differ inside ring g short = record {
   region = regions_of_differences_fit n rows v some small few differ inside;
-  root = λ k i. runs_within (MonomialOrder.weighted (gains k.root)) f o.pairs g;
+  root = λ k i. ruled_within strategies.Degree (MonomialOrder.weighted (gains k.root)) n f o.pairs ring g;
   going = going;
 }
   where
@@ -71,19 +73,20 @@ certified n k f b small r few differ d g =
 pub certificates_of_variables : CertificatesOfVariablesStayWithinLimits
 certificates_of_variables = record { everywhere = everywhere; regions = regions }
   where
-    everywhere : (o : ListOptions) (n : ℕ) (f : Terms) → o.limit ≡ None → n ≤ 3 → IsDifferenceOfVariables n f → IsListWithin o n (f ∷ [])
-    everywhere o n f unlimited small d = record {
-      root = runs_within MonomialOrder.deglex f o.pairs (plain_of_variables n f d);
+    everywhere : (o : ListOptions) (n : ℕ) (f : Terms) → o.limit ≡ None → n ≤ 3 → HaveRingVariables n (f ∷ []) → IsDifferenceOfVariables n f →
+        IsListWithin o n (f ∷ [])
+    everywhere o n f unlimited small ring d = record {
+      root = ruled_within strategies.Degree MonomialOrder.deglex n f o.pairs ring (plain_of_variables n f d);
       tree = small_search (ideal_by n (f ∷ [])) f o.pairs refl (plain_of_variables n f d) small (All-nil _) (short_of_variables n f d);
       few = λ list all. subst (λ l. IsWithinLimit l list) (sym unlimited) tt;
       certificates = λ c b g. certified n (all_positive n) f b small (all_positive-region n) (omega arith) (λ row k. absurd (none_in row k)) d g;
     }
 
     regions : (o : ListOptions) (n : ℕ) (rows : List (List ℤ)) (v : List ℤ) (f : Terms) → o.limit ≡ None → n ≤ 3 → length rows ≤ 1 → AreDifferenceRows n rows →
-        IsInRegion n (record { rows = rows; root = v }) v → IsDifferenceOfVariables n f → IsWithinRegion o n rows (f ∷ [])
-    regions o n rows v f unlimited small few differ inside d = record {
+        IsInRegion n (record { rows = rows; root = v }) v → HaveRingVariables n (f ∷ []) → IsDifferenceOfVariables n f → IsWithinRegion o n rows (f ∷ [])
+    regions o n rows v f unlimited small few differ inside ring d = record {
       region = regions_of_differences_fit n rows v (let l = d.first_inside in omega (arith, l)) small (omega (arith, few)) differ inside;
-      root = λ k i. runs_within (MonomialOrder.weighted (gains k.root)) f o.pairs (plain_of_variables n f d);
+      root = λ k i. ruled_within strategies.Degree (MonomialOrder.weighted (gains k.root)) n f o.pairs ring (plain_of_variables n f d);
       going = λ k i. record {
         tree = small_search (ideal_within n (f ∷ []) k) f o.pairs refl (plain_of_variables n f d) small
             (subst (HaveEntriesUpTo 500) (sym i.same) (rows_small n rows 500 (omega arith) differ)) (short_of_variables n f d);

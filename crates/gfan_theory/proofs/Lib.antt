@@ -13,3 +13,5 @@ pub mod LinearBases  -- the members of their bases are linear, and their flips w
 pub mod LinearNormals  -- their normals, in three variables two at most
 pub mod LinearLimits  -- searches over their bases, in at most three variables
 pub mod LinearChecks  -- the checks of marked sets of such polynomials, and their weights
+pub mod ContinuedLaws  -- their lists, after a basis
+pub mod SessionLaws  -- sessions that start at one of their bases

@@ -1,5 +1,5 @@
 -- The search over the bases of an ideal that differences of variables generate, in at most three variables, stays within its limits, and so does `_bases`.
--- To cite: linear_ideals. The rest are steps.
+-- To cite: search_within, certified, linear_ideals. The rest are steps.
 use Rattle.std.proofs.Common.{
   ◌≡◌,
   ℕ,
@@ -60,6 +60,8 @@ use Rattle.gf_cone.specs.Cones.{ConeRows, normal_at, other_rows}
 use Rattle.gf_reverse_theory.specs.Upward.{Fan, IsNodeIn}
 use Rattle.gf_tree.specs.Refusals.{IsConeStep, IsTreeWithinLimits}
 use Rattle.gf_tree.specs.Ideals.{ideal_by, ideal_within}
+use Rattle.gf_buchberger.specs.declared.queue.Strategy.TheVariants as strategies
+use Rattle.gf_buchberger.specs.Jobs.{HaveRingVariables}
 use Rattle.gf_buchberger.specs.Pairs.{pairs_below}
 use Rattle.gf_weights.specs.Refusals.{AreCertificatesFittingIn}
 use Rattle.gf_duality_theory.proofs.ListLaws.{none_in}
@@ -70,7 +72,7 @@ use Rattle.gfan_lists.specs.Bases.{IsWithinLimit, IsListWithin}
 use Rattle.gfan_lists.specs.Within.{IsWithinRegion}
 use Rattle.gfan_theory.specs.Differences.{AreDifferenceRows}
 use Rattle.gfan_theory.specs.Linear.{AreLinearForms, AreLinearDifferences, LinearIdealsStayWithinLimits}
-use Rattle.gfan_theory.proofs.LinearRuns.{entry_low, AreLinearMembers, linear_runs}
+use Rattle.gfan_theory.proofs.LinearRuns.{entry_low, AreLinearMembers, linear_ruled_runs}
 use Rattle.gfan_theory.proofs.LinearBases.{region_members, flips_of_linear_fit}
 use Rattle.gfan_theory.proofs.LinearNormals.{linear_normals}
 use Rattle.gfan_theory.proofs.DifferenceLimits.{rows_small, regions_of_differences_fit, certificates_of_differences_fit}
@@ -170,7 +172,7 @@ systems_within F d few low v s node step =
 
 -- ---- searches and lists
 
-search_within : (F : Fan) (budget : ℕ) → AreLinearDifferences F.variables F.ideal → F.variables ≤ 3 → HaveEntriesUpTo 500 F.region.rows →
+pub search_within : (F : Fan) (budget : ℕ) → AreLinearDifferences F.variables F.ideal → F.variables ≤ 3 → HaveEntriesUpTo 500 F.region.rows →
     pairs_below F.variables ≤ budget → IsTreeWithinLimits F budget
 search_within F budget d few low room = record {
   flips = λ v a node q.
@@ -185,7 +187,7 @@ uncertified : {A : Type 0} (o : ListOptions) → o.certified ≡ false → o.cer
 uncertified o plain c = absurd (let no : false ≡ true = sym plain ∙ c in cc)
 
 -- the certificates of a basis
-certified : (n : ℕ) (fs : List Terms) (b : MarkedPolynomials) → 1 ≤ n → n ≤ 3 → AreLinearDifferences n fs → IsGivenIn n (all_positive n) fs b →
+pub certified : (n : ℕ) (fs : List Terms) (b : MarkedPolynomials) → 1 ≤ n → n ≤ 3 → AreLinearDifferences n fs → IsGivenIn n (all_positive n) fs b →
     AreCertificatesFittingIn b.variables (all_positive n) b.items
 certified n fs b some small d g =
     let node = given_in_node n (all_positive n) fs b d.forms.variables (all_positive-region n) g in
@@ -193,20 +195,21 @@ certified n fs b some small d g =
     (certificates_of_differences_fit n (all_positive n) b.items some small (λ row k. absurd (none_in row k))
     (λ normals m. let p = linear_normals n fs (all_positive n) b.items d node.basis normals m small in (let l = p.0 in omega (arith, l), p.1)))
 
-lists : (o : ListOptions) (n : ℕ) (fs : List Terms) → o.limit ≡ None → 1 ≤ n → n ≤ 3 → AreLinearDifferences n fs → pairs_below n ≤ o.pairs → IsListWithin o n fs
-lists o n fs unlimited some small d room = record {
-  root = linear_runs MonomialOrder.deglex n fs o.pairs tt d room;
+lists : (o : ListOptions) (n : ℕ) (fs : List Terms) → o.limit ≡ None → 1 ≤ n → n ≤ 3 → HaveRingVariables n fs → AreLinearDifferences n fs →
+    pairs_below n ≤ o.pairs → IsListWithin o n fs
+lists o n fs unlimited some small ring d room = record {
+  root = linear_ruled_runs strategies.Degree MonomialOrder.deglex n fs o.pairs tt ring d room;
   tree = search_within (ideal_by n fs) o.pairs d small (All-nil _) room;
   few = λ list all. subst (λ l. IsWithinLimit l list) (sym unlimited) tt;
   certificates = λ c b g. certified n fs b some small d g;
 }
 
 regions : (o : ListOptions) (n : ℕ) (rows : List (List ℤ)) (v : List ℤ) (fs : List Terms) → o.limit ≡ None → o.certified ≡ false → 1 ≤ n → n ≤ 3 →
-    length rows ≤ 2 → AreDifferenceRows n rows → IsInRegion n (record { rows = rows; root = v }) v → AreLinearDifferences n fs → pairs_below n ≤ o.pairs →
-    IsWithinRegion o n rows fs
-regions o n rows v fs unlimited plain some small few differ inside d room = record {
+    length rows ≤ 2 → AreDifferenceRows n rows → IsInRegion n (record { rows = rows; root = v }) v → HaveRingVariables n fs → AreLinearDifferences n fs →
+    pairs_below n ≤ o.pairs → IsWithinRegion o n rows fs
+regions o n rows v fs unlimited plain some small few differ inside ring d room = record {
   region = regions_of_differences_fit n rows v some small few differ inside;
-  root = λ k i. linear_runs (MonomialOrder.weighted (gains k.root)) n fs o.pairs tt d room;
+  root = λ k i. linear_ruled_runs strategies.Degree (MonomialOrder.weighted (gains k.root)) n fs o.pairs tt ring d room;
   going = λ k i. record {
     tree = search_within (ideal_within n fs k) o.pairs d small (subst (HaveEntriesUpTo 500) (sym i.same) (rows_small n rows 500 (omega arith) differ)) room;
     few = λ list all. subst (λ l. IsWithinLimit l list) (sym unlimited) tt;

@@ -3,6 +3,7 @@
 use Rattle.std.specs.Prelude.{◌≡◌, ℕ, ◌<◌, ◌≤◌, false, List, [], ◌∷◌, length, None, Some, ℤ}
 use Rattle.gf_exponents_theory.specs.Exponents.{Exponents, entry}
 use Rattle.gf_poly.specs.Polynomial.{Terms}
+use Rattle.gf_buchberger.specs.Jobs.{HaveRingVariables}
 use Rattle.gf_facets_theory.specs.Regions.{IsInRegion}
 use Rattle.gf_binomials_theory.specs.Binomials.{IsBinomialOf}
 use Rattle.gf_binomial_calls_theory.specs.Limits.{IsPlainGenerator, HasExponentsUpTo}
@@ -17,7 +18,7 @@ use Rattle.gfan_theory.specs.Differences.{AreDifferenceRows}
 abbrev pub RegionsOfBinomialsStayWithinLimits : Type 0
 RegionsOfBinomialsStayWithinLimits = (o : ListOptions) (n : ℕ) (rows : List (List ℤ)) (v : List ℤ) (f : Terms) → o.limit ≡ None → o.certified ≡ false →
     1 ≤ n → n ≤ 3 → length rows ≤ 2 → AreDifferenceRows n rows → IsInRegion n (record { rows = rows; root = v }) v →
-    IsPlainGenerator f → HasExponentsUpTo 500 f → IsWithinRegion o n rows (f ∷ [])
+    HaveRingVariables n (f ∷ []) → IsPlainGenerator f → HasExponentsUpTo 500 f → IsWithinRegion o n rows (f ∷ [])
 
 -- the monomial is the variable at this place
 pub record IsVariable (place : ℕ) (x : Exponents) : Type 0 where
@@ -40,7 +41,8 @@ pub record IsDifferenceOfVariables (n : ℕ) (f : Terms) : Type 0 where
 -- The ideal of the difference of two of at most three variables, with certificates or without, without a limit, and whatever the budget of pairs is: nothing
 -- that `_bases` may do leaves its limits; nor anything that `_bases --within` may do in the region of at most one row that is a difference of two entries.
 pub record CertificatesOfVariablesStayWithinLimits : Type 0 where
-  pub everywhere : (o : ListOptions) (n : ℕ) (f : Terms) → o.limit ≡ None → n ≤ 3 → IsDifferenceOfVariables n f → IsListWithin o n (f ∷ [])
+  pub everywhere : (o : ListOptions) (n : ℕ) (f : Terms) → o.limit ≡ None → n ≤ 3 → HaveRingVariables n (f ∷ []) →
+      IsDifferenceOfVariables n f → IsListWithin o n (f ∷ [])
   pub regions : (o : ListOptions) (n : ℕ) (rows : List (List ℤ)) (v : List ℤ) (f : Terms) → o.limit ≡ None → n ≤ 3 → length rows ≤ 1 →
       AreDifferenceRows n rows →
-      IsInRegion n (record { rows = rows; root = v }) v → IsDifferenceOfVariables n f → IsWithinRegion o n rows (f ∷ [])
+      IsInRegion n (record { rows = rows; root = v }) v → HaveRingVariables n (f ∷ []) → IsDifferenceOfVariables n f → IsWithinRegion o n rows (f ∷ [])

@@ -1,5 +1,5 @@
 -- Ideals that differences of variables generate: their runs, flips and searches stay within their limits.
--- Laws: proofs/LinearRuns.antt, proofs/LinearBases.antt, proofs/LinearLimits.antt.
+-- Laws: proofs/LinearRuns.antt, proofs/LinearBases.antt, proofs/LinearLimits.antt, proofs/LinearChecks.antt, proofs/SessionLaws.antt.
 use Rattle.std.specs.Prelude.{◌≡◌, ℕ, ◌≤◌, false, List, length, None, replicate, Contains, ℤ}
 use Rattle.gf_exponents_theory.specs.Exponents.{Exponents, degree}
 use Rattle.gf_poly.specs.Polynomial.{Terms}
@@ -27,6 +27,7 @@ use Rattle.gf_tree.specs.Refusals.{IsTreeWithinLimits}
 use Rattle.gfan_lists.specs.declared.bases.ListOptions.{ListOptions}
 use Rattle.gfan_lists.specs.Bases.{IsListWithin}
 use Rattle.gfan_lists.specs.Within.{IsWithinRegion}
+use Rattle.gfan_interactive.specs.Interactive.{IsWalkedWithin}
 use Rattle.gfan_theory.specs.Differences.{AreDifferenceRows}
 
 -- each monomial of f is a variable
@@ -62,11 +63,11 @@ pub record LinearIdealsStayWithinLimits : Type 0 where
       IsBasisInRegion n fs k bs → IsFlippable n k bs a → pairs_below n ≤ budget → IsFlipWithinLimits n bs a budget
   pub searches : (F : Fan) (budget : ℕ) → AreLinearDifferences F.variables F.ideal → F.variables ≤ 3 → HaveEntriesUpTo 500 F.region.rows →
       pairs_below F.variables ≤ budget → IsTreeWithinLimits F budget
-  pub lists : (o : ListOptions) (n : ℕ) (fs : List Terms) → o.limit ≡ None → 1 ≤ n → n ≤ 3 → AreLinearDifferences n fs →
-      pairs_below n ≤ o.pairs → IsListWithin o n fs
+  pub lists : (o : ListOptions) (n : ℕ) (fs : List Terms) → o.limit ≡ None → 1 ≤ n → n ≤ 3 → HaveRingVariables n fs →
+      AreLinearDifferences n fs → pairs_below n ≤ o.pairs → IsListWithin o n fs
   pub regions : (o : ListOptions) (n : ℕ) (rows : List (List ℤ)) (v : List ℤ) (fs : List Terms) → o.limit ≡ None → o.certified ≡ false → 1 ≤ n → n ≤ 3 →
-      length rows ≤ 2 → AreDifferenceRows n rows → IsInRegion n (record { rows = rows; root = v }) v → AreLinearDifferences n fs →
-      pairs_below n ≤ o.pairs → IsWithinRegion o n rows fs
+      length rows ≤ 2 → AreDifferenceRows n rows → IsInRegion n (record { rows = rows; root = v }) v → HaveRingVariables n fs →
+      AreLinearDifferences n fs → pairs_below n ≤ o.pairs → IsWithinRegion o n rows fs
 
 -- a marked set of variables and differences of two variables, marked at either term, as it is read
 pub record IsLinearSet (s : MarkedPolynomials) : Type 0 where
@@ -79,3 +80,9 @@ pub record LinearWeightsStayWithinLimits : Type 0 where
   pub checks : (s : MarkedPolynomials) → IsLinearSet s → s.variables ≤ 3 → AreChecksWithinLimits s
   pub weights : (s : MarkedPolynomials) → IsLinearSet s → 1 ≤ s.variables → s.variables ≤ 3 → IsMarkedGroebnerBasis s.variables s.items → AreReduced s.items →
       IsWeighedWithin s
+
+-- Nor anything that a session of `_interactive` may do that starts at such a basis, with the budget of pairs of a list with as many members as there are
+-- variables.
+abbrev pub LinearSessionsStayWithinLimits : Type 0
+LinearSessionsStayWithinLimits = (pairs n : ℕ) (s : MarkedPolynomials) → IsLinearSet s → s.variables ≡ n → n ≤ 3 → IsMarkedGroebnerBasis s.variables s.items →
+    AreReduced s.items → pairs_below n ≤ pairs → IsWalkedWithin pairs n s

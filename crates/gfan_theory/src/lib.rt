@@ -11,7 +11,8 @@ ghost use Rattle.gfan_theory.specs.Certified.{AnswersAreCertified};
 ghost use Rattle.gfan_theory.specs.Joined.{RunsAreJoined};
 ghost use Rattle.gfan_theory.specs.Differences.{RegionsOfDifferencesFit, CertificatesOfDifferencesFit};
 ghost use Rattle.gfan_theory.specs.Linear.{LinearRunsStayWithinLimits, LinearRuledRunsStayWithinLimits};
-ghost use Rattle.gfan_theory.specs.Linear.{LinearIdealsStayWithinLimits, LinearWeightsStayWithinLimits};
+ghost use Rattle.gfan_theory.specs.Linear.{LinearIdealsStayWithinLimits, LinearWeightsStayWithinLimits, LinearSessionsStayWithinLimits};
+ghost use Rattle.gfan_theory.specs.Continued.{ContinuationsStayWithinLimits};
 ghost use Rattle.gfan_theory.specs.Everyday.{RegionsOfBinomialsStayWithinLimits, CertificatesOfVariablesStayWithinLimits};
 
 /// Each answer of `_bases` is the text of the list of all bases of an ideal in a region, or of the part of that list that follows a basis: the ideal
@@ -85,4 +86,16 @@ pub fn linear_ideals_stay_within_limits()
 /// of `_weightvector` is met if such a set is a reduced Gröbner basis for its marking.
 pub fn linear_weights_stay_within_limits()
     ensures { LinearWeightsStayWithinLimits }
+{}
+
+/// The premise of completeness of `_bases --after`, with certificates too, is met by variables and differences of variables, as `a-b, b-c`, in at most three
+/// variables, if the marked set of the file is of such polynomials and stands for a basis of their ideal.
+pub fn continuations_stay_within_limits()
+    ensures { ContinuationsStayWithinLimits }
+{}
+
+/// The premise of completeness of `_interactive` is met by a marked set of variables and differences of variables, in at most three variables, that is a
+/// reduced Gröbner basis for its marking.
+pub fn linear_sessions_stay_within_limits()
+    ensures { LinearSessionsStayWithinLimits }
 {}

@@ -5,7 +5,9 @@ use Rattle.gf_exponents_theory.specs.SixOrders.{MonomialOrder}
 use Rattle.gf_order.specs.Comparisons.{HasEntries}
 use Rattle.gf_poly.specs.declared.TheConstants.{ROOM}
 use Rattle.gf_buchberger.specs.Jobs.{IsSuited}
-use Rattle.gf_buchberger.specs.Bases.{IsArrangedBasis, IsBasisRefusal}
+use Rattle.gf_buchberger.specs.declared.queue.Strategy.TheVariants.{Degree}
+use Rattle.gf_buchberger.specs.Ruled.{AreRuledRunsWithinLimits}
+use Rattle.gf_buchberger.specs.Bases.{IsArrangedBasis, IsBasisRefusal, IsWantOfMemory}
 use Rattle.gf_buchberger.proofs.JobLaws.{orders_that_suit}
 use Rattle.gf_tropical.specs.declared.error.TropicalError.TheVariants.{ZeroPolynomial}
 use Rattle.gf_reverse_theory.specs.Upward.{IsNodeIn, IsNode}
@@ -45,8 +47,11 @@ returns-in_err-start-clause-zero g c = λ i z. let e = c.in_ok-fan.ensures.zero_
 pub returns-in_err-start-clause-err : goal.returns-in_err-start-clause-err
 returns-in_err-start-clause-err g c =
     let p = err_from_is_err_and c.from_residual-in_err-start.result c.from_residual-in_err-start.ensures.1 in
-    rw (p.1, p.2) (IsVerdictRefusal.at_root _ (subst (λ (o : MonomialOrder). IsBasisRefusal o c.args.n c.args.set.now c.args.pairs c.in_err-start.field-0.0)
-    c.deglex.ensures c.in_err-start.ensures.err) refl)
+    let e = c.in_err-start.field-0.0 in
+    let cause = subst (λ (o : MonomialOrder). IsBasisRefusal o c.args.n c.args.set.now c.args.pairs e) c.deglex.ensures c.in_err-start.ensures.err in
+    let by_rule = subst (λ (o : MonomialOrder). AreRuledRunsWithinLimits Degree o c.args.set.now c.args.pairs → IsWantOfMemory e) c.deglex.ensures
+    c.in_err-start.ensures.complete_by_rule in
+    rw (p.1, p.2) (IsVerdictRefusal.at_root e (cause, by_rule) refl)
 
 pub at_bases-requires-clause-room : goal.at_bases-requires-clause-room
 at_bases-requires-clause-room g c = subst (λ m. m < ROOM) (sym c.in_ok-start.ensures.ok.variables) c.requires.room

@@ -1,7 +1,11 @@
-use Rattle.std.proofs.Common.{length, sym, subst, ◌∙◌}
+use Rattle.std.proofs.Common.{length, sym, ap, subst, ◌∙◌}
+use Rattle.std.proofs.lemmas.Result.{err_from_is_err_and}
+use Rattle.gf_exponents_theory.specs.SixOrders.{MonomialOrder}
 use Rattle.gf_buchberger.specs.Jobs.{HaveRingVariables, IsSuited}
 use Rattle.gf_buchberger.proofs.JobLaws.{orders_that_suit}
+use Rattle.gfan_common.specs.Forms.{generators_of}
 use Rattle.gfan_common.proofs.WrittenSetLaws.{in_ring}
+use Rattle.gfan_lists.proofs.FirstLaws.{first_told, first_memory}
 use Rattle.gfan_lists.proofs.bases.first_basis.Goals as goal
 
 pub basis_by_several_ways-requires-clause-variables : goal.basis_by_several_ways-requires-clause-variables
@@ -14,3 +18,16 @@ basis_by_several_ways-requires-clause-suited c =
     let variables = subst (λ n. HaveRingVariables n c.deref.result.now) (sym c.len.ensures.value)
     (in_ring (length c.args.ring.now) c.args.set.now c.deref.result.now c.requires (c.deref.ensures.value ∙ c.in_ok-generators.ensures)) in
     subst (λ o. IsSuited o c.len.result c.deref.result.now) (sym c.deglex.ensures) (orders_that_suit.deglex c.len.result c.deref.result.now variables)
+
+pub returns-in_err-generators-clause-err : goal.returns-in_err-generators-clause-err
+returns-in_err-generators-clause-err c =
+    let p = err_from_is_err_and c.from_residual.result c.from_residual.ensures.1 in
+    rw p.1 (first_memory MonomialOrder.deglex (length c.args.ring.now) (generators_of c.args.set.now) c.args.pairs p.0.refusal (ap (λ r. r.refusal) p.2))
+
+pub returns-clause-err : goal.returns-clause-err
+returns-clause-err c = (
+  c.in-Err.error,
+  first_told _ MonomialOrder.deglex c.len.result (length c.args.ring.now) c.deref.result.now (generators_of c.args.set.now) c.args.pairs c.in-Err.error
+      c.deglex.ensures c.len.ensures.value (c.deref.ensures.value ∙ c.in_ok-generators.ensures) c.in-Err.ensures.err c.in-Err.ensures.complete_by_rule,
+  ap (λ r. r.refusal) c.from.ensures,
+)

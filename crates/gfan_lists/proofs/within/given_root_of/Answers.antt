@@ -1,14 +1,14 @@
-use Rattle.std.proofs.Common.{List, ap, ◌∙◌, subst}
+use Rattle.std.proofs.Common.{List, refl, ap, ◌∙◌, subst}
 use Rattle.std.proofs.lemmas.Result.{err_from_is_err_and}
 use Rattle.gf_exponents_theory.specs.Orders.{gains}
 use Rattle.gf_exponents_theory.specs.SixOrders.{MonomialOrder}
 use Rattle.gf_poly.specs.Polynomial.{Terms}
 use Rattle.gf_poly.specs.Marking.{polys}
-use Rattle.gf_buchberger.specs.Bases.{IsBasisRefusal}
 use Rattle.gf_reduced.specs.declared.error.CheckError.TheVariants as check_errors
 use Rattle.gfan_lists.specs.BasesWriting.{StartsIn}
 use Rattle.gfan_lists.specs.GivenBasis.{IsReducingRefusal}
 use Rattle.gfan_lists.specs.Within.{IsGivenRegionRootRefusal}
+use Rattle.gfan_lists.proofs.FirstLaws.{first_told}
 use Rattle.gfan_lists.proofs.WithinLaws.{root_in_starts, given_region_starts}
 use Rattle.gfan_lists.proofs.within.given_root_of.Goals as goal
 
@@ -40,7 +40,7 @@ returns-clause-err c =
     let f = c.in_ok-reduced.ensures.reduced in
     let e = c.in-Err.error in
     let order = MonomialOrder.weighted (gains k.root) in
-    let named = subst (λ (fs : List Terms). IsBasisRefusal order c.variables.result fs c.args.pairs e)
-    (c.deref.ensures.value ∙ c.in_ok-generators.ensures.value) c.in-Err.ensures.err in
-    let counted = subst (λ n. IsBasisRefusal order n (polys u.items) c.args.pairs e) (c.variables.ensures ∙ f.given.variables) named in
-    IsGivenRegionRootRefusal.at_root u c.in_ok-reduced.ensures.basis f (e, counted, ap (λ r. r.refusal) c.from.ensures)
+    let told = first_told order order c.variables.result c.args.marked.now.variables c.deref.result.now (polys u.items) c.args.pairs e refl
+    (c.variables.ensures ∙ f.given.variables) (c.deref.ensures.value ∙ c.in_ok-generators.ensures.value) c.in-Err.ensures.err
+    c.in-Err.ensures.complete_by_rule in
+    IsGivenRegionRootRefusal.at_root u c.in_ok-reduced.ensures.basis f (e, told, ap (λ r. r.refusal) c.from.ensures)
