@@ -269,7 +269,7 @@ module _ (walk : Walk) (p : Place BasisTree MarkedPolynomials (List ℤ)) (worke
 -- ---- a call
 
 module _ (f g : Frontier BasisTree MarkedPolynomials (List ℤ) TreeError) (pairs : ℕ) (k : Region) (s : MarkedPolynomials) (n m : ℕ)
-    (workers : g.workers ≡ f.workers) (bound : length g.pieces ≤ (g.workers + 1) * 32) (refusals : AreRefusals RefusesWalker g.pieces)
+    (workers : g.workers ≡ f.workers) (bound : length g.pieces ≤ (g.workers + 1) * 128) (refusals : AreRefusals RefusesWalker g.pieces)
     (had : HasRowLeft (row_of f pairs k s n)) where
   same_list : IsSameList (row_of f pairs k s n) (row_of g pairs k s m)
   same_list = record { workers = workers; pairs = refl; region = refl; start = refl }

@@ -105,7 +105,7 @@ AreAmong In Is (Refused w e ∷ ps) = In w.tree w.here × AreAmong In Is ps
 -- is no longer than that of all bases of the ideal
 pub record HasRowLeft (r : Row) : Type 0 where
   pub own : IsNodeIn (ideal_in r) r.start
-  pub bound : length r.frontier.pieces ≤ (r.frontier.workers + 1) * 32
+  pub bound : length r.frontier.pieces ≤ (r.frontier.workers + 1) * 128
   pub refusals : AreRefusals RefusesWalker r.frontier.pieces
   pub among : AreAmong (IsOfIdeal (ideal_in r) r.pairs) (IsNodeIn (ideal_in r)) r.frontier.pieces
   pub rest : List MarkedPolynomials

@@ -130,10 +130,10 @@ impl<'g, G: Gate> Waves<'g, G> {
         self.inner.is_served()
     }
 
-    /// How many bases of the row are ready.
+    /// How many bases of the row are ready: at most 128 for each worker, and 128 more.
     pub fn ready(&self) -> u64
         ensures sum { result ≡ count_by is_ready self.now.frontier.pieces }
-        ensures bound { result ≤ (self.now.frontier.workers + 1) * 32 }
+        ensures bound { result ≤ (self.now.frontier.workers + 1) * 128 }
     {
         self.inner.ready()
     }
@@ -150,7 +150,7 @@ impl<'g, G: Gate> Waves<'g, G> {
         ensures ok { IfOk result (IsRowAnswer self.old self.new) }
         ensures unchanged { OnErr result (IsRowKept self.old self.new) }
         ensures call { IsRowCall self.old result self.new }
-        ensures bound { length self.new.frontier.pieces ≤ (self.new.frontier.workers + 1) * 32 }
+        ensures bound { length self.new.frontier.pieces ≤ (self.new.frontier.workers + 1) * 128 }
         ensures refusals { AreRefusals RefusesWalker self.new.frontier.pieces }
         ensures front { IfErr result (IsToldInFront self.new) }
         ensures early { IfErr result (λ e. (nodes : List MarkedPolynomials) → AreLeftIn self.old nodes
@@ -188,7 +188,7 @@ impl<'g, G: Gate> Waves<'g, G> {
         ensures ok { IfOk result (IsRowAnswer self.old self.new) }
         ensures unchanged { OnErr result (IsRowKept self.old self.new) }
         ensures call { IsRowCall self.old result self.new }
-        ensures bound { length self.new.frontier.pieces ≤ (self.new.frontier.workers + 1) * 32 }
+        ensures bound { length self.new.frontier.pieces ≤ (self.new.frontier.workers + 1) * 128 }
         ensures refusals { AreRefusals RefusesWalker self.new.frontier.pieces }
         ensures front { IfErr result (IsToldInFront self.new) }
         ensures early { IfErr result (λ e. (nodes : List MarkedPolynomials) → AreLeftIn self.old nodes

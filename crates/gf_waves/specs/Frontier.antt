@@ -57,20 +57,20 @@ behind_job (suc c) (suc m) (p ∷ ps) = behind_job c (suc m - walkers_of p) ps
 
 -- how many pieces a row has at most
 abbrev pub most_pieces : ℕ → ℕ
-most_pieces workers = (workers + 1) * 32
+most_pieces workers = (workers + 1) * 128
 
 -- how many jobs a wave has: one for each worker, no more than leave each four places, and no more than there are walkers
 abbrev pub due_at : {T N L E : Type 0} → ℕ → List (Piece T N L E) → ℕ
 due_at workers ps = min (min workers ((most_pieces workers - length ps) / 4)) (length ps - count_by is_ready ps)
 
--- a job may add so many pieces: sixteen, and no more than its share of the places
+-- a job may add so many pieces: 32, and no more than its share of the places
 abbrev pub room_at : {T N L E : Type 0} → ℕ → List (Piece T N L E) → ℕ
-room_at workers ps = min 16 ((most_pieces workers - length ps) / due_at workers ps)
+room_at workers ps = min 32 ((most_pieces workers - length ps) / due_at workers ps)
 
--- how often a job expands at most: sixteen times; and the first jobs no more often than there were jobs before, and once, so that there is soon work
+-- how often a job expands at most: 64 times; and the first jobs no more often than there were jobs before, and once, so that there is soon work
 -- for all
 abbrev pub times_at : ℕ → ℕ
-times_at jobs = min (jobs + 1) 16
+times_at jobs = min (jobs + 1) 64
 
 -- at its last value a job's number stays
 abbrev pub job_number : ℕ → ℕ
@@ -94,7 +94,7 @@ IsFrontRefused refuses (Refused w f ∷ ps) e = refuses w e
 
 -- from 1 to 64 workers, a row that isn't too long, and no refusal that isn't its walker's
 pub record IsHeld {T N L E : Type 0} (refuses : Place T N L → E → Type 0) (workers : ℕ) (pieces : List (Piece T N L E)) : Type 0 where
-  pub few : length pieces ≤ (workers + 1) * 32
+  pub few : length pieces ≤ (workers + 1) * 128
   pub some : 1 ≤ workers
   pub most : workers ≤ 64
   pub refused : AreRefusals refuses pieces

@@ -57,10 +57,10 @@ fn step<T: ReusingTree>(
 ) -> usize
     requires some { 0 < left }
     requires piece { 0 < length row.old.items }
-    requires limit { limit ≤ 24 }
+    requires limit { limit ≤ 40 }
     requires few { length done.old.items + length row.old.items + 1 < limit }
-    requires room { 24 ≤ deque_capacity row.old }
-    requires room_for_done { 24 ≤ deque_capacity done.old }
+    requires room { 40 ≤ deque_capacity row.old }
+    requires room_for_done { 40 ≤ deque_capacity done.old }
     ensures on { IsOn T.before T.up (RefusesAt T.up T.refuses) left (limit - (length done.old.items + length row.old.items)) done.old.items row.old.items result
         (limit - (length done.new.items + length row.new.items)) done.new.items row.new.items }
     ensures falls { 3 * result + length row.new.items < 3 * left + length row.old.items }
@@ -95,7 +95,7 @@ fn expand_on<T: ReusingTree>(
     store: &mut T::Store,
 ) -> (VecDeque<Piece<T>>, usize, usize)
     requires fit { IsFit slot }
-    requires few_more { room ≤ 16 }
+    requires few_more { room ≤ 32 }
     ensures on { ExpandsOn T.before T.up (RefusesAt T.up T.refuses) times room slot.row.items result.1 result.2 result.0.items }
     ensures few { length result.0.items + result.2 ≤ length slot.row.items + room }
 {
@@ -122,7 +122,7 @@ fn keep<T: Tree>(worked: &mut Vec<VecDeque<Piece<T>>>, row: VecDeque<Piece<T>>)
 }
 
 /// A job worked on, place after place, with so many expansions and room for so many pieces in all: each place with what the ones
-/// before have left, room for sixteen pieces at most. The memory that an expansion leaves serves the next ones of the job.
+/// before have left, room for 32 pieces at most. The memory that an expansion leaves serves the next ones of the job.
 pub fn work<T: ReusingTree, G: Gate>(
     alloc: Global,
     gate: &G,
@@ -130,7 +130,7 @@ pub fn work<T: ReusingTree, G: Gate>(
     times: usize,
     room: usize,
 ) -> Job<T>
-    requires room { room ≤ 16 }
+    requires room { room ≤ 32 }
     requires fit { IsJobFit job }
     ensures { IsWorked T.before T.up (RefusesAt T.up T.refuses) times room job result }
 {
@@ -147,7 +147,7 @@ pub fn work<T: ReusingTree, G: Gate>(
         let (row, fewer, less) = expand_on(alloc, slots.remove(0), left, free, &mut store);
         keep(&mut worked, row);
         left = fewer;
-        free = less.min(16);
+        free = less.min(32);
     }
     Job {
         slots,

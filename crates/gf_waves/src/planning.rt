@@ -22,8 +22,8 @@ pub fn spare_slots<T: Tree>(alloc: Global, count: usize) -> Result<Vec<Slot<T>>,
 {
     let mut slots = Vec::with_capacity(alloc, count)?;
     while slots.len() < count {
-        let row = VecDeque::with_capacity(alloc, 24)?;
-        let done = VecDeque::with_capacity(alloc, 24)?;
+        let row = VecDeque::with_capacity(alloc, 40)?;
+        let done = VecDeque::with_capacity(alloc, 40)?;
         if slots.push(Slot { row, done }).is_err() {
             unreachable!();
         }
@@ -91,7 +91,7 @@ fn take<T: Tree>(job: &mut VecDeque<Piece<T>>, piece: Piece<T>, walkers: usize) 
 /// Takes the pieces of a place out of a row: up to its first walker, and at most eight.
 fn cut<T: Tree>(row: &mut VecDeque<Piece<T>>, slot: &mut VecDeque<Piece<T>>)
     requires empty { slot.old.items ≡ [] }
-    requires room { 24 ≤ deque_capacity slot.old }
+    requires room { 40 ≤ deque_capacity slot.old }
     ensures job { slot.new.items ≡ first_job 8 1 row.old.items }
     ensures rest { row.new.items ≡ behind_job 8 1 row.old.items }
     ensures few { length slot.new.items ≤ 8 }

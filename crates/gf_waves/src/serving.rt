@@ -44,12 +44,12 @@ fn due<T: Tree>(workers: u32, row: &VecDeque<Piece<T>>) -> usize
     ensures fits { result * 4 ≤ most_pieces workers - length row.now.items }
     ensures few { result ≤ workers }
 {
-    let free = ((workers as usize + 1) * 32).saturating_sub(row.len());
+    let free = ((workers as usize + 1) * 128).saturating_sub(row.len());
     let walkers = row.len().saturating_sub(ready(row));
     (workers as usize).min(free / 4).min(walkers)
 }
 
-/// How many pieces each job may add: at most sixteen, and no more than its share of the free places.
+/// How many pieces each job may add: at most 32, and no more than its share of the free places.
 fn room<T: Tree>(workers: u32, row: &VecDeque<Piece<T>>, due: usize) -> usize
     requires workers { workers ≤ 64 }
     requires some { 0 < due }
@@ -57,17 +57,17 @@ fn room<T: Tree>(workers: u32, row: &VecDeque<Piece<T>>, due: usize) -> usize
     requires fits { due * 4 ≤ most_pieces workers - length row.now.items }
     ensures is { result ≡ room_at workers row.now.items }
     ensures fits { due * result ≤ most_pieces workers - length row.now.items }
-    ensures few { result ≤ 16 }
+    ensures few { result ≤ 32 }
 {
-    let free = ((workers as usize + 1) * 32).saturating_sub(row.len());
-    (free / due).min(16)
+    let free = ((workers as usize + 1) * 128).saturating_sub(row.len());
+    (free / due).min(32)
 }
 
-/// How many expansions each job makes: one more than there were jobs before, and at most sixteen.
+/// How many expansions each job makes: one more than there were jobs before, and at most 64.
 fn times(jobs: u64) -> usize
     ensures is { result ≡ times_at jobs }
 {
-    jobs.saturating_add(1).min(16) as usize
+    jobs.saturating_add(1).min(64) as usize
 }
 
 /// The refusal that stands for want of memory. Any call of any tree may be refused so.

@@ -122,10 +122,10 @@ impl<'g, T: Tree, G: Gate> Waves<'g, T, G> {
         is_served(&self.row)
     }
 
-    /// How many nodes of the row are ready.
+    /// How many nodes of the row are ready: at most 128 for each worker, and 128 more.
     pub fn ready(&self) -> u64
         ensures sum { result ≡ count_by is_ready self.now.pieces }
-        ensures bound { result ≤ (self.now.workers + 1) * 32 }
+        ensures bound { result ≤ (self.now.workers + 1) * 128 }
     {
         self.row
             .iter()
@@ -166,7 +166,7 @@ where
         ensures refused { IfErr result (IsFrontRefused (RefusesAt T.up T.refuses) self.new.pieces) }
         ensures refusals { AreRefusals (RefusesAt T.up T.refuses) self.new.pieces }
         ensures workers { self.new.workers ≡ self.old.workers }
-        ensures bound { length self.new.pieces ≤ (self.new.workers + 1) * 32 }
+        ensures bound { length self.new.pieces ≤ (self.new.workers + 1) * 128 }
     {
         if let Err(refused) = work_off(rt, self.gate, &mut self.row, self.workers, &mut self.jobs) {
             return Err(no_memory::<T>(refused));
