@@ -1,0 +1,4 @@
+pub mod PartLaws  -- the parts of one cone on which points are highest
+pub mod LevelLaws  -- levels of two lists, of parts that hold others, and as cuts
+pub mod ProductLaws  -- products with what generates a cone
+mod LawsHold  -- what functions of this crate name
