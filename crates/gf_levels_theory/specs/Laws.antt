@@ -1,14 +1,18 @@
 -- The theorems that functions of this crate name.
-use Rattle.std.specs.Prelude.{◌≡◌, ℕ, ◌<◌, List, [], ◌∷◌, ◌++◌, ℤ, ◌≤ℤ◌, length, All, Contains}
+use Rattle.std.specs.Prelude.{◌≡◌, ◌≢◌, ℕ, ◌<◌, List, [], ◌∷◌, ◌++◌, ℤ, ◌≤ℤ◌, length, All, AllPairs, Contains}
 use Rattle.gf_vec.specs.Vector.{dot}
 use Rattle.gf_gordan.specs.Alternative.{AreRows}
 use Rattle.gf_duality_theory.specs.Faces.{Rows, IsInCone}
 use Rattle.gf_patterns_theory.specs.PatternRows.{point_at, AreSingleCones, ArePairCones}
 use Rattle.gf_patterns_theory.specs.Cuts.{IsHeldBy, AreCuts}
+use Rattle.gf_patterns_theory.specs.Patterns.{HavePoints}
+use Rattle.gf_patterns_theory.specs.PatternFans.{IsPrevarietyList, IsMinkowskiList}
+use Rattle.gf_patterns_theory.specs.Refinements.{HaveEntries}
 use Rattle.gf_levels_theory.specs.declared.members.Members.{Members}
 use Rattle.gf_levels_theory.specs.declared.members.Members.TheVariants.{One, Two}
 use Rattle.gf_levels_theory.specs.Levels.{IsLevel}
 use Rattle.gf_levels_theory.specs.Parts.{AreTops, IsTopOn, AreOfTops}
+use Rattle.gf_levels_theory.specs.VertexPoints.{AreVertexPoints}
 use Rattle.gf_levels_theory.specs.Generators.{generators, HasRays, AreOuter}
 
 -- the parts of a cone on which each of some points is highest are its level, where each point is nowhere above one of those; the levels of two lists are
@@ -35,3 +39,13 @@ pub record ProductsTellParts : Type 0 where
       length v ≡ n → IsInCone c v → dot (point_at A x) v ≡ dot (point_at A top) v → dot (point_at A y) v ≡ dot (point_at A top) v
   pub held : (n : ℕ) (c d : Rows) (lineality rays more : List (List ℤ)) → HasRays n c lineality rays → HasRays n d lineality more →
       ((x : List ℤ) → Contains rays x → Contains more x) → IsHeldBy n c d
+
+-- the level of the cones of a prevariety by the pairs of one polynomial more, of its vertices alone, is a list of cones for the prevariety of all of them; and
+-- so that of a Minkowski fan by single points
+pub record LevelsAreOfPatterns : Type 0 where
+  pub prevariety : (n : ℕ) (As : List (List (List ℤ))) (A B : List (List ℤ)) (cs ps : List Rows) → AreRows n A → AllPairs (λ x y. x ≢ y) A →
+      AreVertexPoints n A B → HavePoints As → HavePoints (A ∷ []) → HaveEntries n ps → IsPrevarietyList n As cs → IsLevel Two n B cs ps →
+      IsPrevarietyList n (As ++ A ∷ []) ps
+  pub minkowski : (n : ℕ) (As : List (List (List ℤ))) (A B : List (List ℤ)) (cs ps : List Rows) → AreRows n A →
+      AreVertexPoints n A B → HavePoints As → HavePoints (A ∷ []) → HaveEntries n ps → IsMinkowskiList n As cs → IsLevel One n B cs ps →
+      IsMinkowskiList n (As ++ A ∷ []) ps

@@ -6,8 +6,9 @@
 
 mod members;
 
-ghost use Rattle.gf_levels_theory.specs.Laws.{LevelsAreOfParts, ProductsTellParts};
+ghost use Rattle.gf_levels_theory.specs.Laws.{LevelsAreOfParts, ProductsTellParts, LevelsAreOfPatterns};
 
+use gf_gordan::gordans_alternative;
 pub use members::Members;
 
 /// The parts of a cone on which each of some points is highest are its level, where each point is nowhere above one of those; levels of two lists are
@@ -21,3 +22,10 @@ pub fn levels_are_of_parts()
 pub fn products_tell_parts()
     ensures { ProductsTellParts }
 {}
+
+/// The cones of a prevariety or a Minkowski fan, cut by one polynomial more, by its vertices alone, are cones for the fan of all of the polynomials.
+pub fn levels_are_of_patterns()
+    ensures { LevelsAreOfPatterns }
+{
+    gordans_alternative();
+}
