@@ -29,6 +29,30 @@ fn weights(alloc: Global, n: usize, order: &Order) -> Result<Vec<i64>, AllocErro
     Ok(weights)
 }
 
+/// Whether the level of each variable is 1. Nothing is promised of it.
+fn have_level_one(n: usize, order: &Order) -> bool
+    requires { HasEntries n order.now }
+{
+    if n > ROOM {
+        return false;
+    }
+    'variables: for i in 0..n {
+        let mut unit = [0; ROOM];
+        unit[i] = 1;
+        if order.level(&unit[..n]) != 1 {
+            return false;
+        }
+    }
+    true
+}
+
+/// Whether the order compares degrees first, so that pairs come by degree as they come by the order. Nothing is promised of it.
+pub fn is_by_degree(n: u32, order: &Order) -> bool
+    requires { HasEntries n order.now }
+{
+    have_level_one(n as usize, order)
+}
+
 /// The order of a run in `n` variables, as a guide that tells which terms a long reduction takes first.
 ///
 /// # Errors

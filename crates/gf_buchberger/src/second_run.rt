@@ -6,6 +6,7 @@ ghost use Rattle.gf_buchberger.specs.Bases.{IsArrangedBasis, IsBasisRefusal, Are
 ghost use Rattle.gf_buchberger.specs.Jobs.{HaveRingVariables, IsSuited, IsBasisJob};
 
 use crate::bases::{BasisError, Job, run_by};
+use crate::guides::is_by_degree;
 use crate::queue::Strategy;
 use crate::runs::Numbers;
 use gf_order::Order;
@@ -32,13 +33,17 @@ pub fn more_telling(first: BasisError, second: BasisError) -> BasisError
     }
 }
 
-/// The basis by the second run, or the refusal that is told.
+/// The basis by the second run, or the refusal that is told. Where the order compares degrees first, that run would be the first one again, and isn't
+/// made.
 fn by_second_run(alloc: Global, job: &Job, first: BasisError) -> Result<MarkedSet, BasisError>
     requires good { IsBasisJob job.now.order.now job.now.n job.now.set.now }
     requires first { IsBasisRefusal job.now.order.now job.now.n job.now.set.now job.now.pairs first }
     ensures ok { IfOk result (IsArrangedBasis job.now.order.now job.now.n job.now.set.now) }
     ensures err { IfErr result (IsBasisRefusal job.now.order.now job.now.n job.now.set.now job.now.pairs) }
 {
+    if is_by_degree(job.n, job.order) {
+        return Err(first);
+    }
     match run_by(alloc, job, Strategy::Order, Numbers::Narrow) {
         Ok(second) => Ok(second),
         Err(second) => Err(more_telling(first, second)),

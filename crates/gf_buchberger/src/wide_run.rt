@@ -4,7 +4,7 @@ ghost use Rattle.std.specs.Prelude.{IfOk, IfErr};
 ghost use Rattle.gf_order.specs.Comparisons.{HasEntries};
 ghost use Rattle.gf_buchberger.specs.declared.queue.Strategy.TheVariants.{Degree};
 ghost use Rattle.gf_buchberger.specs.Ruled.{AreRuledRunsWithinLimits};
-ghost use Rattle.gf_buchberger.specs.Bases.{IsArrangedBasis, IsBasisRefusal, AreRunsWithinLimits, IsWantOfMemory};
+ghost use Rattle.gf_buchberger.specs.Bases.{IsArrangedBasis, IsBasisRefusal, IsRuledRefusal, AreRunsWithinLimits, IsWantOfMemory};
 ghost use Rattle.gf_buchberger.specs.Jobs.{HaveRingVariables, IsSuited, IsBasisJob};
 
 use crate::bases::{BasisError, Job, run_by};
@@ -14,48 +14,53 @@ use crate::runs::Numbers;
 use crate::second_run::more_telling;
 use gf_order::Order;
 use gf_poly::{MarkedSet, Poly};
-use gf_wide_division::Precedence;
 use std::alloc::Global;
 
-/// The basis by a run in wide numbers that takes the pairs by their sugar, or the refusal that is told.
-fn by_sugar(
-    alloc: Global,
-    job: &Job,
-    precedence: Precedence,
-    first: BasisError,
-) -> Result<MarkedSet, BasisError>
-    requires good { IsBasisJob job.now.order.now job.now.n job.now.set.now }
-    requires first { IsBasisRefusal job.now.order.now job.now.n job.now.set.now job.now.pairs first }
+/// The basis by a run in wide numbers that takes the pairs by their sugar, or its refusal.
+fn by_sugar(alloc: Global, job: &Job) -> Result<MarkedSet, BasisError>
+    requires { IsBasisJob job.now.order.now job.now.n job.now.set.now }
     ensures ok { IfOk result (IsArrangedBasis job.now.order.now job.now.n job.now.set.now) }
     ensures err { IfErr result (IsBasisRefusal job.now.order.now job.now.n job.now.set.now job.now.pairs) }
 {
-    match run_by(alloc, job, Strategy::Sugar, Numbers::Wide(precedence)) {
-        Ok(found) => Ok(found),
-        Err(second) => Err(more_telling(first, second)),
+    match precedence_of(alloc, job.n, job.order) {
+        Ok(precedence) => run_by(alloc, job, Strategy::Sugar, Numbers::Wide(precedence)),
+        Err(_) => Err(BasisError::Memory),
     }
 }
 
-/// The basis by a run in wide numbers, and by another one, by sugar, where numbers of that don't fit.
+/// The basis by a run in wide numbers that takes the pairs by degree, or its refusal.
+fn by_degree(alloc: Global, job: &Job) -> Result<MarkedSet, BasisError>
+    requires { IsBasisJob job.now.order.now job.now.n job.now.set.now }
+    ensures ok { IfOk result (IsArrangedBasis job.now.order.now job.now.n job.now.set.now) }
+    ensures err { IfErr result (IsBasisRefusal job.now.order.now job.now.n job.now.set.now job.now.pairs) }
+    ensures by_rule { IfErr result (IsRuledRefusal Degree job.now.order.now job.now.set.now job.now.pairs) }
+{
+    match precedence_of(alloc, job.n, job.order) {
+        Ok(precedence) => run_by(alloc, job, Strategy::Degree, Numbers::Wide(precedence)),
+        Err(_) => Err(BasisError::Memory),
+    }
+}
+
+/// The basis by a run in wide numbers that takes the pairs by sugar, and by another one that takes them by degree where that one is refused; or the
+/// refusal of the latter, but for a spent budget of the former where numbers of the latter don't fit.
 fn by_wide_runs(alloc: Global, job: &Job) -> Result<MarkedSet, BasisError>
     requires { IsBasisJob job.now.order.now job.now.n job.now.set.now }
     ensures ok { IfOk result (IsArrangedBasis job.now.order.now job.now.n job.now.set.now) }
     ensures err { IfErr result (IsBasisRefusal job.now.order.now job.now.n job.now.set.now job.now.pairs) }
     ensures complete_by_rule { AreRuledRunsWithinLimits Degree job.now.order.now job.now.set.now job.now.pairs → IfErr result IsWantOfMemory }
 {
-    let Ok(precedence) = precedence_of(alloc, job.n, job.order) else {
-        return Err(BasisError::Memory);
+    let other = match by_sugar(alloc, job) {
+        Ok(found) => return Ok(found),
+        Err(other) => other,
     };
-    let refusal = match run_by(alloc, job, Strategy::Degree, Numbers::Wide(precedence)) {
+    let refusal = match by_degree(alloc, job) {
         Ok(found) => return Ok(found),
         Err(refusal) => refusal,
     };
     if !refusal.is_of_numbers() {
         return Err(refusal);
     }
-    match precedence_of(alloc, job.n, job.order) {
-        Ok(precedence) => by_sugar(alloc, job, precedence, refusal),
-        Err(_) => Err(refusal),
-    }
+    Err(more_telling(refusal, other))
 }
 
 /// The reduced Gröbner basis for the order of the ideal of these polynomials in `n` variables, by a run of Buchberger's algorithm that goes on in
@@ -63,19 +68,18 @@ fn by_wide_runs(alloc: Global, job: &Job) -> Result<MarkedSet, BasisError>
 /// of the marked monomials.
 ///
 /// Members are kept in 127 bits. Where a generator, an S-polynomial or a tail isn't reduced in them, the reduction is done again from the beginning
-/// with fractions of 512 bits (`gf_wide_division`), and what is left is made monic and narrowed. The pairs whose least common multiple has the least
-/// degree are settled first; where numbers don't fit on that way either, another such run settles the pairs of least sugar first. Each run settles at
-/// most `pairs` pairs.
+/// with fractions of 512 bits (`gf_wide_division`), and what is left is made monic and narrowed. The run settles the pairs of least sugar first; where
+/// it is refused, another such run settles those first whose least common multiple has the least degree. Each run settles at most `pairs` pairs.
 ///
 /// The weight of the order, where it has one, has `n` entries, and the order is good on the polynomials, as a term order is on all.
 ///
 /// # Errors
 ///
 /// `Overflow` and `Exponent` hold the operands of an operation in 127 bits that a run of Buchberger's algorithm on these polynomials by this order
-/// may have, and that don't fit; it is that of the first run, where neither run answers. `PairBudget` where the budget of the first run is spent, or
-/// that of the second one: it holds the members, and the pairs that aren't settled. `Memory` if memory runs out. So where no operation that a run may
-/// have leaves its range, and no list of one has more than `pairs` pairs, the error is `Memory`; and so it is where all operations of the first run by
-/// its rule (`IsRuled`) fit in 127 bits and `pairs` pairs suffice.
+/// may have, and that don't fit; it is that of the run by degree, where neither run answers. `PairBudget` where the budget of the run by degree is
+/// spent, or that of the run by sugar: it holds the members, and the pairs that aren't settled. `Memory` if memory runs out. So where no operation that
+/// a run may have leaves its range, and no list of one has more than `pairs` pairs, the error is `Memory`; and so it is where all operations of the run
+/// by degree, by its rule (`IsRuled`), fit in 127 bits and `pairs` pairs suffice.
 pub fn wide_basis(
     alloc: Global,
     n: u32,
