@@ -18,6 +18,7 @@ pub mod PrintedTextLaws  -- the parts of printed terms and vectors
 pub mod LimitsLaws  -- what a text says is within its limits
 pub mod CombiningLaws  -- terms and sums of terms, one after another
 pub mod SetsLaws  -- sums of terms, one after another
+pub mod PiecesLaws  -- a polynomial is summed piece by piece
 pub mod PrintedSetsLaws  -- the pieces of printed polynomials and sets
 pub mod SetFactorsLaws  -- the machine of sets at powers of variables
 pub mod SetTextLaws  -- the machine of sets reads what the grammar says
@@ -26,6 +27,7 @@ pub mod SetReadLaws  -- the machine of sets reads no more than the grammar says
 pub mod SetStopsLaws  -- why the machine of sets can't take a token
 pub mod SetMachineLaws  -- sets are read as the grammar says, and each state goes on to one
 pub mod SetGrowsLaws  -- a set is read polynomial by polynomial
+pub mod SetPiecesLaws  -- a set is read piece by piece
 pub mod SetKindsLaws  -- of which kind a fault of a set is
 pub mod SetListsLaws  -- lists of sets: what comes of them, and that they are read as the grammar says
 pub mod PrintedTokensLaws  -- the tokens of printed numbers, names and powers

@@ -1,5 +1,6 @@
 -- A set is read polynomial by polynomial: the machine only adds to the polynomials that were read before.
--- To cite: following, Reading, reading_start, reading_go, reading_done, reading_halt, reading_ended, go_within, done_within. The rest are steps.
+-- To cite: following, Reading, reading_start, reading_go, reading_done, reading_halt, reading_ended, go_within, done_within,
+-- open_within. The rest are steps.
 use Rattle.std.proofs.Common.{◌≡◌, ℕ, Bool, true, false, nat_le, ◌&&◌, ◌==◌, Ok, Err, List, [], ◌∷◌, ◌++◌, length, Option, Some, None, refl, sym, ap, subst}
 use Rattle.std.proofs.Common.{◌∙◌, bytes_eq, append_assoc, append-nil, if◌then◌else◌}
 use Rattle.gf_text.specs.declared.error.Cause.{Cause}
@@ -15,10 +16,12 @@ use Rattle.gf_text.specs.SetText.{variable, most, most_exponent, SetState, SetMo
 use Rattle.gf_text.specs.SetText.{next_polynomial, is_word, name_or_by, number_or, term_or, front_step, end_step, behind_step, denominator_step, exponent_step}
 use Rattle.gf_text.specs.SetText.{token_step, set_step, empty, set_at}
 use Rattle.gf_text.specs.Marks.{plus_mark, minus_mark, comma, star, slash, caret, brace, brace_end}
-use Rattle.gf_text.specs.Limits.{ArePolynomialsWithin}
+use Rattle.gf_text.specs.Limits.{AreTermsWithin, ArePolynomialsWithin}
+use Rattle.gf_text.specs.Pieces.{IsBegun}
 use Rattle.gf_text.proofs.LimitsLaws.{set_within}
 use Rattle.gf_text.proofs.MachineLaws.{run_go, run_done, run_halt, run_ended, after-go, after-none, after-++}
-use Rattle.gf_text.proofs.SetReadLaws.{set_said}
+use Rattle.gf_text.proofs.SetReadLaws.{set_said, name_read, number_read}
+use Rattle.gf_text.proofs.SetPartsLaws.{Behind}
 use Rattle.gf_text.proofs.SetMachineLaws.{set_machine, set_reads}
 
 abbrev Texts : Type 0
@@ -154,6 +157,10 @@ within_back : (n : ℕ) (qs ps : Sets) → ArePolynomialsWithin n (qs ++ ps) →
 within_back n [] ps h = h
 within_back n (q ∷ qs) ps h = within_back n qs ps h.1
 
+terms_front : (n : ℕ) (us vs : List WrittenTerm) → AreTermsWithin n (us ++ vs) → AreTermsWithin n us
+terms_front n [] vs h = tt
+terms_front n (u ∷ us) vs h = (h.0, terms_front n us vs h.1)
+
 -- ---- a loop over the tokens
 
 module _ (ring : List (List ℕ)) where
@@ -226,3 +233,31 @@ module _ (ring : List (List ℕ)) (is_ring : IsRing ring) where
   pub reading_ended : (source : List ℕ) (from place : ℕ) (s : SetState) (said : Sets) → Reading ring source from place s said →
       lexemes (ring_more ring) source place ≡ [] → set_at ring source from ≡ Err (record { at = length source; cause = Ended })
   reading_ended source from place s said r none = sym r.same ∙ run_ended (set_step ring) (s.0, following said s.1) (length source) _ none
+
+  -- the terms that were read are within, where the next one is begun
+  behind_within : (p : Part) (ts : Texts) (ps : Sets) → Behind ring p ts ps → ArePolynomialsWithin (length ring) ps → AreTermsWithin (length ring) p.terms
+  behind_within p ts ps b h =
+      let u : WrittenTerm = record { minus = p.minus; numer = p.numer; denom = p.denom; factors = p.factors ++ b.fs } in
+      terms_front (length ring) p.terms (u ∷ b.us)
+      (within_back (length ring) p.polynomials ((p.terms ++ u ∷ b.us) ∷ b.qs) (subst (ArePolynomialsWithin (length ring)) b.all h)).0
+
+  begun_within : (place : SetPlace) (p : Part) (ts : Texts) (ps : Sets) → IsBegun place → after (set_step ring) (place, p) ts ≡ done ps →
+      ArePolynomialsWithin (length ring) ps → AreTermsWithin (length ring) p.terms
+  begun_within at.Name p ts ps begun e h = let t = name_read ring ts p ps e in behind_within (with_factor p t.k) t.rest ps t.behind h
+  begun_within at.Number p ts ps begun e h = let t = number_read ring ts p ps e in behind_within (with_denom p t.d) t.rest ps t.behind h
+  begun_within at.Brace p ts ps begun e h = absurd begun
+  begun_within at.First p ts ps begun e h = absurd begun
+  begun_within at.Polynomial p ts ps begun e h = absurd begun
+  begun_within at.Term p ts ps begun e h = absurd begun
+  begun_within at.Denominator p ts ps begun e h = absurd begun
+  begun_within at.Star p ts ps begun e h = absurd begun
+  begun_within at.Exponent p ts ps begun e h = absurd begun
+  begun_within at.Behind p ts ps begun e h = absurd begun
+
+  pub open_within : (source : List ℕ) (from place : ℕ) (to : SetPlace) (p : Part) (said : Sets) → IsBegun to → Reading ring source from place (to, p) said →
+      AreTermsWithin (length ring) p.terms
+  open_within source from place to p said begun r =
+      let s = following said p in
+      let l = (set_machine ring is_ring).live (to, s) in
+      let whole = after-++ (set_step ring) (at.Brace, empty) (to, s) r.front l.0 r.reached ∙ l.2 in
+      begun_within to s l.0 l.1 begun l.2 (set_within ring (r.front ++ l.0) l.1 (set_said ring (r.front ++ l.0) l.1 whole))

@@ -1,5 +1,5 @@
 -- The machine of sets reads no more than the grammar of sets says.
--- To cite: set_said. The rest are steps: a move and what follows it, what is read at each place, token by token.
+-- To cite: set_said, name_read, number_read. The rest are steps: a move and what follows it, what is read at each place, token by token.
 use Rattle.std.proofs.Common.{◌≡◌, ℕ, ◌==◌, nat_le, true, false, ◌&&◌, List, [], ◌∷◌, Option, Some, None, refl, sym, ap, subst, ◌∙◌, ◌⊎◌, inl, inr, bytes_eq}
 use Rattle.std.proofs.Common.{if◌then◌else◌}
 use Rattle.gf_text.specs.declared.error.Cause.TheVariants.{Unexpected, UnknownName, TooWide, ZeroDenominator}
@@ -205,3 +205,12 @@ module _ (ring : List (List ℕ)) where
   pub set_said : (ts : Texts) (ps : Sets) → after (set_step ring) (at.Brace, empty) ts ≡ done ps → IsSetText ring ts ps
   unfolding Said Later
   set_said ts ps e = let s = said ts at.Brace empty ps e in set_by ts s.0 ps s.1 s.2
+
+  -- what is read behind a name, and behind a numerator
+  pub name_read : (ts : Texts) (p : Part) (ps : Sets) → after (set_step ring) (at.Name, p) ts ≡ done ps → Named ring p ts ps
+  unfolding Said Later
+  name_read ts p ps e = said ts at.Name p ps e
+
+  pub number_read : (ts : Texts) (p : Part) (ps : Sets) → after (set_step ring) (at.Number, p) ts ≡ done ps → Numbered ring p ts ps
+  unfolding Said Later
+  number_read ts p ps e = said ts at.Number p ps e

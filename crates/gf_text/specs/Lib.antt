@@ -23,5 +23,6 @@ pub mod VectorLists  -- lists of vectors as they are read
 pub mod Vectors  -- vectors as they are read
 pub mod Singles  -- dimensions and names as they are read
 pub mod Sets  -- the polynomials of a text
+pub mod Pieces  -- polynomials that are summed piece by piece
 pub mod SetLists  -- lists of sets as they are read
 pub mod PrintedSets  -- polynomials and sets as they are printed

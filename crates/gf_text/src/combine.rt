@@ -72,7 +72,11 @@ fn term_of(alloc: Global, n: usize, term: &WrittenTerm) -> Result<Term, Exponent
 }
 
 /// The terms that are written, in n variables.
-fn terms_from(alloc: Global, n: usize, terms: &[WrittenTerm]) -> Result<Vec<Term>, TextError>
+pub(crate) fn terms_from(
+    alloc: Global,
+    n: usize,
+    terms: &[WrittenTerm],
+) -> Result<Vec<Term>, TextError>
     requires room { n ≤ ROOM }
     requires within { AreTermsWithin n terms.now }
     ensures ok { IfOk result (λ ts. terms_written n terms.now ≡ Ok ts.items) }
@@ -100,7 +104,7 @@ fn check_terms(alloc: Global, n: usize, terms: &[WrittenTerm]) -> Result<(), Exp
 }
 
 /// The place of a monomial among descending terms.
-fn place_of(terms: &[Term], at: &Mono) -> Option<usize>
+pub(crate) fn place_of(terms: &[Term], at: &Mono) -> Option<usize>
     requires descending { IsDescending terms.now }
     requires same_variables { HasVariables (length at.now) terms.now }
     ensures { MatchOption result (coefficient terms.now at.now ≡ zero_ℚ) (IsPlaceOf terms.now at.now) }
@@ -178,7 +182,12 @@ impl Sums {
     }
 
     /// Adds a polynomial in n variables as the last one.
-    fn add(&mut self, alloc: Global, n: usize, terms: &[WrittenTerm]) -> Result<(), AllocError>
+    pub(crate) fn add(
+        &mut self,
+        alloc: Global,
+        n: usize,
+        terms: &[WrittenTerm],
+    ) -> Result<(), AllocError>
         requires room { n ≤ ROOM }
         requires within { AreTermsWithin n terms.now }
         ensures { OnOk result (Adds n (terms.now ∷ []) self.old self.new) }

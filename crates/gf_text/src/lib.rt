@@ -8,6 +8,7 @@ mod combine;
 mod error;
 mod marked_reader;
 mod names;
+mod pieces;
 mod printer;
 mod reader;
 mod ring_reader;

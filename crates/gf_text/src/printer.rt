@@ -209,7 +209,7 @@ fn term_is_in_range(term: &Term)
 }
 
 /// Those of each term are.
-fn terms_are_in_range(terms: &[Term])
+pub(crate) fn terms_are_in_range(terms: &[Term])
     ensures { AreInRange terms.now }
 {
     'terms: for term in terms {

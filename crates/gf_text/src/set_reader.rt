@@ -1,17 +1,21 @@
 //! The reading of a set.
-ghost use Rattle.std.specs.Prelude.{◌≡◌, ◌≤◌, [], IfOk, IfErr, OnOk, length};
+ghost use Rattle.std.specs.Prelude.{◌≡◌, ◌≤◌, [], IfOk, IfErr, IfSome, IsTrue, OnOk, length};
 ghost use Rattle.gf_text.specs.SetText.{set_at, set_step, token_step, front_step, term_or, name_or, end_step, behind_step, denominator_step, exponent_step};
 ghost use Rattle.gf_text.specs.SetText.{is_word, with_factor, next_term, next_polynomial, empty};
 ghost use Rattle.gf_text.specs.Given.{Fails};
 ghost use Rattle.gf_text.specs.GivenSet.{set_move};
+ghost use Rattle.gf_text.specs.Limits.{AreTermsWithin, ArePolynomialsWithin};
+ghost use Rattle.gf_text.specs.Pieces.{HasFront, IsBegun, Settles};
 ghost use Rattle.gf_text.specs.Sets.{AreSetSums, IsSetRead, IsSetCause, AreIn};
 
 use crate::combine::Sums;
 use crate::error::{Cause, TextError, refused_at};
 use crate::names::Ring;
+use crate::pieces::{Front, add_behind, take_piece};
 use crate::tokens::{Number, number_of, ring_token_from};
 use crate::tree::{Factor, Factors, WrittenSet, WrittenTerm, WrittenTerms};
 use crate::written::Written;
+use gf_poly::ROOM;
 use std::alloc::{AllocError, Global};
 use std::mem;
 
@@ -307,7 +311,7 @@ impl Part {
 
 /// What came of the polynomials of the set that stands in the source from this place on, and the place behind it. Each is
 /// added as soon as it is read, so that no more than one is kept as it is written.
-pub(crate) fn sums_from(
+fn sums_of_whole(
     alloc: Global,
     ring: &Ring,
     source: &[u8],
@@ -341,6 +345,102 @@ pub(crate) fn sums_from(
         sums.add_read(alloc, n, &part.polynomials)?;
         part.polynomials.clear();
         at = end;
+    }
+}
+
+/// Whether something of a term is read, and all of those before it.
+fn has_begun(place: SetPlace) -> bool
+    ensures { IsTrue result → IsBegun place }
+{
+    matches!(place, SetPlace::Name | SetPlace::Number)
+}
+
+/// Adds the polynomial that is read, where there is one, to what came of those before it, and sums the terms that are read where they are many. Whether
+/// that is done, or needn't be.
+fn settle(
+    alloc: Global,
+    n: usize,
+    place: SetPlace,
+    part: &mut Part,
+    front: &mut Option<Front>,
+    sums: &mut Sums,
+) -> Result<bool, AllocError>
+    requires room { n ≤ ROOM }
+    requires within { ArePolynomialsWithin n part.old.polynomials }
+    requires terms { IsBegun place → AreTermsWithin n part.old.terms }
+    requires known { HasFront n front.old }
+    ensures { IfOk result (λ done. IsTrue done → Settles n part.old front.old sums.old part.new front.new sums.new) }
+{
+    if !add_behind(alloc, n, sums, front, &part.polynomials)? {
+        return Ok(false);
+    }
+    part.polynomials.clear();
+    if !has_begun(place) {
+        return Ok(true);
+    }
+    Ok(take_piece(alloc, n, front, &mut part.terms))
+}
+
+/// What came of the polynomials of the set that stands in the source from this place on, and the place behind it. Each is
+/// summed piece by piece; none where that doesn't tell what comes of one.
+fn sums_of_pieces(
+    alloc: Global,
+    ring: &Ring,
+    source: &[u8],
+    from: usize,
+) -> Result<Option<(Sums, usize)>, TextError>
+    requires { from ≤ length source.now }
+    ensures ok { IfOk result (λ o. IfSome o (λ x. AreSetSums ring.now (record { source = source.now; at = from }) x.1 x.0)) }
+    ensures err { IfErr result (λ e. Fails e (set_at ring.now source.now from)) }
+    ensures forward { IfOk result (λ o. IfSome o (λ x. from ≤ x.1)) }
+    ensures within { IfOk result (λ o. IfSome o (λ x. x.1 ≤ length source.now)) }
+{
+    let n = ring.len() as usize;
+    // The proof needs that the names are those of a ring.
+    let _names = ring.names();
+    let mut part = Part::new(alloc);
+    let mut place = SetPlace::Brace;
+    let mut front: Option<Front> = None;
+    let mut sums = Sums::new(alloc);
+    let mut at = from;
+    loop {
+        let Some((start, end)) = ring_token_from(ring, source, at) else {
+            return Err(refused_at(source.len(), Cause::Ended));
+        };
+        match part.step(alloc, ring, place, &source[start..end])? {
+            SetStep::Go(next) => place = next,
+            SetStep::Done => {
+                if add_behind(alloc, n, &mut sums, &mut front, &part.polynomials)? {
+                    return Ok(Some((sums, end)));
+                }
+                return Ok(None);
+            }
+            SetStep::Halt(cause) => return Err(refused_at(start, cause)),
+        }
+        if !settle(alloc, n, place, &mut part, &mut front, &mut sums)? {
+            return Ok(None);
+        }
+        at = end;
+    }
+}
+
+/// What came of the polynomials of the set that stands in the source from this place on, and the place behind it. Where the
+/// pieces of a polynomial don't tell what comes of it, the set is read once more, and its polynomials are kept as they are written.
+pub(crate) fn sums_from(
+    alloc: Global,
+    ring: &Ring,
+    source: &[u8],
+    from: usize,
+) -> Result<(Sums, usize), TextError>
+    requires { from ≤ length source.now }
+    ensures ok { IfOk result (λ x. AreSetSums ring.now (record { source = source.now; at = from }) x.1 x.0) }
+    ensures err { IfErr result (λ e. Fails e (set_at ring.now source.now from)) }
+    ensures forward { IfOk result (λ x. from ≤ x.1) }
+    ensures within { IfOk result (λ x. x.1 ≤ length source.now) }
+{
+    match sums_of_pieces(alloc, ring, source, from)? {
+        Some(sums) => Ok(sums),
+        None => sums_of_whole(alloc, ring, source, from),
     }
 }
 

@@ -1,17 +1,20 @@
 use Rattle.std.proofs.Common.{◌≡◌, ◌≤◌, ◌-◌, [], List, length}
 use Rattle.gf_text.specs.declared.tree.WrittenTerm.{WrittenTerm}
+use Rattle.gf_text.specs.Pieces.{IsFront, joined}
 use Rattle.gf_text.specs.Sets.{HasSums}
 use Rattle.gf_text.proofs.SetGrowsLaws.{Reading}
-use Rattle.gf_text.proofs.set_reader.sums_from.Given as goal
+use Rattle.gf_text.proofs.set_reader.sums_of_pieces.Given as goal
 
 abbrev pub invariant-loop-start : goal.invariant-loop-start
 invariant-loop-start l = record {
   within : l.at ≤ length l.source;
   forward : l.from ≤ l.at;
   said : List (List WrittenTerm);
+  us : List WrittenTerm;
   none : l.part.polynomials ≡ [];
-  reading : Reading l.ring l.source l.from l.at (l.place, l.part) said;
+  reading : Reading l.ring l.source l.from l.at (l.place, joined us l.part) said;
   come : HasSums (length l.ring) said l.sums;
+  summed : IsFront (length l.ring) us l.front;
 }
 
 abbrev pub decreases-loop-start : goal.decreases-loop-start

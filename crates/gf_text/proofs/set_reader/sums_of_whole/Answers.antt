@@ -8,7 +8,7 @@ use Rattle.gf_text.specs.declared.set_reader.SetPlace.TheVariants.{Brace}
 use Rattle.gf_text.proofs.MachineLaws.{failed}
 use Rattle.gf_text.proofs.TokensLaws.{behind-lexeme}
 use Rattle.gf_text.proofs.SetGrowsLaws.{Reading, reading_start, reading_go, reading_done, reading_halt, reading_ended, go_within, done_within}
-use Rattle.gf_text.proofs.set_reader.sums_from.Goals as goal
+use Rattle.gf_text.proofs.set_reader.sums_of_whole.Goals as goal
 
 pub loop-start-init : goal.loop-start-init
 loop-start-init c =
