@@ -50,7 +50,7 @@ pub record AreLawfulTurns {A : Type 0} (IsCause : A → Refusal → Type 0) (IsW
 
 abbrev pub TurnsHold : {A : Type 0} → (A → Refusal → Type 0) → (A → Type 0) → Writing A → Type 0
 TurnsHold IsCause IsWithin Writing.at_end = Unit {0}
-TurnsHold IsCause IsWithin (Writing.as_it_goes whole begun) = Unit {0}
+TurnsHold IsCause IsWithin (Writing.as_it_goes whole begun early) = Unit {0}
 TurnsHold IsCause IsWithin (Writing.in_turns turns) = AreLawfulTurns IsCause IsWithin turns
 
 -- its texts are read once, its checks fail once, its work is refused as its writing is, and within its limits not at all; a refusal that is

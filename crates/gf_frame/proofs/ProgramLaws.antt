@@ -125,9 +125,9 @@ module _ (command_of : Job → Command) (lawful : (job : Job) → IsLawful (comm
     )
 
     quiet : (r : Refusal) → (r ≡ refusals.WriteFault → ⊥) → IsRunRefused command_of words p q o s r →
-        Keeps o.held s.held ⊎ OfJobAsked words (λ job. LeavesInOutput (command_of job) p q o s r)
-    quiet r n (IsRunRefused.no_job m e same out) = inl (subst (λ (x : OutputSeen). Keeps o.held x.held) (sym out) (Keeps-refl o.held))
-    quiet r n (IsRunRefused.no_memory e same out) = inl (subst (λ (x : OutputSeen). Keeps o.held x.held) (sym out) (Keeps-refl o.held))
+        (((r ≡ refusals.Usage) ⊎ (r ≡ refusals.Memory)) × Keeps o.held s.held) ⊎ OfJobAsked words (λ job. LeavesInOutput (command_of job) p q o s r)
+    quiet r n (IsRunRefused.no_job m e same out) = inl (inl e, subst (λ (x : OutputSeen). Keeps o.held x.held) (sym out) (Keeps-refl o.held))
+    quiet r n (IsRunRefused.no_memory e same out) = inl (inr e, subst (λ (x : OutputSeen). Keeps o.held x.held) (sym out) (Keeps-refl o.held))
     quiet r n (IsRunRefused.of_job job asked h) = inr (job, asked, quiet_stopped (command_of job) (lawful job) p q o s r n h)
 
     -- a fault that is answered comes of a job

@@ -13,7 +13,8 @@ use Rattle.gf_items.specs.Checks.{AllHold}
 use Rattle.gf_items.specs.Refusals.{IsOfNumbers, TellsSame}
 use Rattle.gf_frame.specs.Seen.{InputSeen, FilesSeen, Seen, OutputSeen}
 use Rattle.gf_frame.specs.Loading.{AreLoaded, AreKnown, IsSomeLong, HaveInput, HaveFile, AreReadWithin, IsOneTooLong}
-use Rattle.gf_frame.specs.Commands.{Writing, Command, IsOfWriting, IsWholeFor, IsBegunFor, IsRefusedAtOnce, IsRefusedOn, IsInReach, IsFixed, IsOfOutside}
+use Rattle.gf_frame.specs.Commands.{Writing, Command, IsOfWriting, IsWholeFor, IsBegunFor, IsRefusedAtOnce, IsRefusedOn, IsRefusedAtStart, IsInReach}
+use Rattle.gf_frame.specs.Commands.{IsFixed, IsOfOutside}
 use Rattle.gf_frame.specs.Runs.{IsCarriedOut, IsDoneBy, AreCut, IsLeftInOutput, IsStoppedBy, AreGivenTexts, IsJobRefused, IsHeard, TakesTurns, LeavesInOutput}
 use Rattle.gf_frame.proofs.LoadingLaws.{loaded_known, unloaded_known, unloaded_long, loaded_not_long, unloaded_outside, unloaded_not_usage, unloaded_not_write}
 use Rattle.gf_frame.proofs.LoadingLaws.{unloaded_read, unloaded_open, unloaded_too_long, unloaded_within, loaded_within, loaded_calm, unloaded_input_calm}
@@ -42,26 +43,26 @@ module _ (c : Command) (laws : IsLawful c) (p q : Seen) (o s : OutputSeen) where
   cut_value : (writing : Writing c.Value) (texts : List (List ℕ)) (m : Seen) (d : Refusal) → AreCut c writing texts m q o s d →
       (a : c.Value) × c.reading.IsRead texts a × AllHold (c.checks a)
   cut_value Writing.at_end texts m d k = absurd k
-  cut_value (Writing.as_it_goes whole begun) texts m d k = absurd k
+  cut_value (Writing.as_it_goes whole begun early) texts m d k = absurd k
   cut_value (Writing.in_turns turns) texts m d k = (k.1.0, k.1.1, k.1.2)
 
   cut_kind : (writing : Writing c.Value) → TurnsHold c.IsCause c.IsWithin writing → (texts : List (List ℕ)) (m : Seen) (d : Refusal) →
       AreCut c writing texts m q o s d → IsOfTurns d
   cut_kind Writing.at_end h texts m d k = absurd k
-  cut_kind (Writing.as_it_goes whole begun) h texts m d k = absurd k
+  cut_kind (Writing.as_it_goes whole begun early) h texts m d k = absurd k
   cut_kind (Writing.in_turns turns) h texts m d k = h.kind k.1.0 d m.input q.input o s k.1.3
 
   cut_fixed : (writing : Writing c.Value) → TurnsHold c.IsCause c.IsWithin writing → (texts : List (List ℕ)) (m : Seen) (r d : Refusal) → IsFixed r →
       IsRefusedOn c texts r → AreCut c writing texts m q o s d → ⊥
   cut_fixed Writing.at_end h texts m r d x w k = k
-  cut_fixed (Writing.as_it_goes whole begun) h texts m r d x w k = k
+  cut_fixed (Writing.as_it_goes whole begun early) h texts m r d x w k = k
   cut_fixed (Writing.in_turns turns) h texts m r d x w k = h.cut k.1.0 r d m.input q.input o s x (fixed_here c laws texts r k.1.0 x w k.1.1 k.1.2) k.1.3
 
   cut_reach : (writing : Writing c.Value) → TurnsHold c.IsCause c.IsWithin writing → (texts : List (List ℕ)) (m : Seen) (d : Refusal) (a : c.Value) →
       c.reading.IsRead texts a → c.IsWithin a → (TakesTurns writing → HaveInput c.reads → ⊥) → AreLoaded c.reads p m texts → IsHeard writing p q →
       (Rose o.faults s.faults → ⊥) → AreCut c writing texts m q o s d → d ≡ refusals.Memory
   cut_reach Writing.at_end h texts m d a read w apart l g calm k = absurd k
-  cut_reach (Writing.as_it_goes whole begun) h texts m d a read w apart l g calm k = absurd k
+  cut_reach (Writing.as_it_goes whole begun early) h texts m d a read w apart l g calm k = absurd k
   cut_reach (Writing.in_turns turns) h texts m d a read w apart l g calm k =
       let e : m.input ≡ p.input = loaded_input c.reads p m texts (apart tt) l in
       let known : m.input.left ≡ Some g.0 = ap (λ (i : InputSeen). i.left) e ∙ g.1.0 in
@@ -86,7 +87,7 @@ module _ (c : Command) (laws : IsLawful c) (p q : Seen) (o s : OutputSeen) where
   gone_value : (writing : Writing c.Value) (texts : List (List ℕ)) (m : Seen) → IsCarriedOut c writing texts m q o s →
       (a : c.Value) × c.reading.IsRead texts a × AllHold (c.checks a)
   gone_value Writing.at_end texts m k = (k.1.1.value, k.1.1.read, k.1.1.answer.formed)
-  gone_value (Writing.as_it_goes whole begun) texts m k = (k.1.1.value, k.1.1.read, k.1.1.answer.formed)
+  gone_value (Writing.as_it_goes whole begun early) texts m k = (k.1.1.value, k.1.1.read, k.1.1.answer.formed)
   gone_value (Writing.in_turns turns) texts m k = (k.1.0, k.1.1, k.1.2)
 
   pub exact_done : (texts : List (List ℕ)) (r : Refusal) → AreGivenTexts c p q texts → IsRefusedAtOnce c texts r → IsDoneBy c p q o s → ⊥
@@ -108,7 +109,7 @@ module _ (c : Command) (laws : IsLawful c) (p q : Seen) (o s : OutputSeen) where
   gone_fixed : (writing : Writing c.Value) → TurnsHold c.IsCause c.IsWithin writing → (texts : List (List ℕ)) (m : Seen) (r : Refusal) → IsFixed r →
       IsRefusedOn c texts r → IsCarriedOut c writing texts m q o s → ⊥
   gone_fixed Writing.at_end h texts m r x w k = no_tested_answer c laws texts r k.1.0 x w k.1.1
-  gone_fixed (Writing.as_it_goes whole begun) h texts m r x w k = no_tested_answer c laws texts r k.1.0 x w k.1.1
+  gone_fixed (Writing.as_it_goes whole begun early) h texts m r x w k = no_tested_answer c laws texts r k.1.0 x w k.1.1
   gone_fixed (Writing.in_turns turns) h texts m r x w k = h.ended k.1.0 r m.input q.input o s x (fixed_here c laws texts r k.1.0 x w k.1.1 k.1.2) k.1.3
 
   pub fixed_done : (texts : List (List ℕ)) (r : Refusal) → AreGivenTexts c p q texts → IsFixed r → IsRefusedOn c texts r → IsDoneBy c p q o s → ⊥
@@ -171,7 +172,7 @@ module _ (c : Command) (laws : IsLawful c) (p q : Seen) (o s : OutputSeen) where
   cut_read : (writing : Writing c.Value) → TurnsHold c.IsCause c.IsWithin writing → (texts : List (List ℕ)) (m : Seen) →
       AreCut c writing texts m q o s refusals.ReadFault → Rose m.input.faults q.input.faults
   cut_read Writing.at_end h texts m k = absurd k
-  cut_read (Writing.as_it_goes whole begun) h texts m k = absurd k
+  cut_read (Writing.as_it_goes whole begun early) h texts m k = absurd k
   cut_read (Writing.in_turns turns) h texts m k = h.read k.1.0 m.input q.input o s k.1.3
 
   pub read_stopped : IsStoppedBy c p q o s refusals.ReadFault → Rose p.input.faults q.input.faults ⊎ Rose p.files.faults q.files.faults
@@ -199,7 +200,7 @@ module _ (c : Command) (laws : IsLawful c) (p q : Seen) (o s : OutputSeen) where
       no_turns : (writing : Writing c.Value) → (TakesTurns writing → ⊥) → (texts : List (List ℕ)) (m : Seen) (r : Refusal) → AreCut c writing texts m q o s r →
           ⊥
       no_turns Writing.at_end t texts m r k = k
-      no_turns (Writing.as_it_goes whole begun) t texts m r k = k
+      no_turns (Writing.as_it_goes whole begun early) t texts m r k = k
       no_turns (Writing.in_turns turns) t texts m r k = t tt
 
   -- nor does one that is done without turns
@@ -208,7 +209,7 @@ module _ (c : Command) (laws : IsLawful c) (p q : Seen) (o s : OutputSeen) where
     where
       no_more : (writing : Writing c.Value) → (TakesTurns writing → ⊥) → IsCarriedOut c writing d.texts d.then q o s → q ≡ d.then
       no_more Writing.at_end t k = k.0
-      no_more (Writing.as_it_goes whole begun) t k = k.0
+      no_more (Writing.as_it_goes whole begun early) t k = k.0
       no_more (Writing.in_turns turns) t k = absurd (t tt)
 
   -- ---- what is written
@@ -216,7 +217,7 @@ module _ (c : Command) (laws : IsLawful c) (p q : Seen) (o s : OutputSeen) where
   cut_write : (writing : Writing c.Value) → TurnsHold c.IsCause c.IsWithin writing → (texts : List (List ℕ)) (m : Seen) →
       AreCut c writing texts m q o s refusals.WriteFault → Rose o.faults s.faults
   cut_write Writing.at_end h texts m k = absurd k
-  cut_write (Writing.as_it_goes whole begun) h texts m k = absurd k
+  cut_write (Writing.as_it_goes whole begun early) h texts m k = absurd k
   cut_write (Writing.in_turns turns) h texts m k = h.write k.1.0 m.input q.input o s k.1.3
 
   pub write_stopped : IsStoppedBy c p q o s refusals.WriteFault → Rose o.faults s.faults
@@ -227,15 +228,15 @@ module _ (c : Command) (laws : IsLawful c) (p q : Seen) (o s : OutputSeen) where
   write_stopped (IsStoppedBy.in_turns texts m l k) = cut_write c.writing laws.turns texts m k
 
   left_written : (texts : List (List ℕ)) (r : Refusal) → IsLeftInOutput c texts o s r →
-      Keeps o.held s.held ⊎ ((text : List ℕ) × IsBegunFor c texts text r × Appends o.held s.held text)
+      (IsRefusedAtStart c texts r × Keeps o.held s.held) ⊎ ((text : List ℕ) × IsBegunFor c texts text r × Appends o.held s.held text)
   left_written texts (refusals.ListLimit most) h = inr h
   left_written texts r h = h
 
-  -- nothing, or the beginning of the text, or the turns until then
+  -- nothing before anything is written, or the beginning of the text, or the turns until then
   pub quiet_stopped : (r : Refusal) → (r ≡ refusals.WriteFault → ⊥) → IsStoppedBy c p q o s r → LeavesInOutput c p q o s r
-  quiet_stopped r n (IsStoppedBy.in_loading u k e) = LeavesInOutput.nothing k
+  quiet_stopped r n (IsStoppedBy.in_loading u k e) = LeavesInOutput.unloaded u k
   quiet_stopped r n (IsStoppedBy.in_work texts l h left e) = elim (left_written texts r left) [
-    | inl k ↦ LeavesInOutput.nothing k
+    | inl k ↦ LeavesInOutput.at_start texts l k.0 k.1
     | inr b ↦ LeavesInOutput.beginning texts b.0 l b.1 b.2
   ]
   quiet_stopped r n (IsStoppedBy.in_writing texts text l w e rose part) = absurd (n e)
@@ -255,12 +256,12 @@ module _ (c : Command) (laws : IsLawful c) (p q : Seen) (o s : OutputSeen) where
   -- a command that reads no file leaves files as they were
   gone_files : (writing : Writing c.Value) (texts : List (List ℕ)) (m : Seen) → IsCarriedOut c writing texts m q o s → q.files ≡ m.files
   gone_files Writing.at_end texts m k = ap (λ (x : Seen). x.files) k.0
-  gone_files (Writing.as_it_goes whole begun) texts m k = ap (λ (x : Seen). x.files) k.0
+  gone_files (Writing.as_it_goes whole begun early) texts m k = ap (λ (x : Seen). x.files) k.0
   gone_files (Writing.in_turns turns) texts m k = k.0
 
   cut_files : (writing : Writing c.Value) (texts : List (List ℕ)) (m : Seen) (r : Refusal) → AreCut c writing texts m q o s r → q.files ≡ m.files
   cut_files Writing.at_end texts m r k = absurd k
-  cut_files (Writing.as_it_goes whole begun) texts m r k = absurd k
+  cut_files (Writing.as_it_goes whole begun early) texts m r k = absurd k
   cut_files (Writing.in_turns turns) texts m r k = k.0
 
   pub files_done : (HaveFile c.reads → ⊥) → IsDoneBy c p q o s → q.files ≡ p.files
@@ -276,13 +277,13 @@ module _ (c : Command) (laws : IsLawful c) (p q : Seen) (o s : OutputSeen) where
   gone_input : (writing : Writing c.Value) → (TakesTurns writing → ⊥) → (texts : List (List ℕ)) (m : Seen) → IsCarriedOut c writing texts m q o s →
       q.input ≡ m.input
   gone_input Writing.at_end t texts m k = ap (λ (x : Seen). x.input) k.0
-  gone_input (Writing.as_it_goes whole begun) t texts m k = ap (λ (x : Seen). x.input) k.0
+  gone_input (Writing.as_it_goes whole begun early) t texts m k = ap (λ (x : Seen). x.input) k.0
   gone_input (Writing.in_turns turns) t texts m k = absurd (t tt)
 
   cut_input : (writing : Writing c.Value) → (TakesTurns writing → ⊥) → (texts : List (List ℕ)) (m : Seen) (r : Refusal) → AreCut c writing texts m q o s r →
       q.input ≡ m.input
   cut_input Writing.at_end t texts m r k = absurd k
-  cut_input (Writing.as_it_goes whole begun) t texts m r k = absurd k
+  cut_input (Writing.as_it_goes whole begun early) t texts m r k = absurd k
   cut_input (Writing.in_turns turns) t texts m r k = absurd (t tt)
 
   pub input_done : (TakesTurns c.writing → ⊥) → (HaveInput c.reads → ⊥) → IsDoneBy c p q o s → q.input ≡ p.input
@@ -299,7 +300,7 @@ module _ (c : Command) (laws : IsLawful c) (p q : Seen) (o s : OutputSeen) where
   gone_calm : (writing : Writing c.Value) → TurnsHold c.IsCause c.IsWithin writing → (texts : List (List ℕ)) (m : Seen) → IsCarriedOut c writing texts m q o s →
       q.input.faults ≡ m.input.faults
   gone_calm Writing.at_end h texts m k = ap (λ (x : Seen). x.input.faults) k.0
-  gone_calm (Writing.as_it_goes whole begun) h texts m k = ap (λ (x : Seen). x.input.faults) k.0
+  gone_calm (Writing.as_it_goes whole begun early) h texts m k = ap (λ (x : Seen). x.input.faults) k.0
   gone_calm (Writing.in_turns turns) h texts m k = h.ended_calm k.1.0 m.input q.input o s k.1.3
 
   pub calm_done : IsDoneBy c p q o s → (q.input.faults ≡ p.input.faults) × (q.files.unopened ≡ p.files.unopened) × (q.files.faults ≡ p.files.faults) ×
@@ -316,13 +317,13 @@ module _ (c : Command) (laws : IsLawful c) (p q : Seen) (o s : OutputSeen) where
   cut_read_calm : (writing : Writing c.Value) → TurnsHold c.IsCause c.IsWithin writing → (texts : List (List ℕ)) (m : Seen) (r : Refusal) →
       (r ≡ refusals.ReadFault → ⊥) → AreCut c writing texts m q o s r → q.input.faults ≡ m.input.faults
   cut_read_calm Writing.at_end h texts m r n k = absurd k
-  cut_read_calm (Writing.as_it_goes whole begun) h texts m r n k = absurd k
+  cut_read_calm (Writing.as_it_goes whole begun early) h texts m r n k = absurd k
   cut_read_calm (Writing.in_turns turns) h texts m r n k = h.read_calm k.1.0 r m.input q.input o s n k.1.3
 
   cut_write_calm : (writing : Writing c.Value) → TurnsHold c.IsCause c.IsWithin writing → (texts : List (List ℕ)) (m : Seen) (r : Refusal) →
       (r ≡ refusals.WriteFault → ⊥) → AreCut c writing texts m q o s r → s.faults ≡ o.faults
   cut_write_calm Writing.at_end h texts m r n k = absurd k
-  cut_write_calm (Writing.as_it_goes whole begun) h texts m r n k = absurd k
+  cut_write_calm (Writing.as_it_goes whole begun early) h texts m r n k = absurd k
   cut_write_calm (Writing.in_turns turns) h texts m r n k = h.write_calm k.1.0 r m.input q.input o s n k.1.3
 
   pub input_calm_stopped : (r : Refusal) → (r ≡ refusals.ReadFault → ⊥) → IsStoppedBy c p q o s r → q.input.faults ≡ p.input.faults

@@ -71,7 +71,7 @@ writing_kind writing r w n = kind_of_work writing (kind_of_refusal r) w (λ e. l
 no_turns : {A : Type 0} (IsCause : A → Refusal → Type 0) (IsWithin : A → Type 0) (writing : Writing A) → (TakesTurns writing → ⊥) →
     TurnsHold IsCause IsWithin writing
 no_turns IsCause IsWithin Writing.at_end n = tt
-no_turns IsCause IsWithin (Writing.as_it_goes whole begun) n = tt
+no_turns IsCause IsWithin (Writing.as_it_goes whole begun early) n = tt
 no_turns IsCause IsWithin (Writing.in_turns turns) n = absurd (n tt)
 
 module _ (c : Command) (exact : IsExactCommand c) (tested : IsTestedCommand c) where

@@ -19,10 +19,11 @@ pub record Turns (A : Type 0) : Type 1 where
 
 -- How it goes on once its sources are loaded: it writes its answer in one piece at its end; or it writes as it goes; or it goes on in turns.
 -- As it goes: the whole text is all that is written where nothing stops it, of which a prefix stands where a write fails; of a list that goes
--- on past its limit it ends at the limit, with just as many items as the limit lets through. And this may be written before the work is refused so.
+-- on past its limit it ends at the limit, with just as many items as the limit lets through. Then what may be written before the work is refused so,
+-- and why it is refused before anything is written.
 pub data Writing (A : Type 0) : Type 1 where
   at_end : Writing A
-  as_it_goes : (A → List ℕ → Type 0) → (A → List ℕ → Refusal → Type 0) → Writing A
+  as_it_goes : (A → List ℕ → Type 0) → (A → List ℕ → Refusal → Type 0) → (A → Refusal → Type 0) → Writing A
   in_turns : Turns A → Writing A
 
 -- a command
@@ -44,25 +45,31 @@ pub record Command : Type 1 where
 -- the whole text
 abbrev pub IsWholeBy : {A : Type 0} → Writing A → (A → List ℕ → Type 0) → A → List ℕ → Type 0
 IsWholeBy Writing.at_end IsAnswer a text = IsAnswer a text
-IsWholeBy (Writing.as_it_goes whole begun) IsAnswer a text = whole a text
+IsWholeBy (Writing.as_it_goes whole begun early) IsAnswer a text = whole a text
 IsWholeBy (Writing.in_turns turns) IsAnswer a text = ⊥
 
 -- what may be written before a refusal
 abbrev pub IsBegunBy : {A : Type 0} → Writing A → A → List ℕ → Refusal → Type 0
 IsBegunBy Writing.at_end a text r = ⊥
-IsBegunBy (Writing.as_it_goes whole begun) a text r = begun a text r
+IsBegunBy (Writing.as_it_goes whole begun early) a text r = begun a text r
 IsBegunBy (Writing.in_turns turns) a text r = ⊥
+
+-- why the work is refused before anything is written; a command that doesn't write as it goes has written nothing, whatever the cause is
+abbrev pub IsCauseAtStart : {A : Type 0} → Writing A → (A → Refusal → Type 0) → A → Refusal → Type 0
+IsCauseAtStart Writing.at_end IsCause a r = IsCause a r
+IsCauseAtStart (Writing.as_it_goes whole begun early) IsCause a r = early a r
+IsCauseAtStart (Writing.in_turns turns) IsCause a r = IsCause a r
 
 -- it writes its answer in one piece at its end
 abbrev pub WritesOnce : {A : Type 0} → Writing A → Type 0
 WritesOnce Writing.at_end = Unit {0}
-WritesOnce (Writing.as_it_goes whole begun) = ⊥
+WritesOnce (Writing.as_it_goes whole begun early) = ⊥
 WritesOnce (Writing.in_turns turns) = ⊥
 
 -- it writes as it goes: a list that is cut at its limit does
 abbrev pub GoesAlong : {A : Type 0} → Writing A → Type 0
 GoesAlong Writing.at_end = ⊥
-GoesAlong (Writing.as_it_goes whole begun) = Unit {0}
+GoesAlong (Writing.as_it_goes whole begun early) = Unit {0}
 GoesAlong (Writing.in_turns turns) = ⊥
 
 -- ---- for what is read
@@ -110,6 +117,14 @@ pub data IsRefusedOn (c : Command) (texts : List (List ℕ)) (r : Refusal) : Typ
   in_text : (e : TextError) → c.reading.IsRefused texts e → r ≡ of_text e → IsRefusedOn c texts r
   behind_text : (a : c.Value) → c.reading.IsRead texts a → IsUnanswered c a r → IsRefusedOn c texts r
   no_memory : r ≡ refusals.Memory → IsRefusedOn c texts r
+
+-- the texts are refused before anything is written: one of them is; or they are read, and a check fails, or the work is refused before it writes; or memory
+-- runs out
+pub data IsRefusedAtStart (c : Command) (texts : List (List ℕ)) (r : Refusal) : Type 0 where
+  in_text : (e : TextError) → c.reading.IsRefused texts e → r ≡ of_text e → IsRefusedAtStart c texts r
+  in_form : (a : c.Value) → c.reading.IsRead texts a → FirstFails (c.checks a) r → IsRefusedAtStart c texts r
+  in_work : (a : c.Value) → c.reading.IsRead texts a → AllHold (c.checks a) → IsCauseAtStart c.writing c.IsCause a r → IsRefusedAtStart c texts r
+  no_memory : r ≡ refusals.Memory → IsRefusedAtStart c texts r
 
 -- they are read, of their form, and the work on them stays within its limits
 pub record IsInReach (c : Command) (texts : List (List ℕ)) : Type 0 where

@@ -104,9 +104,11 @@ pub record RunClauses (command_of : Job → Command) (words : List (List ℕ)) (
   pub too_long : status ≡ statuses.Refused refusals.InputTooLong → OfJobAsked words (λ job. IsTooMuchTaken command_of job p q o s)
   pub short : (job : Job) → IsJobOf words job → (TakesTurns (command_of job).writing → ⊥) → (status ≡ statuses.Refused refusals.InputTooLong → ⊥) →
       AreReadWithin (command_of job).reads p q
-  -- a refusal but of a write leaves nothing in the output, or the beginning of a text that is written as it goes
+  -- Any refusal but that of a write leaves the output as it was if the words ask for no job, or memory runs out before a job is known; otherwise
+  -- what a refusal of this job leaves there.
   pub quiet : (refusal : Refusal) → status ≡ statuses.Refused refusal → (refusal ≡ refusals.WriteFault → ⊥)
-      → Keeps o.held s.held ⊎ OfJobAsked words (λ job. LeavesInOutput (command_of job) p q o s refusal)
+      → (((refusal ≡ refusals.Usage) ⊎ (refusal ≡ refusals.Memory)) × Keeps o.held s.held)
+      ⊎ OfJobAsked words (λ job. LeavesInOutput (command_of job) p q o s refusal)
   -- a fault is answered only where a call of this run failed; and no other is counted
   pub read_fault : status ≡ statuses.Refused refusals.ReadFault → Rose p.input.faults q.input.faults ⊎ Rose p.files.faults q.files.faults
   pub open_fault : status ≡ statuses.Refused refusals.OpenFault → Rose p.files.unopened q.files.unopened

@@ -9,14 +9,14 @@ use Rattle.gf_front.specs.declared.refusal.Refusal.TheVariants as refusals
 use Rattle.gf_items.specs.Checks.{AllHold}
 use Rattle.gf_frame.specs.Seen.{Seen, OutputSeen}
 use Rattle.gf_frame.specs.Loading.{Origin, AreLoaded, AreUnloaded, IsKnown, AreKnown, AreShort}
-use Rattle.gf_frame.specs.Commands.{Writing, Command, IsAnswered, IsWholeFor, IsBegunFor, IsRefusedOn}
+use Rattle.gf_frame.specs.Commands.{Writing, Command, IsAnswered, IsWholeFor, IsBegunFor, IsRefusedOn, IsRefusedAtStart}
 
 -- ---- what is done with the texts, once they are loaded
 
 -- the command takes of the input in turns
 abbrev pub TakesTurns : {A : Type 0} → Writing A → Type 0
 TakesTurns Writing.at_end = ⊥
-TakesTurns (Writing.as_it_goes whole begun) = ⊥
+TakesTurns (Writing.as_it_goes whole begun early) = ⊥
 TakesTurns (Writing.in_turns turns) = Unit {0}
 
 -- the answer to the texts is written, and the command takes no turns
@@ -27,13 +27,14 @@ pub record IsDoneOn (c : Command) (texts : List (List ℕ)) (o s : OutputSeen) :
   pub calm : s.faults ≡ o.faults
   pub alone : TakesTurns c.writing → ⊥
 
--- what a refusal leaves in the output: nothing, or of a command that writes as it goes the beginning of its text; at the limit of a list just
--- that
+-- what a refusal leaves in the output: nothing if it comes before anything is written; otherwise, of a command that writes as it goes, the
+-- beginning of its text, and at the limit of a list always that
 abbrev pub IsLeftInOutput : (c : Command) → List (List ℕ) → OutputSeen → OutputSeen → Refusal → Type 0
 IsLeftInOutput c texts o s (refusals.ListLimit most) = (text : List ℕ) × IsBegunFor c texts text (refusals.ListLimit most) × Appends o.held s.held text
-IsLeftInOutput c texts o s r = Keeps o.held s.held ⊎ ((text : List ℕ) × IsBegunFor c texts text r × Appends o.held s.held text)
+IsLeftInOutput c texts o s r =
+    (IsRefusedAtStart c texts r × Keeps o.held s.held) ⊎ ((text : List ℕ) × IsBegunFor c texts text r × Appends o.held s.held text)
 
--- nothing is written for the texts; or the whole text is known, and a write of it fails
+-- the texts are refused, and this leaves what it should; or the whole text is known, and a write of it fails
 pub data IsStoppedOn (c : Command) (texts : List (List ℕ)) (o s : OutputSeen) (r : Refusal) : Type 0 where
   in_work : IsRefusedOn c texts r → IsLeftInOutput c texts o s r → s.faults ≡ o.faults → IsStoppedOn c texts o s r
   in_writing : (text : List ℕ) → IsWholeFor c texts text → r ≡ refusals.WriteFault → Rose o.faults s.faults → AppendsPrefix o.held s.held text →
@@ -44,7 +45,7 @@ pub data IsStoppedOn (c : Command) (texts : List (List ℕ)) (o s : OutputSeen) 
 -- the answer is written, and no more is read; or the turns ended
 abbrev pub IsCarriedOut : (c : Command) → Writing c.Value → List (List ℕ) → Seen → Seen → OutputSeen → OutputSeen → Type 0
 IsCarriedOut c Writing.at_end texts m q o s = (q ≡ m) × ((text : List ℕ) × IsAnswered c texts text × Appends o.held s.held text)
-IsCarriedOut c (Writing.as_it_goes whole begun) texts m q o s = (q ≡ m) × ((text : List ℕ) × IsAnswered c texts text × Appends o.held s.held text)
+IsCarriedOut c (Writing.as_it_goes whole begun early) texts m q o s = (q ≡ m) × ((text : List ℕ) × IsAnswered c texts text × Appends o.held s.held text)
 IsCarriedOut c (Writing.in_turns turns) texts m q o s =
     (q.files ≡ m.files) × ((a : c.Value) × c.reading.IsRead texts a × AllHold (c.checks a) × turns.IsEnded a m.input q.input o s)
 
@@ -61,11 +62,11 @@ pub record IsDoneBy (c : Command) (p q : Seen) (o s : OutputSeen) : Type 0 where
 -- the turns are cut off
 abbrev pub AreCut : (c : Command) → Writing c.Value → List (List ℕ) → Seen → Seen → OutputSeen → OutputSeen → Refusal → Type 0
 AreCut c Writing.at_end texts m q o s r = ⊥
-AreCut c (Writing.as_it_goes whole begun) texts m q o s r = ⊥
+AreCut c (Writing.as_it_goes whole begun early) texts m q o s r = ⊥
 AreCut c (Writing.in_turns turns) texts m q o s r =
     (q.files ≡ m.files) × ((a : c.Value) × c.reading.IsRead texts a × AllHold (c.checks a) × turns.IsCut a m.input q.input o s r)
 
--- A source isn't loaded; or all are, and nothing is written for them, or a write fails, or the turns are cut off.
+-- A source isn't loaded; or all are, and they are refused, or a write fails, or the turns are cut off.
 pub data IsStoppedBy (c : Command) (p q : Seen) (o s : OutputSeen) (r : Refusal) : Type 0 where
   in_loading : AreUnloaded c.reads p q r → Keeps o.held s.held → s.faults ≡ o.faults → IsStoppedBy c p q o s r
   in_work : (texts : List (List ℕ)) → AreLoaded c.reads p q texts → IsRefusedOn c texts r → IsLeftInOutput c texts o s r → s.faults ≡ o.faults →
@@ -91,12 +92,14 @@ pub data IsJobRefused (c : Command) (p q : Seen) (o s : OutputSeen) (r : Refusal
 -- the input is known and not too long, where a command takes of it in turns
 abbrev pub IsHeard : {A : Type 0} → Writing A → Seen → Seen → Type 0
 IsHeard Writing.at_end p q = Unit {0}
-IsHeard (Writing.as_it_goes whole begun) p q = Unit {0}
+IsHeard (Writing.as_it_goes whole begun early) p q = Unit {0}
 IsHeard (Writing.in_turns turns) p q = (source : List ℕ) × IsKnown Origin.the_input p q source × (length source ≤ 67108864)
 
--- what stands in the output where no write failed: nothing, or the beginning of a text that is written as it goes, or the turns until then
+-- what is in the output if no write failed: nothing, if a source isn't loaded, or if all are and they are refused before anything is written; otherwise the
+-- beginning of a text that is written as it goes, or the turns until then
 pub data LeavesInOutput (c : Command) (p q : Seen) (o s : OutputSeen) (r : Refusal) : Type 0 where
-  nothing : Keeps o.held s.held → LeavesInOutput c p q o s r
+  unloaded : AreUnloaded c.reads p q r → Keeps o.held s.held → LeavesInOutput c p q o s r
+  at_start : (texts : List (List ℕ)) → AreLoaded c.reads p q texts → IsRefusedAtStart c texts r → Keeps o.held s.held → LeavesInOutput c p q o s r
   beginning : (texts : List (List ℕ)) (text : List ℕ) → AreLoaded c.reads p q texts → IsBegunFor c texts text r → Appends o.held s.held text →
       LeavesInOutput c p q o s r
   turns : (texts : List (List ℕ)) (m : Seen) → AreLoaded c.reads p m texts → AreCut c c.writing texts m q o s r → LeavesInOutput c p q o s r

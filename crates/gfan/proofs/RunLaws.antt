@@ -166,13 +166,13 @@ past_alone _ texts most p t = p
 answered_done : (c : Command) (writing : Writing c.Value) (texts : List (List ℕ)) (m q : Seen) (o s : OutputSeen) → (TakesTurns writing → ⊥) →
     IsCarriedOut c writing texts m q o s → (text : List ℕ) × IsAnswered c texts text
 answered_done c Writing.at_end texts m q o s n g = (g.1.0, g.1.1)
-answered_done c (Writing.as_it_goes whole begun) texts m q o s n g = (g.1.0, g.1.1)
+answered_done c (Writing.as_it_goes whole begun early) texts m q o s n g = (g.1.0, g.1.1)
 answered_done c (Writing.in_turns turns) texts m q o s n g = absurd (n tt)
 
 not_cut : {A : Type 0} (c : Command) (writing : Writing c.Value) (texts : List (List ℕ)) (m q : Seen) (o s : OutputSeen) (r : Refusal) →
     (TakesTurns writing → ⊥) → AreCut c writing texts m q o s r → A
 not_cut c Writing.at_end texts m q o s r n k = absurd k
-not_cut c (Writing.as_it_goes whole begun) texts m q o s r n k = absurd k
+not_cut c (Writing.as_it_goes whole begun early) texts m q o s r n k = absurd k
 not_cut c (Writing.in_turns turns) texts m q o s r n k = absurd (n tt)
 
 module _ (words : List (List ℕ)) (p q : Seen) (o s : OutputSeen) (job : Job) (texts : List (List ℕ)) (most : ℕ) (asked : IsJobOf words job)

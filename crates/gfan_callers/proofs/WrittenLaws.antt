@@ -24,7 +24,7 @@ module _ (c : Command) (p q : Seen) (o s : OutputSeen) where
   carried : (writing : Writing c.Value) (texts : List (List ℕ)) (m : Seen) → (TakesTurns writing → ⊥) → IsCarriedOut c writing texts m q o s →
       (text : List ℕ) × IsAnswered c texts text × Appends o.held s.held text
   carried Writing.at_end texts m n g = g.1
-  carried (Writing.as_it_goes whole begun) texts m n g = g.1
+  carried (Writing.as_it_goes whole begun early) texts m n g = g.1
   carried (Writing.in_turns turns) texts m n g = absurd (n tt)
 
   -- and if it reads the input alone, that for what was left of it

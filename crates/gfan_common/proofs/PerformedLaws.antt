@@ -10,11 +10,11 @@ use Rattle.gf_items.specs.Items.{IsTextOf}
 use Rattle.gf_items.specs.Sources.{ring_set_vector}
 use Rattle.gf_items.specs.Checks.{AllHold}
 use Rattle.gf_frame.specs.Seen.{output_seen}
-use Rattle.gf_frame.specs.Commands.{Command, IsUnanswered, IsBegunFor, IsRefusedOn}
+use Rattle.gf_frame.specs.Commands.{Command, IsUnanswered, IsBegunFor, IsRefusedOn, IsRefusedAtStart}
 use Rattle.gf_frame.specs.Runs.{TakesTurns, IsDoneOn, IsStoppedOn}
 use Rattle.gfan_common.specs.declared.refused.Refused.{Refused}
 use Rattle.gfan_common.specs.Refused.{IsUnnamed, IsNamedBy, IsRingOf, IsOfSource}
-use Rattle.gfan_common.specs.Performed.{IsPerformedFor, IsBegunAs, IsStoppedFor}
+use Rattle.gfan_common.specs.Performed.{IsPerformedFor, IsBegunAs, IsLeftFor, IsStoppedFor}
 
 -- ---- results
 
@@ -60,16 +60,22 @@ module _ (c : Command) (texts : List (List ℕ)) (a : c.Value) (read : c.reading
   begun_on : (r : Refusal) → IsBegunAs c a held holds r → (text : List ℕ) × IsBegunFor c texts text r × Appends held holds text
   begun_on r b = (b.0, record { value = a; read = read; formed = formed; begun = b.1 }, b.2)
 
-  left_on : (r : Refusal) → Keeps held holds ⊎ IsBegunAs c a held holds r →
-      Keeps held holds ⊎ ((text : List ℕ) × IsBegunFor c texts text r × Appends held holds text)
-  left_on r (inl k) = inl k
-  left_on r (inr b) = inr (begun_on r b)
+  left_on : (r : Refusal) → IsLeftFor c a held holds r →
+      (IsRefusedAtStart c texts r × Keeps held holds) ⊎ ((text : List ℕ) × IsBegunFor c texts text r × Appends held holds text)
+  left_on r (inl (w, b)) = inr (begun_on r b)
+  left_on r (inr (inl (w, e), k)) = inl (IsRefusedAtStart.in_work a read formed e, k)
+  left_on r (inr (inr m, k)) = inl (IsRefusedAtStart.no_memory m, k)
+
+  left_refused : (r : Refusal) → IsLeftFor c a held holds r → IsRefusedOn c texts r
+  left_refused r (inl (w, b)) = refused_on r w
+  left_refused r (inr (inl (w, e), k)) = refused_on r (inl w)
+  left_refused r (inr (inr m, k)) = refused_on r (inr m)
 
   stopped_as : (r : Refusal) → IsStoppedFor c a held holds n m r → ((IsFault r → ⊥) → m ≡ n) → IsStoppedOn c texts (output_seen held n) (output_seen holds m) r
   stopped_as refusals.WriteFault s calm = IsStoppedOn.in_writing s.1.0 (record { value = a; read = read; formed = formed; is_whole = s.1.1 }) refl s.0 s.1.2
   stopped_as (refusals.ListLimit most) s calm = IsStoppedOn.in_work (refused_on (refusals.ListLimit most) (inl s.0)) (begun_on (refusals.ListLimit most) s.1)
       (calm (λ f. f))
-  stopped_as r s calm = IsStoppedOn.in_work (refused_on r s.0) (left_on r s.1) (calm (λ f. f))
+  stopped_as r s calm = IsStoppedOn.in_work (left_refused r s) (left_on r s) (calm (λ f. f))
 
   pub stopped_on : (r : Refusal) → IsStoppedFor c a held holds n m r → ((r ≡ refusals.WriteFault → ⊥) → m ≡ n) →
       IsStoppedOn c texts (output_seen held n) (output_seen holds m) r

@@ -18,7 +18,7 @@ use Rattle.gf_items.specs.Refusals.{of_text}
 use Rattle.gf_items.specs.Sources.{ring_marked_set}
 use Rattle.gf_frame.specs.Seen.{output_seen}
 use Rattle.gf_frame.specs.Loading.{Origin}
-use Rattle.gf_frame.specs.Commands.{Command, IsRefusedOn}
+use Rattle.gf_frame.specs.Commands.{Command, IsRefusedOn, IsRefusedAtStart}
 use Rattle.gf_frame.specs.Runs.{IsDoneOn, IsStoppedOn}
 use Rattle.gf_frame.proofs.WorkLaws.{nothing_but_limit, text_stopped}
 use Rattle.gfan_lists.specs.declared.bases.ListOptions.{ListOptions}
@@ -91,7 +91,8 @@ memory_unlisted r m most l = no_limit (sym m ∙ l)
 
 pub memory_stopped : (c : Command) (texts : List (List ℕ)) (held : Option (List ℕ)) (n : ℕ) (r : Refusal) → r ≡ refusals.Memory →
     IsStoppedOn c texts (output_seen held n) (output_seen held n) r
-memory_stopped c texts held n r m = IsStoppedOn.in_work (IsRefusedOn.no_memory m) (nothing_but_limit c texts (output_seen held n) r (memory_unlisted r m)) refl
+memory_stopped c texts held n r m = IsStoppedOn.in_work (IsRefusedOn.no_memory m)
+    (nothing_but_limit c texts (output_seen held n) r (memory_unlisted r m) (IsRefusedAtStart.no_memory m)) refl
 
 -- its checks hold where there is a region, of the same names
 pub formed_after : (from_basis is_cut : Bool) (v : AfterValue from_basis) (k : Region) → IsRegionCut is_cut (length (names_given from_basis v.1.1)) v.0 k →
@@ -112,10 +113,10 @@ unbegun_stopped from_basis true sources o texts v read held n r (inl (c, inl f))
     stopped_in_form (after_command from_basis true sources o) texts v read held n r (form_unlisted (length (names_given from_basis v.1.1)) v.0 r f) f
 unbegun_stopped from_basis true sources o texts v read held n r (inl (c, inr h)) =
     stopped_in_work (after_command from_basis true sources o) texts v read held n r (region_unlisted (length (names_given from_basis v.1.1)) v.0 r h)
-    (rows_hold (length (names_given from_basis v.1.1)) v.0 h.0) (IsRefusedAfter.at_region refl h)
+    (rows_hold (length (names_given from_basis v.1.1)) v.0 h.0) (IsRefusedAfter.at_region refl h) (inl (refl, h))
 unbegun_stopped from_basis true sources o texts v read held n r (inr (inl (k, i, x))) =
     stopped_in_work (after_command from_basis true sources o) texts v read held n r (other_unlisted v.1.0.0 (names_given from_basis v.1.1) r x) (formed_ring i)
-    (IsRefusedAfter.at_ring k refl i x)
+    (IsRefusedAfter.at_ring k refl i x) (inr (inl (refl, (k, i, x))))
   where
     formed_ring : IsRegionOf (length (names_given from_basis v.1.1)) v.0 k → AllHold (for_each (length (names_given from_basis v.1.1)) v.0)
     formed_ring j = rows_hold (length (names_given from_basis v.1.1)) v.0 (cut_rows (length (names_given from_basis v.1.1)) v.0 k j)
@@ -140,7 +141,7 @@ module _ (from_basis is_cut : Bool) (sources : List Origin) (o : ListOptions) (t
   start_stopped held n r (inl h) =
       stopped_in_work (after_command from_basis is_cut sources o) texts v read held n r (start_unlisted from_basis is_cut k v.1.1 v.1.0.1 o.pairs r h)
       (formed_after from_basis is_cut v k i e)
-      (IsRefusedAfter.behind k i e (IsCauseAfter.at_start h))
+      (IsRefusedAfter.behind k i e (IsCauseAfter.at_start h)) (inr (inr (k, i, e, h)))
   start_stopped held n r (inr m) = memory_stopped (after_command from_basis is_cut sources o) texts held n r m
 
   module _ (g : IsBasisGiven from_basis v.1.1) (b : MarkedPolynomials) (front : List MarkedPolynomials) (t : IsBasisTaken k v.1.0.1 b)

@@ -8,6 +8,7 @@ use Rattle.std.proofs.Common.{arith, refl, sym, ap, ◌∙◌, subst, inl, inr, 
 use Rattle.std.proofs.lemmas.Bool.{cases_lt}
 use Rattle.std.proofs.KnownBytes.{Appends-nil, Appends-trans, Appends-kept, Keeps-refl}
 use Rattle.gf_outside.specs.Moved.{AppendsPrefix}
+use Rattle.gf_exponents_theory.specs.SixOrders.{MonomialOrder}
 use Rattle.gf_poly.specs.Polynomial.{Terms}
 use Rattle.gf_poly.specs.Marking.{MarkedPolynomials}
 use Rattle.gf_text.specs.declared.written.Written.{Written}
@@ -45,12 +46,12 @@ use Rattle.gfan_common.specs.Causes.{of_basis, of_weight_error, of_tree}
 use Rattle.gfan_lists.specs.BasesList.{AreAllBasesIn}
 use Rattle.gfan_lists.specs.Certificates.{IsItemTextIn, IsItemRefusalIn}
 use Rattle.gfan_lists.specs.Bases.{AreItemTextsIn, IsWithinLimit, list_text, begun_text, IsListCause, bases_command, IsFullTextBehind, IsStoppedAt}
-use Rattle.gfan_lists.specs.Bases.{IsBegunWhereBehind}
-use Rattle.gfan_lists.specs.BasesWriting.{basis_piece, IsBasisWritten, IsUnwritten, IsBasisUnwritten, HasRoomFor, IsOneLess, IsFull, IsRootRefusal}
+use Rattle.gfan_lists.specs.Bases.{IsBegunWhereBehind, IsFirstRefusal, IsRootRefusal}
+use Rattle.gfan_lists.specs.BasesWriting.{basis_piece, IsBasisWritten, IsUnwritten, IsBasisUnwritten, HasRoomFor, IsOneLess, IsFull}
 use Rattle.gfan_lists.specs.BasesWriting.{StartsIn, GoesOnBehind, IsListWrittenBehind, IsListBegunBehind, IsListStoppedBehind, IsListStoppedIn}
 use Rattle.gfan_lists.specs.BasesWriting.{end_piece, is_none_of, IsUnderWay}
 use Rattle.gfan_common.specs.Refused.{IsUnnamed, without_names}
-use Rattle.gfan_common.specs.Performed.{IsStoppedFor}
+use Rattle.gfan_common.specs.Performed.{IsLeftFor, IsStoppedFor}
 use Rattle.gfan_common.proofs.WrittenSetLaws.{in_ring}
 use Rattle.gfan_common.proofs.CauseLaws.{unnamed_weight}
 use Rattle.gfan_lists.proofs.BasesListLaws.{among_left, among_right, root_marks, all_bases_in}
@@ -463,23 +464,25 @@ stopped_list o ring set held holds n m r s =
 -- the first basis is refused
 pub stopped_root : (o : ListOptions) (ring : List (List ℕ)) (set : List Written) (held : Option (List ℕ)) (n m : ℕ) (r : Refusal) →
     IsRootRefusal (length ring) (generators_of set) o.pairs r → IsStoppedFor (bases_command o) (ring, (set, None)) held held n m r
-stopped_root o ring set held n m r (e, h, q) = subst (λ z. IsStoppedFor (bases_command o) (ring, (set, None)) held held n m z) (sym q)
-    (at e (IsListCause.at_root e h refl))
+stopped_root o ring set held n m r (e, h, q) = subst (λ z. IsStoppedFor (bases_command o) (ring, (set, None)) held held n m z) (sym q) (at e h)
   where
-    at : (e : BasisError) → IsListCause o (length ring) (generators_of set) (of_basis e) →
-        IsStoppedFor (bases_command o) (ring, (set, None)) held held n m (of_basis e)
-    at (basis_errors.Overflow x) c = (inl c, inl (Keeps-refl held))
-    at (basis_errors.Exponent x) c = (inl c, inl (Keeps-refl held))
-    at (basis_errors.PairBudget basis unsettled) c = (inl c, inl (Keeps-refl held))
-    at basis_errors.Memory c = (inl c, inl (Keeps-refl held))
+    left : (d : BasisError) → IsFirstRefusal MonomialOrder.deglex (length ring) (generators_of set) o.pairs d →
+        IsLeftFor (bases_command o) (ring, (set, None)) held held (of_basis d)
+    left d f = inr (inl (IsListCause.at_root d f refl, (d, f, refl)), Keeps-refl held)
+
+    at : (d : BasisError) → IsFirstRefusal MonomialOrder.deglex (length ring) (generators_of set) o.pairs d →
+        IsStoppedFor (bases_command o) (ring, (set, None)) held held n m (of_basis d)
+    at (basis_errors.Overflow x) f = left (basis_errors.Overflow x) f
+    at (basis_errors.Exponent x) f = left (basis_errors.Exponent x) f
+    at (basis_errors.PairBudget basis unsettled) f = left (basis_errors.PairBudget basis unsettled) f
+    at basis_errors.Memory f = left basis_errors.Memory f
 
 -- there is no memory before anything is written
 pub stopped_memory : (o : ListOptions) (ring : List (List ℕ)) (set : List Written) (held : Option (List ℕ)) (n m : ℕ) (r : Refusal) → r ≡ refusals.Memory →
     IsStoppedFor (bases_command o) (ring, (set, None)) held held n m r
 stopped_memory o ring set held n m r e = subst (λ z. IsStoppedFor (bases_command o) (ring, (set, None)) held held n m z) (sym e) (
-  inr refl,
-  inl (Keeps-refl held),
-)
+    inr (inr refl, Keeps-refl held)
+    )
 
 -- ---- lines without a ring, and faults
 

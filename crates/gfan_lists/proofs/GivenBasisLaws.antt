@@ -49,7 +49,7 @@ use Rattle.gf_items.specs.Items.{IsTextOf}
 use Rattle.gf_items.specs.Sources.{ring_marked_set}
 use Rattle.gf_items.specs.Refusals.{IsOfTest, IsOfNumbers, TellsSame, IsOfWork}
 use Rattle.gf_frame.specs.Seen.{output_seen}
-use Rattle.gf_frame.specs.Commands.{IsUnanswered, IsRefusedOn}
+use Rattle.gf_frame.specs.Commands.{IsUnanswered, IsRefusedOn, IsRefusedAtStart}
 use Rattle.gf_frame.specs.Runs.{IsStoppedOn}
 use Rattle.gf_frame.proofs.WorkLaws.{nothing_but_limit}
 use Rattle.gfan_lists.specs.declared.bases.ListOptions.{ListOptions}
@@ -171,7 +171,8 @@ module _ (o : ListOptions) (ring : List (List ℕ)) (s : MarkedPolynomials) wher
       → IsStoppedOn (given_bases_command o) (source ∷ []) (output_seen held n) (output_seen held n) r
   given_stopped_root source read held n r h =
       IsStoppedOn.in_work (IsRefusedOn.behind_text (ring, s) read (IsUnanswered.in_work tt (IsGivenListCause.at_root h)))
-      (nothing_but_limit (given_bases_command o) (source ∷ []) (output_seen held n) r (root_no_limit s o.pairs r h)) refl
+      (nothing_but_limit (given_bases_command o) (source ∷ []) (output_seen held n) r (root_no_limit s o.pairs r h)
+      (IsRefusedAtStart.in_work (ring, s) read tt h)) refl
 
   pub given_performed : (held holds : Option (List ℕ)) → IsMarkedGroebnerBasis s.variables s.items →
       IsListWrittenIn o ring (all_positive (length ring)) (polys s.items) held holds → IsPerformedFor (given_bases_command o) (ring, s) held holds
@@ -180,7 +181,7 @@ module _ (o : ListOptions) (ring : List (List ℕ)) (s : MarkedPolynomials) wher
   -- there is no memory before anything is written
   pub given_stopped_memory : (held : Option (List ℕ)) (n m : ℕ) (r : Refusal) → r ≡ refusals.Memory →
       IsStoppedFor (given_bases_command o) (ring, s) held held n m r
-  given_stopped_memory held n m r e = subst (λ z. IsStoppedFor (given_bases_command o) (ring, s) held held n m z) (sym e) (inr refl, inl (Keeps-refl held))
+  given_stopped_memory held n m r e = subst (λ z. IsStoppedFor (given_bases_command o) (ring, s) held held n m z) (sym e) (inr (inr refl, Keeps-refl held))
 
   -- the list is refused from the root on
   pub given_stopped_list : (held holds : Option (List ℕ)) (n m : ℕ) (r : Refusal) → IsMarkedGroebnerBasis s.variables s.items →

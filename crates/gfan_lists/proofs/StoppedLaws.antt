@@ -69,4 +69,4 @@ module _ (c : Command) (a : c.Value) (before : List MarkedPolynomials) (o : List
   pub stopped_for : (r : Refusal) → IsListStoppedBehind before o ring k fs held holds n m r → IsStoppedFor c a held holds n m r
   stopped_for refusals.WriteFault s = (s.0, (s.1.0, whole s.1.0 s.1.1, s.1.2))
   stopped_for (refusals.ListLimit most) s = (at_limit most s, left (refusals.ListLimit most) s)
-  stopped_for r s = (elim (going_of before o ring k fs s.0 r s.1) [ inl h ↦ inl (cause r h) | inr q ↦ inr q ], inr (left r s))
+  stopped_for r s = inl (elim (going_of before o ring k fs s.0 r s.1) [ inl h ↦ inl (cause r h) | inr q ↦ inr q ], left r s)

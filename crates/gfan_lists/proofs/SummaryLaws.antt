@@ -49,7 +49,8 @@ use Rattle.gf_generated.proofs.GeneratedLaws.{generators_are_binomials}
 use Rattle.gfan_lists.specs.declared.generated.Summary.{Summary}
 use Rattle.gfan_lists.specs.BasesList.{AreAllBases}
 use Rattle.gfan_common.specs.Causes.{of_tree}
-use Rattle.gfan_lists.specs.BasesWriting.{IsFirstBasis, StartsAt, IsRootRefusal}
+use Rattle.gfan_lists.specs.Bases.{IsRootRefusal}
+use Rattle.gfan_lists.specs.BasesWriting.{IsFirstBasis, StartsAt}
 use Rattle.gfan_common.specs.Refused.{IsUnnamed, without_names}
 use Rattle.gfan_lists.specs.Generated.{ArePrintedWeights, added, summary_text, IsSummaryText, IsSummaryCause, summary_command, generated_command}
 use Rattle.gfan_lists.specs.Summaries.{IsOfNoBasis, IsWithBasis, IsWideSum, IsUnsummed, IsSummary}

@@ -35,7 +35,7 @@ use Rattle.gf_items.proofs.KindLaws.{items_once, ring_and_once}
 use Rattle.gf_items.specs.Checks.{AllHold, FirstFails}
 use Rattle.gf_frame.specs.Seen.{output_seen}
 use Rattle.gf_frame.specs.Readings.{of_one, of_more}
-use Rattle.gf_frame.specs.Commands.{Command, IsUnanswered, IsRefusedOn}
+use Rattle.gf_frame.specs.Commands.{Command, IsUnanswered, IsRefusedOn, IsCauseAtStart, IsRefusedAtStart}
 use Rattle.gf_frame.specs.Runs.{IsDoneOn, IsStoppedOn}
 use Rattle.gf_frame.proofs.WorkLaws.{nothing_but_limit}
 use Rattle.gf_frame.proofs.ReadingLaws.{one_once, more_once, of_one_text}
@@ -269,16 +269,17 @@ module _ (name : List ℕ) (o : ListOptions) (rows : List (List ℤ)) (ring : Li
 
 -- ---- refused before anything is written
 
--- by a check of form, or by the work, but not at the limit of a list
+-- by a check of form, or by the work before it writes, but not at the limit of a list
 module _ (c : Command) (texts : List (List ℕ)) (a : c.Value) (read : c.reading.IsRead texts a) (held : Option (List ℕ)) (n : ℕ) (r : Refusal)
     (unlisted : (most : ℕ) → r ≡ refusals.ListLimit most → ⊥) where
   pub stopped_in_form : FirstFails (c.checks a) r → IsStoppedOn c texts (output_seen held n) (output_seen held n) r
-  stopped_in_form f = IsStoppedOn.in_work (IsRefusedOn.behind_text a read (IsUnanswered.in_form f)) (nothing_but_limit c texts (output_seen held n) r unlisted)
-      refl
+  stopped_in_form f = IsStoppedOn.in_work (IsRefusedOn.behind_text a read (IsUnanswered.in_form f))
+      (nothing_but_limit c texts (output_seen held n) r unlisted (IsRefusedAtStart.in_form a read f)) refl
 
-  pub stopped_in_work : AllHold (c.checks a) → c.IsCause a r → IsStoppedOn c texts (output_seen held n) (output_seen held n) r
-  stopped_in_work g w = IsStoppedOn.in_work (IsRefusedOn.behind_text a read (IsUnanswered.in_work g w))
-      (nothing_but_limit c texts (output_seen held n) r unlisted) refl
+  pub stopped_in_work : AllHold (c.checks a) → c.IsCause a r → IsCauseAtStart c.writing c.IsCause a r →
+      IsStoppedOn c texts (output_seen held n) (output_seen held n) r
+  stopped_in_work g w e = IsStoppedOn.in_work (IsRefusedOn.behind_text a read (IsUnanswered.in_work g w))
+      (nothing_but_limit c texts (output_seen held n) r unlisted (IsRefusedAtStart.in_work a read g e)) refl
 
 pub form_unlisted : (n : ℕ) (rows : List (List ℤ)) (r : Refusal) → FirstFails (for_each n rows) r → (most : ℕ) → r ≡ refusals.ListLimit most → ⊥
 form_unlisted n rows r f most l = none rows (subst (FirstFails (for_each n rows)) l f)
@@ -374,7 +375,7 @@ module _ (name : List ℕ) (o : ListOptions) (file source : List ℕ) (rows : Li
       (form_unlisted (length ring) rows r f) f
   no_region_stopped held n r (inr h) =
       stopped_in_work (bases_within_command name o) (file ∷ (source ∷ [])) (rows, (ring, (set, None))) (rf, rs) held n r
-      (region_unlisted (length ring) rows r h) (rows_hold (length ring) rows h.0) (IsCauseWithin.at_region h)
+      (region_unlisted (length ring) rows r h) (rows_hold (length ring) rows h.0) (IsCauseWithin.at_region h) (inl h)
 
   module _ (k : Region) (i : IsRegionOf (length ring) rows k) where
     held_rows : AllHold (for_each (length ring) rows)
@@ -385,7 +386,7 @@ module _ (name : List ℕ) (o : ListOptions) (file source : List ℕ) (rows : Li
         IsStoppedOn (bases_within_command name o) (file ∷ (source ∷ [])) (output_seen held n) (output_seen held n) r
     no_root_stopped held n r h =
         stopped_in_work (bases_within_command name o) (file ∷ (source ∷ [])) (rows, (ring, (set, None))) (rf, rs) held n r
-        (root_unlisted (length ring) k (generators_of set) o.pairs r h) held_rows (IsCauseWithin.at_root k i h)
+        (root_unlisted (length ring) k (generators_of set) o.pairs r h) held_rows (IsCauseWithin.at_root k i h) (inr (k, i, h))
 
     -- the list is written, or stopped
     pub within_done : (held holds : Option (List ℕ)) (n m : ℕ) → IsListWrittenIn o ring k (generators_of set) held holds → m ≡ n →
@@ -410,7 +411,7 @@ module _ (name : List ℕ) (o : ListOptions) (file source : List ℕ) (rows : Li
       f
   no_start_stopped held n r unlisted (inr h) =
       stopped_in_work (given_within_command name o) (file ∷ (source ∷ [])) (rows, (ring, s)) (rf, rs) held n r unlisted (rows_hold (length ring) rows h.0)
-      (IsGivenCauseWithin.at_start h.1)
+      (IsGivenCauseWithin.at_start h.1) h.1
 
   module _ (k : Region) (i : IsRegionOf (length ring) rows k) (g : IsMarkedGroebnerBasis s.variables s.items) where
     rows_held : AllHold (for_each (length ring) rows)

@@ -33,9 +33,9 @@ use Rattle.gfan_common.specs.CheckedSets.{of_check, IsSomeReductionRefusal}
 use Rattle.gfan_common.specs.ToolForms.{for_each}
 use Rattle.gfan_lists.specs.BasesList.{AreAllBasesIn}
 use Rattle.gfan_lists.specs.Bases.{IsWithinLimit, IsTextBehind, IsFullTextBehind, IsBegunWhereBehind, IsGoingCauseBehind, IsPastLimitBehind}
-use Rattle.gfan_lists.specs.Bases.{AreCertifiedWithinIn}
+use Rattle.gfan_lists.specs.Bases.{AreCertifiedWithinIn, IsRootRefusal}
 use Rattle.gfan_common.specs.Causes.{of_tree}
-use Rattle.gfan_lists.specs.BasesWriting.{StartsIn, IsRootRefusal}
+use Rattle.gfan_lists.specs.BasesWriting.{StartsIn}
 use Rattle.gfan_lists.specs.GivenBasis.{IsGivenRootRefusal}
 use Rattle.gfan_lists.specs.Within.{IsNoRegion, IsRegionRootRefusal, IsGivenRegionRootRefusal}
 
@@ -226,6 +226,16 @@ pub data IsRefusedAfter (from_basis is_cut : Bool) (o : ListOptions) (rows : Lis
   behind : (k : Region) → IsRegionCut is_cut (length (names_given from_basis v)) rows k → found ≡ names_given from_basis v →
       IsCauseAfter from_basis is_cut o k v s r → IsRefusedAfter from_basis is_cut o rows found v s r
 
+-- why it is refused before anything is written: there is no region; or there is one, and the names of the rings differ, if they are checked after the
+-- region; or the list isn't started in the region
+abbrev pub IsStartCauseAfter : (from_basis is_cut : Bool) → ListOptions → List (List ℤ) → List (List ℕ) → Given from_basis → MarkedPolynomials → Refusal →
+    Type 0
+IsStartCauseAfter from_basis is_cut o rows found v s r =
+    ((is_cut ≡ true) × IsNoRegion (length (names_given from_basis v)) rows r)
+    ⊎ (((is_cut ≡ true) × ((k : Region) × IsRegionOf (length (names_given from_basis v)) rows k × IsOtherRing found (names_given from_basis v) r))
+    ⊎ ((k : Region) × IsRegionCut is_cut (length (names_given from_basis v)) rows k × (found ≡ names_given from_basis v)
+    × IsStartRefused from_basis is_cut o.pairs k v s r))
+
 -- ---- within limits
 
 -- in the region: the set is the reduced basis of its ideal, and some weight of the region gives it. No operation of its checks leaves its
@@ -309,7 +319,8 @@ after_command from_basis is_cut sources o = record {
   IsAnswer = IsAnswerAfter from_basis is_cut o;
   IsCause = λ v r. IsRefusedAfter from_basis is_cut o v.0 v.1.0.0 v.1.1 v.1.0.1 r;
   IsWithin = λ v. IsWithinAfter from_basis is_cut o v.0 v.1.0.0 v.1.1 v.1.0.1;
-  writing = Writing.as_it_goes (IsWholeAfter from_basis is_cut o) (IsPartAfter from_basis is_cut o);
+  writing = Writing.as_it_goes (IsWholeAfter from_basis is_cut o) (IsPartAfter from_basis is_cut o)
+      (λ v r. IsStartCauseAfter from_basis is_cut o v.0 v.1.0.0 v.1.1 v.1.0.1 r);
 }
 
 -- the texts are the sources of the list: the names are equal, there is a region, and no operation of finding it leaves its limits. More

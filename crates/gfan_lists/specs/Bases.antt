@@ -219,6 +219,10 @@ pub record IsFirstRefusal (order : MonomialOrder) (n : ℕ) (fs : List Terms) (p
   pub cause : IsBasisRefusal order n fs pairs e
   pub by_rule : AreRuledRunsWithinLimits strategies.Degree order fs pairs → IsWantOfMemory e
 
+-- why the basis by deglex isn't computed
+abbrev pub IsRootRefusal : ℕ → List Terms → ℕ → Refusal → Type 0
+IsRootRefusal n fs pairs r = (e : BasisError) × IsFirstRefusal MonomialOrder.deglex n fs pairs e × (r ≡ of_basis e)
+
 -- the first basis, by deglex, is refused; or the list is refused from this basis on
 pub data IsListCause (o : ListOptions) (n : ℕ) (fs : List Terms) (r : Refusal) : Type 0 where
   at_root : (e : BasisError) → IsFirstRefusal MonomialOrder.deglex n fs o.pairs e → r ≡ of_basis e → IsListCause o n fs r
@@ -278,5 +282,6 @@ bases_command o = record {
   IsAnswer = λ v text. IsTextOfBases o.certified o.limit v.0 (generators_of v.1.0) text;
   IsCause = λ v r. IsListCause o (length v.0) (generators_of v.1.0) r;
   IsWithin = λ v. IsListWithin o (length v.0) (generators_of v.1.0);
-  writing = Writing.as_it_goes (λ v text. IsFullText o v.0 (generators_of v.1.0) text) (λ v text r. IsBegunWhere o v.0 (generators_of v.1.0) text r);
+  writing = Writing.as_it_goes (λ v text. IsFullText o v.0 (generators_of v.1.0) text) (λ v text r. IsBegunWhere o v.0 (generators_of v.1.0) text r)
+      (λ v r. IsRootRefusal (length v.0) (generators_of v.1.0) o.pairs r);
 }

@@ -8,7 +8,6 @@ use Rattle.gf_poly.specs.Polynomial.{Terms}
 use Rattle.gf_poly.specs.Marking.{MarkedPolynomials}
 use Rattle.gf_text.specs.RingText.{ring_text}
 use Rattle.gf_ideal_theory.specs.Membership.{AreInVariables}
-use Rattle.gf_buchberger.specs.declared.bases.BasisError.{BasisError}
 use Rattle.gf_buchberger.specs.Bases.{IsArrangedBasis}
 use Rattle.gf_exponents_theory.specs.Orders.{gains, IsWeightedBelow}
 use Rattle.gf_ideal_theory.specs.Bases.{IsReducedBasisFor}
@@ -21,10 +20,9 @@ use Rattle.gf_front.specs.declared.refusal.Refusal.TheVariants as refusals
 use Rattle.gfan_lists.specs.declared.bases.ListOptions.{ListOptions}
 use Rattle.gfan_lists.specs.declared.bases.Room.{Room}
 use Rattle.gfan_lists.specs.declared.bases.Room.TheVariants.{Endless, Limited}
-use Rattle.gfan_common.specs.Causes.{of_basis}
 use Rattle.gfan_lists.specs.BasesList.{AreAllBasesIn}
 use Rattle.gfan_lists.specs.Certificates.{IsItemTextIn, IsItemRefusalIn}
-use Rattle.gfan_lists.specs.Bases.{later_item_text, AreItemTextsIn, IsTextBehind, IsFullTextBehind, IsBegunWhereBehind, begun_text, IsFirstRefusal}
+use Rattle.gfan_lists.specs.Bases.{later_item_text, AreItemTextsIn, IsTextBehind, IsFullTextBehind, IsBegunWhereBehind, begun_text}
 
 -- ---- pieces
 
@@ -82,10 +80,6 @@ IsFull (Limited limit left) r = (left ≡ 0) × (r ≡ refusals.ListLimit limit)
 -- root is the basis at which the list starts
 abbrev pub IsFirstBasis : ℕ → List Terms → MarkedPolynomials → Type 0
 IsFirstBasis n fs root = IsArrangedBasis MonomialOrder.deglex n fs root
-
--- why this basis isn't computed
-abbrev pub IsRootRefusal : ℕ → List Terms → ℕ → Refusal → Type 0
-IsRootRefusal n fs pairs r = (e : BasisError) × IsFirstRefusal MonomialOrder.deglex n fs pairs e × (r ≡ of_basis e)
 
 -- the list of the ideal of fs in n variables starts at root
 pub record StartsAt (n : ℕ) (fs : List Terms) (root : MarkedPolynomials) : Type 0 where

@@ -107,5 +107,6 @@ given_bases_command o = record {
   IsAnswer = λ v text. IsTextFromBasis o v.0 v.1 text;
   IsCause = λ v r. IsGivenListCause o (length v.0) v.1 r;
   IsWithin = λ v. IsGivenListWithin o (length v.0) v.1;
-  writing = Writing.as_it_goes (λ v text. IsFullFromBasis o v.0 v.1 text) (λ v text r. IsBegunFromBasis o v.0 v.1 text r);
+  writing = Writing.as_it_goes (λ v text. IsFullFromBasis o v.0 v.1 text) (λ v text r. IsBegunFromBasis o v.0 v.1 text r)
+      (λ v r. IsGivenRootRefusal v.1 o.pairs r);
 }

@@ -75,6 +75,10 @@ pub record IsBegunWithin (o : ListOptions) (rows : List (List ℤ)) (ring : List
 abbrev pub IsRegionRootRefusal : ℕ → Region → List Terms → ℕ → Refusal → Type 0
 IsRegionRootRefusal n k fs pairs r = (e : BasisError) × IsFirstRefusal (MonomialOrder.weighted (gains k.root)) n fs pairs e × (r ≡ of_basis e)
 
+-- why it is refused before anything is written: there is no region; or there is one, and its first basis is refused
+abbrev pub IsStartCauseWithin : ListOptions → ℕ → List (List ℤ) → List Terms → Refusal → Type 0
+IsStartCauseWithin o n rows fs r = IsNoRegion n rows r ⊎ ((k : Region) × IsRegionOf n rows k × IsRegionRootRefusal n k fs o.pairs r)
+
 -- there is no region; or there is one, and its first basis is refused, or the list from this basis on
 pub data IsCauseWithin (o : ListOptions) (n : ℕ) (rows : List (List ℤ)) (fs : List Terms) (r : Refusal) : Type 0 where
   at_region : IsNoRegion n rows r → IsCauseWithin o n rows fs r
@@ -170,7 +174,7 @@ bases_within_command name o = record {
   IsCause = λ v r. IsCauseWithin o (length v.1.0) v.0 (generators_of v.1.1.0) r;
   IsWithin = λ v. IsWithinRegion o (length v.1.0) v.0 (generators_of v.1.1.0);
   writing = Writing.as_it_goes (λ v text. IsFullWithin o v.0 v.1.0 (generators_of v.1.1.0) text) (λ v text r. IsBegunWithin o v.0 v.1.0 (generators_of v.1.1.0)
-      text r);
+      text r) (λ v r. IsStartCauseWithin o (length v.1.0) v.0 (generators_of v.1.1.0) r);
 }
 
 -- the command `_bases -g --within` on the file with this name
@@ -183,7 +187,8 @@ given_within_command name o = record {
   IsAnswer = λ v text. IsTextFromBasisWithin o v.0 v.1.0 v.1.1 text;
   IsCause = λ v r. IsGivenCauseWithin o (length v.1.0) v.0 v.1.1 r;
   IsWithin = λ v. IsGivenWithinRegion o (length v.1.0) v.0 v.1.1;
-  writing = Writing.as_it_goes (λ v text. IsFullFromBasisWithin o v.0 v.1.0 v.1.1 text) (λ v text r. IsBegunFromBasisWithin o v.0 v.1.0 v.1.1 text r);
+  writing = Writing.as_it_goes (λ v text. IsFullFromBasisWithin o v.0 v.1.0 v.1.1 text) (λ v text r. IsBegunFromBasisWithin o v.0 v.1.0 v.1.1 text r)
+      (λ v r. IsGivenStartRefusal (length v.1.0) v.0 v.1.1 o.pairs r);
 }
 
 -- ---- roots with an entry that is too great

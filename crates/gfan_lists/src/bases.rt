@@ -14,8 +14,9 @@ ghost use Rattle.gfan_lists.specs.Certificates.{IsItemRefusalIn};
 ghost use Rattle.gfan_lists.specs.Ahead.{IsWorkedOut};
 ghost use Rattle.gfan_lists.specs.Bases.{bases_command};
 ghost use Rattle.gfan_lists.specs.BasesWriting.{basis_piece, end_piece, GoesOnBehind, IsListWrittenBehind, IsListStoppedBehind, IsPieceOf, IsBasisWritten};
-ghost use Rattle.gfan_lists.specs.BasesWriting.{IsUnwritten, IsBasisUnwritten, HasRoomFor, IsOneLess, IsFull, IsFirstBasis, IsRootRefusal, StartsIn};
+ghost use Rattle.gfan_lists.specs.BasesWriting.{IsUnwritten, IsBasisUnwritten, HasRoomFor, IsOneLess, IsFull, IsFirstBasis, StartsIn};
 ghost use Rattle.gfan_lists.specs.BasesWriting.{IsListWrittenIn, IsListStoppedIn};
+ghost use Rattle.gfan_lists.specs.Bases.{IsRootRefusal};
 ghost use Rattle.gfan_common.specs.Refused.{IsUnnamed, IsOfSource};
 ghost use Rattle.gf_frame.specs.Seen.{output_seen};
 ghost use Rattle.gf_frame.specs.Runs.{IsDoneOn, IsStoppedOn};
@@ -384,7 +385,7 @@ fn write_list<R: Threads + Sync, K: Sink, G: Gate>(
 ///   number of the work leaves its range.
 /// - `WriteFault` only where a write failed; a prefix is written then of the text of the list, or of what stands at its limit.
 ///
-/// On the others from `Overflow` on, what is written ends where a basis ends, or nothing is.
+/// On the others from `Overflow` on, what is written ends where a basis ends: nothing if the first basis is refused, else the bases in front of the refusal.
 pub fn perform<R: Threads + Sync, K: Sink, G: Gate>(
     rt: &R,
     alloc: Global,

@@ -13,27 +13,27 @@ use Rattle.gf_front.specs.declared.refusal.Status.TheVariants as statuses
 use Rattle.gf_front.specs.Jobs.{IsJobOf}
 use Rattle.gf_frame.specs.Seen.{Seen, OutputSeen}
 use Rattle.gf_frame.specs.Loading.{Origin, AreLoaded, AreKnown, AreShort}
-use Rattle.gf_frame.specs.Commands.{Writing, Command, IsAnswered, IsBegunFor, IsRefusedAtOnce, IsInReach}
+use Rattle.gf_frame.specs.Commands.{Writing, Command, IsAnswered, IsBegunFor, IsRefusedAtOnce, IsRefusedAtStart, IsInReach, IsOfOutside}
 use Rattle.gf_frame.specs.Runs.{TakesTurns, IsCarriedOut, IsDoneBy, LeavesInOutput, IsHeard}
 use Rattle.gf_frame.specs.Programs.{IsRunDone, IsRefusedWith, RunClauses}
-use Rattle.gf_frame.proofs.LoadingLaws.{loaded_known}
+use Rattle.gf_frame.proofs.LoadingLaws.{loaded_known, unloaded_outside}
 use Rattle.gf_frame.proofs.WorkLaws.{not_cut}
 use Rattle.gf_frame.proofs.ProgramLaws.{same_job, done_as}
 use Rattle.gfan.specs.Commands.{command_of}
 use Rattle.gfan.proofs.CommandLaws.{lawful}
-use Rattle.gfan_on_bytes.specs.OnBytes.{text_of, texts_of, IsOneAnswer, IsDoneUnlessMemory}
+use Rattle.gfan_on_bytes.specs.OnBytes.{text_of, texts_of, IsOneAnswer, IsDoneUnlessMemory, IsLeftOnBytes}
 
 -- ---- one answer
 
 carried : (c : Command) (w : Writing c.Value) (texts : List (List ℕ)) (m q : Seen) (o s : OutputSeen) → (TakesTurns w → ⊥) → IsCarriedOut c w texts m q o s →
     (text : List ℕ) × IsAnswered c texts text × Appends o.held s.held text
 carried c Writing.at_end texts m q o s n h = h.1
-carried c (Writing.as_it_goes whole begun) texts m q o s n h = h.1
+carried c (Writing.as_it_goes whole begun early) texts m q o s n h = h.1
 carried c (Writing.in_turns turns) texts m q o s n h = absurd (n tt)
 
 heard : {A : Type 0} (w : Writing A) (p q : Seen) → (TakesTurns w → ⊥) → IsHeard w p q
 heard Writing.at_end p q n = tt
-heard (Writing.as_it_goes whole begun) p q n = tt
+heard (Writing.as_it_goes whole begun early) p q n = tt
 heard (Writing.in_turns turns) p q n = absurd (n tt)
 
 -- what an empty list of bytes has gained
@@ -82,18 +82,27 @@ module _ (words : List (List ℕ)) (input : List ℕ) (files : List FileInMemory
             (subst (λ z. IsAnswered (command_of job) h.texts z) (gained o.held s.held out c.0 b.empty b.held c.2) c.1)
 
     pub begun_on_bytes : (status : Status) (r : Refusal) → IsOneAnswer job → RunClauses command_of words p q o s status → status ≡ statuses.Refused r →
-        (r ≡ refusals.WriteFault → ⊥) → (out ≡ []) ⊎ IsBegunFor (command_of job) (texts_of input files job) out r
-    begun_on_bytes status r n c e w = elim (c.quiet r e w) [ inl k ↦ inl (kept o.held s.held out b.empty b.held k) | inr l ↦ left l.0 l.1 l.2 ]
+        (r ≡ refusals.WriteFault → ⊥) → IsLeftOnBytes (command_of job) (texts_of input files job) out r
+    begun_on_bytes status r n c e w = elim (c.quiet r e w) [
+      | inl k ↦ inl (kept o.held s.held out b.empty b.held k.1, inl (of_words k.0))
+      | inr l ↦ left l.0 l.1 l.2
+    ]
       where
-        at : LeavesInOutput (command_of job) p q o s r → (out ≡ []) ⊎ IsBegunFor (command_of job) (texts_of input files job) out r
-        at (LeavesInOutput.nothing k) = inl (kept o.held s.held out b.empty b.held k)
+        of_words : (r ≡ refusals.Usage) ⊎ (r ≡ refusals.Memory) → IsOfOutside r
+        of_words (inl u) = subst IsOfOutside (sym u) tt
+        of_words (inr m) = subst IsOfOutside (sym m) tt
+
+        at : LeavesInOutput (command_of job) p q o s r → IsLeftOnBytes (command_of job) (texts_of input files job) out r
+        at (LeavesInOutput.unloaded u k) = inl (kept o.held s.held out b.empty b.held k, inl (unloaded_outside (command_of job).reads p q r u))
+        at (LeavesInOutput.at_start ts l h k) =
+            inl (kept o.held s.held out b.empty b.held k, inr (subst (λ z. IsRefusedAtStart (command_of job) z r) (same_texts q ts l) h))
         at (LeavesInOutput.beginning ts text l h g) =
             let k : IsBegunFor (command_of job) ts out r = subst (λ z. IsBegunFor (command_of job) ts z r) (gained o.held s.held out text b.empty b.held g) h in
             inr (subst (λ z. IsBegunFor (command_of job) z out r) (same_texts q ts l) k)
         at (LeavesInOutput.turns ts m l h) = absurd (not_cut (command_of job) (command_of job).writing ts m q o s r n h)
 
         left : (other : Job) → IsJobOf words other → LeavesInOutput (command_of other) p q o s r →
-            (out ≡ []) ⊎ IsBegunFor (command_of job) (texts_of input files job) out r
+            IsLeftOnBytes (command_of job) (texts_of input files job) out r
         left other k h = at (subst (λ z. LeavesInOutput (command_of z) p q o s r) (same_job words job other asked k) h)
 
     pub exact_on_bytes : (status : Status) (r : Refusal) → AreShort (texts_of input files job) → RunClauses command_of words p q o s status →

@@ -4,14 +4,14 @@
 //! output are bytes in memory, and the contract says what is written for them.
 #![tactic(auto)]
 
-ghost use Rattle.std.specs.Prelude.{◌≡◌, ◌⊎◌, map, string_bytes, []};
+ghost use Rattle.std.specs.Prelude.{◌≡◌, map, string_bytes};
 ghost use Rattle.gf_front.specs.declared.command_line.Job.{Job};
 ghost use Rattle.gf_front.specs.Jobs.{IsJobOf};
 ghost use Rattle.gf_frame.specs.Loading.{AreShort};
-ghost use Rattle.gf_frame.specs.Commands.{IsAnswered, IsBegunFor, IsRefusedAtOnce, IsInReach};
+ghost use Rattle.gf_frame.specs.Commands.{IsAnswered, IsRefusedAtOnce, IsInReach};
 ghost use Rattle.gf_frame.specs.Programs.{IsRefusedWith};
 ghost use Rattle.gfan.specs.Commands.{command_of};
-ghost use Rattle.gfan_on_bytes.specs.OnBytes.{IsOneAnswer, texts_of, IsDoneUnlessMemory};
+ghost use Rattle.gfan_on_bytes.specs.OnBytes.{IsOneAnswer, texts_of, IsDoneUnlessMemory, IsLeftOnBytes};
 
 use gf_front::{Refusal, Status};
 use gf_outside::{MemFile, MemSink, SureFiles, SureSource};
@@ -47,10 +47,11 @@ pub fn run_on_bytes<R: Threads + Sync>(
     ensures done { (job : Job) → IsJobOf (map string_bytes words.now) job → IsOneAnswer job → result.status ≡ Status.Done
         → IsAnswered (command_of job) (texts_of input.items files.items job) result.output.held }
 
-    // With another status it is empty, or the beginning of that text, as far as the job has written it before this refusal.
+    // With another status it is the beginning of that text, as far as the job has written it before this refusal; it is empty if the refusal comes before
+    // anything is written, is one of the words or the outside, or is for want of memory.
     ensures begun { (job : Job) (refusal : Refusal) → IsJobOf (map string_bytes words.now) job → IsOneAnswer job → result.status ≡ Status.Refused refusal
         → (refusal ≡ Refusal.WriteFault → ⊥)
-        → (result.output.held ≡ []) ⊎ IsBegunFor (command_of job) (texts_of input.items files.items job) result.output.held refusal }
+        → IsLeftOnBytes (command_of job) (texts_of input.items files.items job) result.output.held refusal }
 
     // If no operation that the job may do exceeds its limits, the status is 0 unless memory runs out.
     ensures complete { (job : Job) → IsJobOf (map string_bytes words.now) job → IsOneAnswer job → AreShort (texts_of input.items files.items job)
