@@ -1,21 +1,25 @@
 -- A cone is maximal unless one of those that the fan is of has all its rays and more.
 use Rattle.std.proofs.Common.{◌≡◌, ℕ, ◌+◌, ◌<◌, List, [], ◌∷◌, ◌++◌, length, take, get_or, ℤ, All, AllPairs, Contains, refl, sym, ap, ◌∙◌, subst, inl, inr}
-use Rattle.std.proofs.Common.{arith, slice_get, Some}
+use Rattle.std.proofs.Common.{arith, slice_get, Some, Bool, true, nat_eq}
+use Rattle.std.specs.List.{list_any}
 use Rattle.std.specs.Ordering.{int_cmp, nat_cmp}
-use Rattle.std.specs.Cmp.Lexicographic.{slice_cmp}
+use Rattle.std.specs.Cmp.Lexicographic.{slice_cmp, pointwise}
 use Rattle.std.specs.declared.cmp.Ordering.TheVariants.{Less}
 use Rattle.std.proofs.lemmas.Bool.{cases_eq}
 use Rattle.std.proofs.lemmas.Option.{same_Some}
 use Rattle.std.proofs.lemmas.List.{get_or_default, get_or-map, take_more}
-use Rattle.std.proofs.lemmas.List.Elements.{All-contains, Contains-get_or, Contains-push}
+use Rattle.std.proofs.lemmas.List.Elements.{All-contains, Contains-get_or}
+use Rattle.std.proofs.lemmas.List.Folds.{list_any_at}
+use Rattle.indexmap.specs.IndexSet.{insert_key}
+use Rattle.indexmap.proofs.CallerLemmas.{Contains-list_any, Contains-insert_key}
 use Rattle.gf_int_theory.proofs.ListLaws.{Contains-last, all_by}
 use Rattle.gf_duality_theory.specs.Faces.{Rows, SameCone, part}
 use Rattle.gf_duality_theory.specs.Rays.{IsRays}
 use Rattle.gf_duality_theory.proofs.Determined.{rays_determined}
-use Rattle.gf_duality_theory.proofs.ListLaws.{none_in, first_in, place, less, at, more}
+use Rattle.gf_duality_theory.proofs.ListLaws.{none_in, place, less, at, more}
 use Rattle.gf_fans_theory.specs.FaceLists.{IsFaceBy, AreNumbers, numbered}
 use Rattle.gf_fans_theory.proofs.FanLaws.{face_has, part_in, of_part}
-use Rattle.gf_fans_theory.proofs.Ordered.{within_all, same_numbers}
+use Rattle.gf_fans_theory.proofs.Ordered.{within_all, same_numbers, decide_same}
 use Rattle.gf_fans_theory.proofs.PartNumbers.{in_map, of_map, at_number, number_in}
 use Rattle.gf_rays.specs.Cones.{RowsAndRays, rows_of}
 use Rattle.gf_fan.specs.declared.cones.FanCone.{FanCone}
@@ -25,7 +29,7 @@ use Rattle.gf_fan.specs.Parts.{HaveTheirRays}
 use Rattle.gf_fan.specs.Tops.{IsTop, AreTopsBefore, AreTopsOf}
 use Rattle.gf_fan.proofs.FanConeLaws.{own_rays, own_face, one_dimension}
 use Rattle.gf_fan.proofs.MaximalLaws.{numbers_long}
-use Rattle.gf_fan.proofs.NumberLaws.{at_get, numbers_ascend}
+use Rattle.gf_fan.proofs.NumberLaws.{at_get, numbers_ascend, kept_by, cases_by}
 use Rattle.gf_fan.proofs.UnderMaximal.{lists_less_never}
 
 -- ---- among lists
@@ -62,6 +66,28 @@ not_maximal lists tops i t a c d w m =
     m.alone k.0 k.1 (λ q. d (ap (λ (z : List ℕ). length z) (sym e) ∙ ap (λ j. length (get_or lists j [])) q))
     (subst (λ (z : List ℕ). All (Contains z) (get_or lists i [])) (sym e) w)
 
+-- it is one of those
+pub maximal_is_top : (lists tops : List (List ℕ)) (i : ℕ) → AreTopsOf lists tops → IsMaximalAt lists i → Contains tops (get_or lists i [])
+maximal_is_top lists tops i a m =
+    let xs : List ℕ = get_or lists i [] in
+    let cx : Contains lists xs = Contains-get_or lists i [] m.inside in
+    let o = a.over xs cx in let t : List ℕ = o.0 in
+    let up : AllPairs (λ j k. j < k) t = a.ascending t (a.listed t o.1.0) in
+    let xt : (x : ℕ) → Contains xs x → Contains t x = λ x c. All-contains (Contains t) xs x o.1.1 c in
+    elim (cases_eq (length t) (length xs)) [
+      | inr n ↦ absurd (not_maximal lists tops i t a o.1.0 n o.1.1 m)
+      | inl e ↦
+          let same : xs ≡ t = same_numbers xs t (a.ascending xs cx) up xt (within_all xs t (a.ascending xs cx) up xt (omega (arith, e))) in
+          subst (Contains tops) (sym same) o.1.0
+    ]
+
+-- whether a list is one of those
+pub listed_by : (lists : List (List ℕ)) (own : List ℕ) → list_any (pointwise nat_eq own) lists ≡ true → Contains lists own
+listed_by lists own e = Contains-list_any (pointwise nat_eq) (λ x y g. (decide_same x y).0 g) lists own e
+
+pub found_by : (lists : List (List ℕ)) (own : List ℕ) → Contains lists own → list_any (pointwise nat_eq own) lists ≡ true
+found_by lists own c = list_any_at (pointwise nat_eq own) lists c.0 own c.1 ((decide_same own (get_or lists c.0 own)).1 (sym c.2))
+
 -- one list further
 pub none_further : (own : List ℕ) (tops : List (List ℕ)) (k : ℕ) (t : List ℕ) → k < length tops → t ≡ get_or tops k t →
     ((length t ≡ length own → ⊥) → All (Contains t) own → ⊥) → ((s : List ℕ) → Contains (take k tops) s → (length s ≡ length own → ⊥) → All (Contains s) own →
@@ -75,16 +101,23 @@ none_further own tops k t h e n f s c = elim (Contains-last (take k tops) t s
 -- ---- the numbers of the rays of cones
 
 pub tops_more : (cones : List RowsAndRays) (rays : List (List ℤ)) (i : ℕ) (c : RowsAndRays) (t : List ℕ) (out new : List (List ℕ)) → i < length cones →
-    c ≡ get_or cones i c → new ≡ out ++ t ∷ [] → IsTop rays c t → AreTopsBefore cones rays i out → AreTopsBefore cones rays (i + 1) new
-tops_more cones rays i c t out new h e en top s = subst (AreTopsBefore cones rays (i + 1)) (sym en) (record {
-  each = λ x k. elim (Contains-last out t x k) [ inl d ↦ s.each x d | inr q ↦ (c, ((i, h, sym e), subst (IsTop rays c) (sym q) top)) ];
-  every = λ j d hj there. elim (cases_eq j i) [
-    | inr n ↦ let w = s.every j d (omega (arith, hj, n)) there in (w.0, (first_in out t w.0 w.1.0, w.1.1))
-    | inl q ↦
-        let same : Some d ≡ Some c = sym there ∙ ap (slice_get cones) q ∙ at_get cones i c h e in
-        (t, (Contains-push out t, subst (λ (z : RowsAndRays). IsTop rays z t) (sym (same_Some d c same)) top))
-  ];
-})
+    c ≡ get_or cones i c → new ≡ insert_key (pointwise nat_eq) out t → IsTop rays c t → AreTopsBefore cones rays i out → AreTopsBefore cones rays (i + 1) new
+tops_more cones rays i c t out new h e en top s =
+    let b : Bool = list_any (pointwise nat_eq t) out in
+    subst (AreTopsBefore cones rays (i + 1)) (sym en) (record {
+      each = λ x k. elim (cases_by b out t x k) [ inl d ↦ s.each x d | inr q ↦ (c, ((i, h, sym e), subst (IsTop rays c) (sym q) top)) ];
+      every = λ j d hj there. elim (cases_eq j i) [
+        | inr n ↦ let w = s.every j d (omega (arith, hj, n)) there in (w.0, (kept_by b out t w.0 w.1.0, w.1.1))
+        | inl q ↦
+            let same : Some d ≡ Some c = sym there ∙ ap (slice_get cones) q ∙ at_get cones i c h e in (
+              t,
+              (
+                Contains-insert_key (pointwise nat_eq) (λ x y g. (decide_same x y).0 g) out t,
+                subst (λ (z : RowsAndRays). IsTop rays z t) (sym (same_Some d c same)) top,
+              ),
+            )
+      ];
+    })
 
 -- ---- of a fan
 

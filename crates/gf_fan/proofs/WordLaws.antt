@@ -10,7 +10,7 @@ use Rattle.std.proofs.lemmas.List.Elements.{All-contains, All-push, All-take, Al
 use Rattle.gf_int_theory.proofs.ListLaws.{all_by, Contains-last}
 use Rattle.gf_vec.specs.Vector.{dot}
 use Rattle.gf_gordan.specs.Alternative.{AreRows}
-use Rattle.gf_duality_theory.proofs.ListLaws.{first_in}
+use Rattle.gf_duality_theory.proofs.ListLaws.{first_in, none_in}
 use Rattle.gf_fans_theory.specs.FaceLists.{numbered}
 use Rattle.gf_fans_theory.specs.Separating.{IsNowherePositive}
 use Rattle.gf_fans_theory.proofs.PartNumbers.{of_map, in_map}
@@ -188,6 +188,20 @@ told_further known left right left2 right2 xs ys b x y hx hy el er ex ey t f k h
       (subst (λ z. IsToldAt known left right z y b) (ex ∙ get_or_default xs b x 0 hx) c))
   | inr n ↦ f k (omega (arith, h, n))
 ]
+
+-- no row
+pub no_places : (known : List (List RowBits)) (places own : List ℕ) → AreLowPlaces known places own []
+no_places known places own = all_by (λ p. Contains places p × ((d : List RowBits) → IsLowInWords (get_or known p d) own)) [] (λ p k. absurd (none_in p k))
+
+-- of the same lists
+pub told_as : {left left2 right right2 xs xs2 ys ys2 : List ℕ} (known : List (List RowBits)) → left ≡ left2 → right ≡ right2 → xs ≡ xs2 → ys ≡ ys2 →
+    ((b : ℕ) → b < length xs → IsToldAt known left right (get_or xs b 0) (get_or ys b 0) b) → (b : ℕ) → b < length xs2 →
+    IsToldAt known left2 right2 (get_or xs2 b 0) (get_or ys2 b 0) b
+told_as {left} {left2} {right} {right2} {xs} {xs2} {ys} {ys2} known a e f g t b h =
+    subst (λ (z : List ℕ). IsToldAt known z right2 (get_or xs2 b 0) (get_or ys2 b 0) b) a
+    (subst (λ (z : List ℕ). IsToldAt known left z (get_or xs2 b 0) (get_or ys2 b 0) b) e
+    (subst (λ (z : List ℕ). IsToldAt known left right (get_or xs2 b 0) (get_or z b 0) b) g
+    (subst (λ (z : List ℕ). IsToldAt known left right (get_or z b 0) (get_or ys b 0) b) f (t b (subst (λ (z : List ℕ). b < length z) (sym f) h)))))
 
 pub low_as : {places places2 own own2 : List ℕ} (known : List (List RowBits)) (out : List ℕ) → places ≡ places2 → own ≡ own2 →
     AreLowPlaces known places own out → AreLowPlaces known places2 own2 out

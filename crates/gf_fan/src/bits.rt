@@ -209,12 +209,16 @@ fn with_cut(cut: u128, row: RowBits, own: u128) -> u128
     cut
 }
 
-/// The bits where one of the rows isn't zero that are positive at none of the bits of `own`.
-fn cut_by(rows: &[RowBits], own: u128) -> u128
+/// Bits where one of the rows isn't zero that are positive at none of the bits of `own`; no further row is looked at once they have all
+/// of `wanted`.
+fn cut_by(rows: &[RowBits], own: u128, wanted: u128) -> u128
     ensures { (i : ℕ) → bit_at result i ≡ 1 → IsExcludedBy rows.now own i }
 {
     let mut cut = 0;
     for row in rows {
+        if is_word_below(wanted, cut) {
+            return cut;
+        }
         cut = with_cut(cut, *row, own);
     }
     cut
@@ -231,6 +235,8 @@ pub(crate) fn is_word_below(x: u128, y: u128) -> bool
 pub(crate) fn are_told_by_bits(s: &ConeBits, t: &ConeBits) -> bool
     ensures { IsTrue result → AreToldByBits s.now t.now }
 {
-    let cut = cut_by(s.rows.as_slice(), t.own) | cut_by(t.rows.as_slice(), s.own);
-    is_word_below(s.own ^ t.own, cut)
+    let differing = s.own ^ t.own;
+    let first = cut_by(s.rows.as_slice(), t.own, differing);
+    let second = cut_by(t.rows.as_slice(), s.own, differing & !first);
+    is_word_below(differing, first | second)
 }

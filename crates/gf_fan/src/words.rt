@@ -304,7 +304,30 @@ fn is_told_at(
     is_word_below(differing, cut)
 }
 
-/// Whether rows of two cones are told to keep them apart, but for the rays that they share.
+/// Whether each bit of the words of two cones is one of both or of none, or one of the rows at these places is told not to be zero there.
+fn are_told_at(
+    known: &[RowWords],
+    left: &[usize],
+    right: &[usize],
+    own: &[u128],
+    others: &[u128],
+) -> bool
+    requires left { All (λ p. p < length known.now) left.now }
+    requires right { All (λ p. p < length known.now) right.now }
+    requires long { length others.now ≡ length own.now }
+    requires wide { (p : ℕ) (d : List RowBits) → p < length known.now → length (slice_index_or known.now p d) ≡ length own.now }
+    ensures { IsTrue result → (b : ℕ) → b < length own.now → IsToldAt known.now left.now right.now (slice_index_or own.now b 0)
+        (slice_index_or others.now b 0) b }
+{
+    for b in 0..own.len() {
+        if !is_told_at(known, left, right, own[b], others[b], b) {
+            return false;
+        }
+    }
+    true
+}
+
+/// Whether rows of two cones are told to keep them apart, but for the rays that they share: those of the first one alone, or those of both.
 pub(crate) fn are_told_by_words(
     alloc: Global,
     known: &[RowWords],
@@ -318,18 +341,21 @@ pub(crate) fn are_told_by_words(
     ensures { IfOk result (λ yes. IsTrue yes → AreToldByWords known.now s.now t.now) }
 {
     let left = low_places(alloc, known, s.rows.as_slice(), t.own.as_slice())?;
-    let right = low_places(alloc, known, t.rows.as_slice(), s.own.as_slice())?;
-    for b in 0..s.own.len() {
-        if !is_told_at(
-            known,
-            left.as_slice(),
-            right.as_slice(),
-            s.own[b],
-            t.own[b],
-            b,
-        ) {
-            return Ok(false);
-        }
+    if are_told_at(
+        known,
+        left.as_slice(),
+        &[],
+        s.own.as_slice(),
+        t.own.as_slice(),
+    ) {
+        return Ok(true);
     }
-    Ok(true)
+    let right = low_places(alloc, known, t.rows.as_slice(), s.own.as_slice())?;
+    Ok(are_told_at(
+        known,
+        left.as_slice(),
+        right.as_slice(),
+        s.own.as_slice(),
+        t.own.as_slice(),
+    ))
 }

@@ -5,10 +5,10 @@ use Rattle.gf_fan.proofs.BitLaws.{differing}
 use Rattle.gf_fan.proofs.bits.are_told_by_bits.Goals as goal
 
 pub returns : goal.returns
-returns c = λ t i. elim (differing c.args.s.now.own c.args.t.now.own c.cut_by.result c.cut_by-2.result i (c.is_word_below.ensures t i)) [
+returns c = λ t i. elim (differing c.args.s.now.own c.args.t.now.own c.cut_by-first.result c.cut_by-second.result i (c.is_word_below.ensures t i)) [
   | inl e ↦ inl e
   | inr w ↦ elim w [
-    | inl x ↦ inr (inl (subst (λ (l : List RowBits). IsExcludedBy l c.args.t.now.own i) c.as_slice.ensures.value (c.cut_by.ensures i x)))
-    | inr x ↦ inr (inr (subst (λ (l : List RowBits). IsExcludedBy l c.args.s.now.own i) c.as_slice-2.ensures.value (c.cut_by-2.ensures i x)))
+    | inl x ↦ inr (inl (subst (λ (l : List RowBits). IsExcludedBy l c.args.t.now.own i) c.as_slice.ensures.value (c.cut_by-first.ensures i x)))
+    | inr x ↦ inr (inr (subst (λ (l : List RowBits). IsExcludedBy l c.args.s.now.own i) c.as_slice-2.ensures.value (c.cut_by-second.ensures i x)))
   ]
 ]

@@ -9,7 +9,7 @@ numbers-requires c = rays_there c.args.cones.now c.args.numbering.now c.rays.res
     c.c-item.is c.rays.ensures.value
 
 pub loop-c-preserved : goal.loop-c-preserved
-loop-c-preserved c = tops_more c.args.cones.now c.args.numbering.now c.loop-c.c-index c.c-item.result c.from_vec.result c.loop-c.out.items _ c.loop-c-test.true
-    c.c-item.is c.in_ok-push.ensures.items
+loop-c-preserved c = tops_more c.args.cones.now c.args.numbering.now c.loop-c.c-index c.c-item.result c.from_vec.result c.loop-c.out.keys _ c.loop-c-test.true
+    c.c-item.is c.in_ok-insert.ensures.keys
     (subst (IsTop c.args.numbering.now c.c-item.result) (sym c.from_vec.ensures) (c.in_ok-numbers.ensures.0, c.in_ok-numbers.ensures.1 ∙ c.rays.ensures.value))
     c.loop-c.invariant
