@@ -1,6 +1,6 @@
 -- The saturation of an ideal that pure difference binomials generate isn't refused for coefficients; nor is the question whether such an initial
 -- ideal has a monomial.
--- To cite: way_on, saturation_narrow, cone_narrow. The rest are steps.
+-- To cite: step_inside, way_on, saturation_narrow, cone_narrow. The rest are steps.
 use Rattle.std.specs.Prelude.{◌≡◌, ℕ, zero, suc, ◌+◌, ◌<◌, ◌≤◌, Bool, true, false, List, [], ◌∷◌, ◌++◌, Contains, map, length, replicate}
 use Rattle.std.specs.Prelude.{if◌then◌else◌, Some, ℤ}
 use Rattle.std.proofs.Common.{arith, refl, sym, ap, ◌∙◌, subst, inl, inr}
@@ -99,7 +99,7 @@ extended_each u [] h = (relation_binomial u, tt)
 extended_each u (f ∷ fs) h = (widened_binomial f h.0, extended_each u fs h.1)
 
 module _ (n k : ℕ) (fs : List Terms) (l : k < n) (i : AreInside n fs) where
-  step_inside : AreInside (n + 1) (step_list n k fs)
+  pub step_inside : AreInside (n + 1) (step_list n k fs)
   step_inside = record {
     variables = subst (λ (m : ℕ). AreInVariables m (step_list n k fs)) more
         (extended_variables n u fs (step_list n k fs) (in_ring_of n u (length-variable n k l)) i.variables (extended n u fs (length-variable n k l)));
@@ -141,9 +141,9 @@ run_narrow o n fs budget x two r = r.1 (run_fits fs (below_of o) x.op x.left x.r
 pub saturation_narrow : (n : ℕ) (fs : List Terms) (budget : ℕ) (x : Overflow) → AreInVariables n fs → AreBinomials fs →
     IsSaturateRefusal n fs budget (basis_errors.Overflow x) → ⊥
 saturation_narrow n fs budget x v two (IsSaturateRefusal.at_step k hs l w r) =
-    run_narrow (step_order n) (n + 1) (step_list n k hs) budget x (step_inside n k hs l (way_on n fs k hs (omega arith) v two w)).binomials r
+    run_narrow (step_order n) (n + 1) (step_list n k hs) budget x (step_inside n k hs l (way_on n fs k hs (omega arith) v two w)).binomials r.0
 saturation_narrow n fs budget x v two (IsSaturateRefusal.at_end hs w r) =
-    run_narrow MonomialOrder.deglex n hs budget x (way_on n fs n hs (omega arith) v two w).binomials r
+    run_narrow MonomialOrder.deglex n hs budget x (way_on n fs n hs (omega arith) v two w).binomials r.0
 saturation_narrow n fs budget x v two (IsSaturateRefusal.no_memory m) = cc
 
 -- ---- initial ideals at the faces of a cone

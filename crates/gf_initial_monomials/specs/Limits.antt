@@ -25,8 +25,8 @@ IsMemoryWanted (Entry i x) = ⊥
 IsMemoryWanted (Saturation r) = IsWantOfMemory r
 IsMemoryWanted Memory = Unit {0}
 
--- no partial sum of the rays of the face leaves the range, no entry of their sum is greater than 2^63 in absolute value, and no run of the
--- saturation of the initial forms at this sum leaves its limits
+-- no partial sum of the rays of the face leaves the range, no entry of their sum is greater than 2^63 in absolute value, and in the saturation of the initial
+-- forms at this sum the runs by the rule of the program stay within their limits
 pub record IsFaceWithinLimits (bs : List MarkedPolynomial) (c : RowsAndRays) (pairs : ℕ) (f : Face) : Type 0 where
   pub sums : NoneWide (adding_steps (zeros c.ambient) (numbered c.rays f.rays))
   pub entries : AreBounded (vector_of c f)

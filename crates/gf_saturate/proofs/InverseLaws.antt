@@ -7,7 +7,7 @@ use Rattle.std.proofs.lemmas.List.{take_more, take_all}
 use Rattle.std.proofs.lemmas.List.Elements.{Contains-append_left}
 use Rattle.gf_int_theory.proofs.ListLaws.{Contains-last}
 use Rattle.gf_frac.specs.Fraction.{one_ℚ}
-use Rattle.gf_exponents_theory.specs.Exponents.{Exponents, entry}
+use Rattle.gf_exponents_theory.specs.Exponents.{entry}
 use Rattle.gf_poly.specs.declared.Term.{Term}
 use Rattle.gf_poly.specs.Polynomial.{Terms, HasVariables, coefficient, times}
 use Rattle.gf_poly.specs.Marking.{MarkedPolynomial, MarkedPolynomials, Each}
@@ -23,12 +23,12 @@ use Rattle.gf_saturation_theory.specs.Saturations.{product_power, IsSaturatedBy,
 use Rattle.gf_saturation_theory.proofs.SubstitutionLaws.{entry-product_power, ring-product_power}
 use Rattle.gf_saturation_theory.proofs.SaturationLaws.{saturated_of_extended, saturated_product}
 use Rattle.gf_quotients_theory.proofs.LawsHold.{saturations_may_be_divided, saturations_are_ideals}
-use Rattle.gf_saturate.specs.Widening.{narrowed_term, widened_term, extended_list, variable_at}
+use Rattle.gf_saturate.specs.Widening.{narrowed_term, widened_term, variable_at}
 use Rattle.gf_saturate.specs.Graded.{IsWeightedBasis}
 use Rattle.gf_saturate.specs.Proposals.{IsStart}
 use Rattle.gf_saturate.specs.Saturating.{IsSaturation, step_list}
 use Rattle.gf_saturate.proofs.WideningLaws.{length-variable, same-widened, variables-narrowed, narrowed-back}
-use Rattle.gf_saturate.proofs.StepLaws.{extended, extended-ring}
+use Rattle.gf_saturate.proofs.StepLaws.{extended}
 use Rattle.gf_saturate.proofs.ChoiceLaws.{more_enough}
 
 -- ---- without the last variable

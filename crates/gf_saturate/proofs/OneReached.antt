@@ -1,6 +1,6 @@
 -- A saturation that 1 is in has all polynomials. To cite: one_descends, one_kept, one_listed, one_generates.
 use Rattle.std.specs.Prelude.{replicate}
-use Rattle.std.proofs.Common.{◌≡◌, ◌⊎◌, ℕ, ◌≤◌, Bool, true, if◌then◌else◌, List, [], ◌∷◌, ◌++◌, Contains, arith, refl, sym, ap, subst, ◌∙◌, inl, inr}
+use Rattle.std.proofs.Common.{◌≡◌, ◌⊎◌, ℕ, Bool, true, if◌then◌else◌, List, [], ◌∷◌, ◌++◌, Contains, arith, refl, sym, ap, subst, ◌∙◌, inl, inr}
 use Rattle.std.proofs.lemmas.List.{length-replicate}
 use Rattle.gf_int_theory.proofs.ListLaws.{Contains-here}
 use Rattle.gf_frac.specs.Fraction.{Fraction, ◌+ℚ◌, zero_ℚ, one_ℚ}
@@ -9,7 +9,7 @@ use Rattle.gf_exponents_theory.specs.Exponents.{Exponents, same, plus}
 use Rattle.gf_exponents_theory.proofs.ExponentsLaws.{plus-nil, same_by_entries, same_along, same-sym}
 use Rattle.gf_poly.specs.Polynomial.{Terms, HasVariables, IsDescending, coefficient, SamePolynomial, times}
 use Rattle.gf_poly.proofs.MonomialLaws.{entry-ones}
-use Rattle.gf_ideal_theory.specs.Membership.{IsInVariables, IsMember, Spans}
+use Rattle.gf_ideal_theory.specs.Membership.{IsMember, Spans}
 use Rattle.gf_ideal_theory.proofs.Identities.{one_not_zero}
 use Rattle.gf_ideal_theory.proofs.ListLaws.{Contains-cases}
 use Rattle.gf_ideal_theory.proofs.SpanLaws.{Spans-zero, Spans-equal, Spans-generator, Spans-++, Spans-times}

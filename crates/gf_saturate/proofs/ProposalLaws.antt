@@ -12,7 +12,7 @@ use Rattle.gf_poly.specs.declared.Term.{Term}
 use Rattle.gf_poly.specs.Polynomial.{Terms, HasVariables, coefficient, SamePolynomial, KeepsVariables, times}
 use Rattle.gf_poly.proofs.MonomialLaws.{length-plus}
 use Rattle.gf_poly.proofs.PolynomialLaws.{times-plain}
-use Rattle.gf_ideal_theory.specs.Membership.{IsInVariables, AreInVariables, IsMember}
+use Rattle.gf_ideal_theory.specs.Membership.{IsInVariables, AreInVariables}
 use Rattle.gf_ideal_theory.proofs.ListLaws.{Contains-cases}
 use Rattle.gf_ideal_theory.proofs.RingLaws.{in_ring_of}
 use Rattle.gf_ideal_theory.proofs.MembershipLaws.{member-equal, member-times, member-generator, member-trans}

@@ -1,5 +1,6 @@
 -- The sets on the way, and what stands at the end.
--- To cite: given_stage, reduced_stage, left_stage, way_next, saturation_of, if_memory. The rest are steps.
+-- To cite: step_generates, by_no_power, given_stage, reduced_stage, left_stage, way_next, saturation_of, ring_on_the_way, way_ring, if_memory.
+-- The rest are steps.
 use Rattle.std.specs.Prelude.{IfErr, IfSome, Option, None, Some}
 use Rattle.std.proofs.Common.{◌≡◌, ◌⊎◌, ◌↔◌, ℕ, zero, suc, ◌+◌, ◌<◌, ◌≤◌, true, List, [], Contains, length, arith, refl, sym, ap, subst, inl, inr, Result, Ok}
 use Rattle.std.proofs.Common.{Err}
@@ -20,7 +21,6 @@ use Rattle.gf_ideal_theory.proofs.RingLaws.{in_ring_of}
 use Rattle.gf_buchberger.specs.Jobs.{HaveRingVariables}
 use Rattle.gf_buchberger.specs.declared.bases.BasisError.{BasisError}
 use Rattle.gf_buchberger.specs.Bases.{IsArrangedBasis, IsWantOfMemory}
-use Rattle.gf_buchberger.proofs.BasesOfRuns.{if_within}
 use Rattle.gf_buchberger.proofs.JobLaws.{ring_variables}
 use Rattle.gf_saturation_theory.specs.Saturations.{product_power, next_variable, IsSaturatedBy, AreLeftOver}
 use Rattle.gf_saturation_theory.proofs.SaturationLaws.{extended_variables, saturated_same, saturated_product}
@@ -54,7 +54,7 @@ step_left : (n k : ℕ) (fs : List Terms) (s : MarkedPolynomials) → IsArranged
     AreLeftOver n s.items (left_over n s.items)
 step_left n k fs s b = left_over-are n s.items s.items (to_eliminate n (step_list n k fs) s b) (λ c m. m)
 
-step_generates : (n k : ℕ) (fs : List Terms) (s : MarkedPolynomials) → k < n → HaveRingVariables n fs →
+pub step_generates : (n k : ℕ) (fs : List Terms) (s : MarkedPolynomials) → k < n → HaveRingVariables n fs →
     IsArrangedBasis (step_order n) (n + 1) (step_list n k fs) s → (f : Terms) → IsMember n (left_over n s.items) f ↔ IsSaturatedBy n fs (next_variable k) f
 step_generates n k fs s l v b f = (
   λ m. saturated_same n u (next_variable k) fs f (variable-same n k l) (one.0 m),
@@ -152,7 +152,7 @@ at_first n fs hs v (inr h) = subst (StandsFor n fs zero) (sym h.2) (record {
 })
 
 -- what is a member is in the saturation
-by_no_power : (n : ℕ) (u : Exponents) (gs : List Terms) (f : Terms) → IsMember n gs f → IsSaturatedBy n gs u f
+pub by_no_power : (n : ℕ) (u : Exponents) (gs : List Terms) (f : Terms) → IsMember n gs f → IsSaturatedBy n gs u f
 by_no_power n u gs f m = record { power = 0; member = member-equal n gs f (times one_ℚ [] f) (λ e. ap (λ g. coefficient g e) (sym (times-plain f))) m }
 
 at_next : (n k : ℕ) (fs gs hs : List Terms) → k < n → HaveRingVariables n fs → StandsFor n fs k gs →
@@ -233,15 +233,17 @@ saturation_of n fs hs s v w b = record {
     stands = stands_for n fs n hs (omega arith) v w
 
 -- the sets on the way are in n variables
+pub ring_on_the_way : (n : ℕ) (fs : List Terms) (k : ℕ) (hs : List Terms) → k ≤ n → HaveRingVariables n fs → IsOnTheWay n fs k hs → HaveRingVariables n hs
+ring_on_the_way n fs k hs l v w = (stands_for n fs k hs l v w).ring
+
 pub way_ring : (n : ℕ) (fs hs : List Terms) → HaveRingVariables n fs → IsOnTheWay n fs n hs → HaveRingVariables n hs
-way_ring n fs hs v w = (stands_for n fs n hs (omega arith) v w).ring
+way_ring n fs hs v w = ring_on_the_way n fs n hs (omega arith) v w
 
 -- ---- within limits
 
 memory_alone : (n budget : ℕ) (fs : List Terms) (e : BasisError) → AreStepsWithinLimits n fs budget → IsSaturateRefusal n fs budget e → IsWantOfMemory e
-memory_alone n budget fs e w (IsSaturateRefusal.at_step k hs l h r) =
-    if_within {A = MarkedPolynomials} (step_order n) (n + 1) budget (step_list n k hs) (Err e) (w.steps k hs l h) r
-memory_alone n budget fs e w (IsSaturateRefusal.at_end hs h r) = if_within {A = MarkedPolynomials} MonomialOrder.deglex n budget hs (Err e) (w.last hs h) r
+memory_alone n budget fs e w (IsSaturateRefusal.at_step k hs l h r) = r.1 (w.steps k hs l h)
+memory_alone n budget fs e w (IsSaturateRefusal.at_end hs h r) = r.1 (w.last hs h)
 memory_alone n budget fs e w (IsSaturateRefusal.no_memory m) = m
 
 pub if_memory : {A : Type 0} (n budget : ℕ) (fs : List Terms) (r : Result A BasisError) → AreStepsWithinLimits n fs budget →

@@ -1,8 +1,8 @@
 -- The lists that the code makes are those of the laws.
--- To cite: extended, extended-ring, left_over-are, left_over-ring, member-back, length-last, to_eliminate, reduced_of,
--- contains_at. The rest are steps.
+-- To cite: mapped-from, extended, extended-ring, left_over-are, left_over-ring, member-back, length-last, to_eliminate, reduced_of,
+-- contains_at, if_told. The rest are steps.
 use Rattle.std.specs.Prelude.{◌≡◌, ◌⊎◌, ℕ, zero, suc, ◌+◌, ◌<◌, ◌≤◌, ◌==◌, Bool, true, false, if◌then◌else◌, List, [], ◌∷◌, ◌++◌, map, take, length, replicate}
-use Rattle.std.specs.Prelude.{Contains, ℤ, pos, All, unsigned_abs, ◌^◌}
+use Rattle.std.specs.Prelude.{Contains, ℤ, pos, All, unsigned_abs, ◌^◌, Result, Ok, Err, IfErr}
 use Rattle.std.proofs.Common.{arith, refl, sym, ap, ◌∙◌, subst, inl, inr, append_assoc, length-append, set, get_or}
 use Rattle.std.proofs.lemmas.Bool.Decides.{nat_tests}
 use Rattle.std.proofs.lemmas.List.{take_more, take_more_set, take-replicate, length-replicate}
@@ -24,11 +24,13 @@ use Rattle.gf_ideal_theory.proofs.ListedTerms.{variables_by_terms}
 use Rattle.gf_ideal_theory.proofs.KeptForms.{term_there}
 use Rattle.gf_order.specs.Weights.{AreBounded}
 use Rattle.gf_buchberger.specs.Jobs.{HaveRingVariables}
-use Rattle.gf_buchberger.specs.Bases.{IsArrangedBasis, IsBasisRefusal}
+use Rattle.gf_buchberger.specs.declared.queue.Strategy.TheVariants.{Degree}
+use Rattle.gf_buchberger.specs.Ruled.{AreRuledRunsWithinLimits}
+use Rattle.gf_buchberger.specs.Bases.{IsArrangedBasis, IsBasisRefusal, IsWantOfMemory}
 use Rattle.gf_buchberger.specs.declared.bases.BasisError.{BasisError}
 use Rattle.gf_saturation_theory.specs.Saturations.{next_variable, rabinowitsch, AreExtended, AreLeftOver, last_weight}
 use Rattle.gf_saturation_theory.proofs.EliminationLaws.{free_by_head, bound_by_head}
-use Rattle.gf_saturate.specs.Saturating.{IsToEliminate, step_order}
+use Rattle.gf_saturate.specs.Saturating.{IsToldRefusal, IsToEliminate, step_order}
 use Rattle.gf_saturate.specs.Widening.{widened_term, narrowed_term, rabinowitsch_terms, extended_list, left_over}
 use Rattle.gf_saturate.proofs.WideningLaws.{same-widened, variables-widened, variables-narrowed, narrowed-back}
 
@@ -42,7 +44,7 @@ mapped-contains change (g ∷ fs) f c = at (Contains-cases g f fs c) (λ k. mapp
     at (inl e) r = subst (λ (z : Terms). Contains (change g ∷ map change fs) (change z)) e (Contains-here (change g) (map change fs))
     at (inr k) r = Contains-there (change g) (change f) (map change fs) (r k)
 
-mapped-from : (change : Terms → Terms) (fs : List Terms) (g : Terms) → Contains (map change fs) g → (f : Terms) × Contains fs f × (change f ≡ g)
+pub mapped-from : (change : Terms → Terms) (fs : List Terms) (g : Terms) → Contains (map change fs) g → (f : Terms) × Contains fs f × (change f ≡ g)
 mapped-from change [] g c = absurd (omega (arith, c.1))
 mapped-from change (h ∷ fs) g c = at (Contains-cases (change h) g (map change fs) c) (λ k. mapped-from change fs g k)
   where
@@ -262,6 +264,16 @@ arranged-as o p n gs hs s e f b = subst (λ (q : MonomialOrder). IsArrangedBasis
 
 pub refusal-as : (o p : MonomialOrder) (n k : ℕ) (gs hs : List Terms) (e : BasisError) → o ≡ p → gs ≡ hs → IsBasisRefusal o n gs k e → IsBasisRefusal p n hs k e
 refusal-as o p n k gs hs e q f b = subst (λ (r : MonomialOrder). IsBasisRefusal r n hs k e) q (subst (λ (z : List Terms). IsBasisRefusal o n z k e) f b)
+
+-- what a run tells of one order and list it tells of equal ones
+pub if_told : {A : Type 0} (o p : MonomialOrder) (n k : ℕ) (gs hs : List Terms) (r : Result A BasisError) → o ≡ p → gs ≡ hs →
+    IfErr r (IsBasisRefusal o n gs k) → (AreRuledRunsWithinLimits Degree o gs k → IfErr r IsWantOfMemory) → IfErr r (IsToldRefusal p n hs k)
+if_told o p n k gs hs (Ok a) q f h w = tt
+if_told o p n k gs hs (Err e) q f h w = (
+  refusal-as o p n k gs hs e q f h,
+  subst (λ (z : MonomialOrder). AreRuledRunsWithinLimits Degree z hs k → IsWantOfMemory e) q
+      (subst (λ (z : List Terms). AreRuledRunsWithinLimits Degree o z k → IsWantOfMemory e) f w),
+)
 
 -- ---- what a step and the last basis give
 

@@ -11,7 +11,9 @@ use Rattle.gf_ideal_theory.specs.Membership.{IsMember}
 use Rattle.gf_ideal_theory.specs.Bases.{IsReducedBasisFor, AreArranged}
 use Rattle.gf_buchberger.specs.Jobs.{HaveRingVariables}
 use Rattle.gf_buchberger.specs.declared.bases.BasisError.{BasisError}
-use Rattle.gf_buchberger.specs.Bases.{IsArrangedBasis, IsBasisRefusal, AreRunsWithinLimits, IsWantOfMemory}
+use Rattle.gf_buchberger.specs.declared.queue.Strategy.TheVariants.{Degree}
+use Rattle.gf_buchberger.specs.Ruled.{AreRuledRunsWithinLimits}
+use Rattle.gf_buchberger.specs.Bases.{IsArrangedBasis, IsBasisRefusal, IsWantOfMemory}
 use Rattle.gf_saturation_theory.specs.Saturations.{IsSaturatedBy, IsSaturated, next_variable, last_weight}
 use Rattle.gf_saturate.specs.declared.stages.Stage.{Stage}
 use Rattle.gf_saturate.specs.Widening.{extended_list, left_over, variable_at}
@@ -61,20 +63,24 @@ pub record IsStage (n : ℕ) (s : Stage) : Type 0 where
 
 -- ---- refusals
 
+-- why there is no basis of fs by the order; where the run by the rule of the program stays within its limits, for want of memory alone
+abbrev pub IsToldRefusal : MonomialOrder → ℕ → List Terms → ℕ → BasisError → Type 0
+IsToldRefusal order n fs budget e = IsBasisRefusal order n fs budget e × (AreRuledRunsWithinLimits Degree order fs budget → IsWantOfMemory e)
+
 -- why a step has no basis
 abbrev pub IsVariableStepRefusal : ℕ → ℕ → List Terms → ℕ → BasisError → Type 0
-IsVariableStepRefusal n k fs budget e = IsBasisRefusal (step_order n) (n + 1) (step_list n k fs) budget e
+IsVariableStepRefusal n k fs budget e = IsToldRefusal (step_order n) (n + 1) (step_list n k fs) budget e
 
 -- why there is no saturation: no basis of a step by a variable, none by deglex of what stands for the saturation by all, or no memory
 pub data IsSaturateRefusal (n : ℕ) (fs : List Terms) (budget : ℕ) (e : BasisError) : Type 0 where
   at_step : (k : ℕ) (hs : List Terms) → k < n → IsOnTheWay n fs k hs → IsVariableStepRefusal n k hs budget e → IsSaturateRefusal n fs budget e
-  at_end : (hs : List Terms) → IsOnTheWay n fs n hs → IsBasisRefusal MonomialOrder.deglex n hs budget e → IsSaturateRefusal n fs budget e
+  at_end : (hs : List Terms) → IsOnTheWay n fs n hs → IsToldRefusal MonomialOrder.deglex n hs budget e → IsSaturateRefusal n fs budget e
   no_memory : IsWantOfMemory e → IsSaturateRefusal n fs budget e
 
--- no run on one of these sets leaves its limits
+-- the run by the rule of the program leaves its limits on none of these sets
 pub record AreStepsWithinLimits (n : ℕ) (fs : List Terms) (budget : ℕ) : Type 0 where
-  pub steps : (k : ℕ) (hs : List Terms) → k < n → IsOnTheWay n fs k hs → AreRunsWithinLimits (step_order n) (step_list n k hs) budget
-  pub last : (hs : List Terms) → IsOnTheWay n fs n hs → AreRunsWithinLimits MonomialOrder.deglex hs budget
+  pub steps : (k : ℕ) (hs : List Terms) → k < n → IsOnTheWay n fs k hs → AreRuledRunsWithinLimits Degree (step_order n) (step_list n k hs) budget
+  pub last : (hs : List Terms) → IsOnTheWay n fs n hs → AreRuledRunsWithinLimits Degree MonomialOrder.deglex hs budget
 
 -- ---- what is left over
 

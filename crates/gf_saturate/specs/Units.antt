@@ -1,5 +1,5 @@
 -- Variables that are units modulo an ideal. Laws: proofs/UnitLaws.antt.
-use Rattle.std.specs.Prelude.{ℕ, List, [], ◌∷◌}
+use Rattle.std.specs.Prelude.{ℕ, [], ◌∷◌}
 use Rattle.gf_frac.specs.Fraction.{one_ℚ}
 use Rattle.gf_poly.specs.Polynomial.{Terms}
 use Rattle.gf_saturate.specs.Widening.{variable_at}

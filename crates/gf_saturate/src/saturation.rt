@@ -112,7 +112,8 @@ fn ungraded(alloc: Global, n: u32, set: &[Poly], pairs: u64) -> Result<MarkedSet
 ///
 /// As those of `basis` of `gf_buchberger`, each of one of the runs that take out x by inverses: `Overflow` and `Exponent` only at an operation that a run
 /// of Buchberger's algorithm on one of these sets may have, and whose operands don't fit; `PairBudget` only where a run on one
-/// of them would have to settle more pairs. The first basis by deglex, which has at most
+/// of them would have to settle more pairs. Where on each of these sets the run that takes the pair of least key, and of the members the first
+/// that divides, stays within its limits, the error is `Memory`. The first basis by deglex, which has at most
 /// 1000 pairs, is left out where it is refused.
 pub fn saturate(alloc: Global, n: u32, set: &[Poly], pairs: u64) -> Result<MarkedSet, BasisError>
     requires room { n < ROOM }

@@ -7,8 +7,8 @@ use Rattle.gf_buchberger.specs.Bases.{IsArrangedBasis}
 use Rattle.gf_poly.specs.Marking.{MarkedPolynomials}
 use Rattle.std.specs.Prelude.{IfSome, Option}
 use Rattle.gf_buchberger.proofs.JobLaws.{orders_that_suit}
-use Rattle.gf_saturate.specs.Saturating.{IsSaturation, IsSaturateRefusal}
-use Rattle.gf_saturate.proofs.StepLaws.{arranged-as, refusal-as}
+use Rattle.gf_saturate.specs.Saturating.{IsSaturation, IsSaturateRefusal, IsToldRefusal}
+use Rattle.gf_saturate.proofs.StepLaws.{arranged-as, if_told}
 use Rattle.gf_saturate.proofs.StageLaws.{way_ring, saturation_of}
 use Rattle.gf_saturate.proofs.saturation.by_degree.Goals as goal
 
@@ -31,9 +31,12 @@ returns-clause-ok c = IfOk-weaker c.basis-in-None.result _ (IsSaturation c.args.
     (arranged-as _ _ c.args.n _ _ s c.deglex.ensures c.deref.ensures.value b)) c.basis-in-None.ensures.ok
 
 pub returns-clause-err : goal.returns-clause-err
-returns-clause-err c = IfErr-weaker c.basis-in-None.result _ (IsSaturateRefusal c.args.n c.args.set.now c.args.pairs)
-    (λ e r. IsSaturateRefusal.at_end c.in-Ok.last.polys.items c.in-Ok.ensures.way
-    (refusal-as _ _ c.args.n c.args.pairs _ _ e c.deglex.ensures c.deref.ensures.value r)) c.basis-in-None.ensures.err
+returns-clause-err c =
+    let hs = c.in-Ok.last.polys.items in
+    IfErr-weaker c.basis-in-None.result (IsToldRefusal MonomialOrder.deglex c.args.n hs c.args.pairs) (IsSaturateRefusal c.args.n c.args.set.now c.args.pairs)
+    (λ e r. IsSaturateRefusal.at_end hs c.in-Ok.ensures.way r)
+    (if_told _ MonomialOrder.deglex c.args.n c.args.pairs _ hs c.basis-in-None.result c.deglex.ensures c.deref.ensures.value c.basis-in-None.ensures.err
+    c.basis-in-None.ensures.complete_by_rule)
 
 pub returns-in-Some-clause-ok : goal.returns-in-Some-clause-ok
 returns-in-Some-clause-ok c =

@@ -1,16 +1,16 @@
 use Rattle.std.proofs.Common.{◌≡◌, ◌+◌, ◌∙◌, length, sym, subst, ap}
-use Rattle.std.proofs.lemmas.Result.{IfOk-weaker, IfErr-weaker}
+use Rattle.std.proofs.lemmas.Result.{IfOk-weaker}
 use Rattle.gf_exponents_theory.specs.Exponents.{Exponents}
 use Rattle.gf_exponents_theory.specs.SixOrders.{MonomialOrder}
 use Rattle.gf_order.specs.Comparisons.{HasEntries}
 use Rattle.gf_buchberger.specs.Jobs.{HaveRingVariables, IsSuited}
 use Rattle.gf_buchberger.proofs.JobLaws.{orders_that_suit}
-use Rattle.gf_buchberger.specs.Bases.{IsArrangedBasis, IsBasisRefusal}
+use Rattle.gf_buchberger.specs.Bases.{IsArrangedBasis}
 use Rattle.gf_saturation_theory.specs.Saturations.{last_weight}
 use Rattle.gf_saturate.specs.Widening.{extended_list, variable_at}
 use Rattle.gf_saturate.specs.Saturating.{step_order, step_list}
 use Rattle.gf_saturate.proofs.WideningLaws.{length-variable}
-use Rattle.gf_saturate.proofs.StepLaws.{extended-ring, length-last, arranged-as, refusal-as}
+use Rattle.gf_saturate.proofs.StepLaws.{extended-ring, length-last, arranged-as, if_told}
 use Rattle.gf_saturate.proofs.stages.step_basis.Goals as goal
 
 pub extended-requires-clause-by : goal.extended-requires-clause-by
@@ -46,5 +46,5 @@ pub returns-clause-err : goal.returns-clause-err
 returns-clause-err c =
     let is : c.deref.result.now ≡ step_list c.args.n c.args.k c.args.set.now =
     c.deref.ensures.value ∙ c.in-Ok.ensures ∙ ap (λ (u : Exponents). extended_list u c.args.set.now) c.variable-by.ensures in
-    IfErr-weaker c.basis.result _ (IsBasisRefusal (step_order c.args.n) (c.args.n + 1) (step_list c.args.n c.args.k c.args.set.now) c.args.pairs)
-    (λ e r. refusal-as _ _ (c.args.n + 1) c.args.pairs _ _ e c.in-Ok-last_first.ensures is r) c.basis.ensures.err
+    if_told _ (step_order c.args.n) (c.args.n + 1) c.args.pairs _ (step_list c.args.n c.args.k c.args.set.now) c.basis.result c.in-Ok-last_first.ensures is
+    c.basis.ensures.err c.basis.ensures.complete_by_rule
