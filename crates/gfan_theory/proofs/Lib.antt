@@ -15,3 +15,6 @@ pub mod LinearLimits  -- searches over their bases, in at most three variables
 pub mod LinearChecks  -- the checks of marked sets of such polynomials, and their weights
 pub mod ContinuedLaws  -- their lists, after a basis
 pub mod SessionLaws  -- sessions that start at one of their bases
+pub mod CoefficientSums  -- the sum of the coefficients, on an ideal
+pub mod SaturationRuns  -- runs on linear polynomials and the inverse of a variable
+pub mod SaturationLimits  -- saturations of differences of variables

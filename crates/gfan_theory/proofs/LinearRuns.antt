@@ -1,8 +1,8 @@
 -- Runs of Buchberger's algorithm on variables and differences of variables: their members stay such, and no two have the same mark. For the S-polynomials of
 -- such a list need no new member, since its marks are coprime: the list is a Gröbner basis of the ideal that it generates.
--- To cite: same_or_not, entry_low, alone, place_of, place_there, same_places, weight_ones, homogeneous, IsOfDegree, AreLinearMembers, AreLinearMarked, plain,
--- join_low, closed-degree, shift_short, s_polynomial_degree, at_contained, step_short, tail_linear, linear_basis, few, run_short, pairs_mono, linear_runs,
--- linear_ruled_runs.
+-- To cite: same_or_not, entry_low, alone, place_of, place_there, same_places, coprime_of, none_degree, weight_ones, homogeneous, last_at, IsOfDegree,
+-- AreLinearMembers, AreLinearMarked, plain, join_low, closed-degree, shift_short, s_polynomial_degree, at_contained, step_short, tail_linear, linear_basis,
+-- more, few_members, few, run_short, pairs_mono, linear_runs, linear_ruled_runs.
 -- The rest are steps.
 use Rattle.std.proofs.Common.{
   ◌≡◌,
@@ -137,7 +137,7 @@ same_places x y i d e l m = same_by_entries x y (λ k. elim (same_or_not k i) [
   | inr n ↦ alone x i k d l n ∙ sym (alone y i k e m n)
 ])
 
-coprime_of : (x y : Exponents) → degree x ≡ 1 → degree y ≡ 1 → (same x y ≡ true → ⊥) → AreCoprime x y
+pub coprime_of : (x y : Exponents) → degree x ≡ 1 → degree y ≡ 1 → (same x y ≡ true → ⊥) → AreCoprime x y
 coprime_of x y d e o i = at (same_or_not (entry x i) 0) (same_or_not (entry y i) 0)
   where
     at : (entry x i ≡ 0) ⊎ (entry x i ≡ 0 → ⊥) → (entry y i ≡ 0) ⊎ (entry y i ≡ 0 → ⊥) → (entry x i ≡ 0) ⊎ (entry y i ≡ 0)
@@ -161,7 +161,7 @@ IsOfDegree d x = degree x ≡ d
 
 -- ---- the grade by the degree
 
-none_degree : (x : Exponents) → ((i : ℕ) → entry x i ≡ 0) → degree x ≡ 0
+pub none_degree : (x : Exponents) → ((i : ℕ) → entry x i ≡ 0) → degree x ≡ 0
 none_degree [] z = refl
 none_degree (a ∷ x) z = let p : a ≡ 0 = z 0 in let q = none_degree x (λ i. z (suc i)) in omega (arith, p, q)
 
@@ -176,7 +176,7 @@ homogeneous n f v l x y h k = (
   λ i m. v x h i m ∙ sym (v y k i m),
 )
 
-last_at : (bs : List MarkedPolynomial) (b e : MarkedPolynomial) → get_or (bs ++ b ∷ []) (length bs) e ≡ b
+pub last_at : (bs : List MarkedPolynomial) (b e : MarkedPolynomial) → get_or (bs ++ b ∷ []) (length bs) e ≡ b
 last_at [] b e = refl
 last_at (c ∷ bs) b e = last_at bs b e
 
@@ -263,6 +263,73 @@ linear_basis order n bs a m v marked = buchbergers_criterion.for_order order n (
         pairs_are_settled.by_product (Comparison.by_order order) n bs b c v marked (at_contained bs i b p) (at_contained bs j c q)
         (coprime_of b.head c.head (m.heads b (at_contained bs i b p)) (m.heads c (at_contained bs j c q)) (m.apart i j b c l p q))
 
+-- one member more
+pub more : (bs : List MarkedPolynomial) (g : Terms) (b : MarkedPolynomial) → AreLinearMembers bs → IsLinear g → IsMonicForm g b →
+    (IsDivisible (Contains bs) b.head → ⊥) → AreLinearMembers (bs ++ b ∷ [])
+more bs g b m l q new = record {
+  heads = λ c k. elim (Contains-last bs b c k) [ inl i ↦ m.heads c i | inr e ↦ ap (λ (z : MarkedPolynomial). degree z.head) e ∙ l b.head q.there ];
+  within = λ c k. elim (Contains-last bs b c k) [
+    | inl i ↦ m.within c i
+    | inr e ↦
+        subst (λ (z : MarkedPolynomial). IsLinear z.poly) (sym e) (λ x h. l x (monic-monomials g b q x h))
+  ];
+  apart = λ i j c e less p o s. at i j c e less p o s (cases_lt j (length bs));
+}
+  where
+    -- a place before the last one
+    before : (i : ℕ) (c : MarkedPolynomial) → i < length bs → IsAt (bs ++ b ∷ []) i c → IsAt bs i c
+    before i c less p = record { within = less; is = sym (get_or_append_left bs (b ∷ []) c i less) ∙ p.is }
+
+    at : (i j : ℕ) (c e : MarkedPolynomial) → i < j → IsAt (bs ++ b ∷ []) i c → IsAt (bs ++ b ∷ []) j e → same c.head e.head ≡ true → (j < length bs)
+        ⊎ (length bs ≤ j) → ⊥
+    at i j c e less p o s (inl k) = m.apart i j c e less (before i c (omega (arith, less, k)) p) (before j e k o) s
+    at i j c e less p o s (inr k) =
+        let long : length (bs ++ b ∷ []) ≡ length bs + 1 = length-append bs (b ∷ []) in
+        let inside : j < length (bs ++ b ∷ []) = o.within in
+        let end : j ≡ length bs = omega (arith, long, inside, k) in
+        let is : e ≡ b = sym o.is ∙ ap (λ (z : ℕ). get_or (bs ++ b ∷ []) z e) end ∙ last_at bs b e in
+        let first : IsAt bs i c = before i c (omega (arith, less, end)) p in
+        new (record {
+          member = c;
+          contained = at_contained bs i c first;
+          rest = [];
+          divides = same_flip c.head b.head (subst (λ (z : MarkedPolynomial). same c.head z.head ≡ true) is s);
+        })
+
+-- their marks are different variables
+pub few_members : (n : ℕ) (bs : List MarkedPolynomial) → AreLinearMembers bs → ((b : MarkedPolynomial) → Contains bs b → IsInRing n b.head) → length bs ≤ n
+few_members n bs m ring = pigeons n (length bs) (λ i. place_of (head_at i)) low apart
+  where
+    none : MarkedPolynomial
+    none = record { poly = []; head = [] }
+
+    head_at : ℕ → Exponents
+    head_at i = (get_or bs i none).head
+
+    here : (i : ℕ) → i < length bs → IsAt bs i (get_or bs i none)
+    here i l = record { within = l; is = get_or_default bs i (get_or bs i none) none l }
+
+    one : (i : ℕ) → i < length bs → degree (head_at i) ≡ 1
+    one i l = m.heads (get_or bs i none) (at_contained bs i (get_or bs i none) (here i l))
+
+    low : (i : ℕ) → i < length bs → place_of (head_at i) < n
+    low i l = at (cases_lt (place_of (head_at i)) n)
+      where
+        at : (place_of (head_at i) < n) ⊎ (n ≤ place_of (head_at i)) → place_of (head_at i) < n
+        at (inl k) = k
+        at (inr k) =
+            let z : entry (head_at i) (place_of (head_at i)) ≡ 0 =
+            ring (get_or bs i none) (at_contained bs i (get_or bs i none) (here i l)) (place_of (head_at i)) k in
+            let s = place_there (head_at i) (one i l) in
+            absurd (omega (arith, z, s))
+
+    apart : (i j : ℕ) → i < j → j < length bs → place_of (head_at i) ≡ place_of (head_at j) → ⊥
+    apart i j l k e =
+        let il : i < length bs = omega (arith, l, k) in
+        m.apart i j (get_or bs i none) (get_or bs j none) l (here i il) (here j k)
+        (same_places (head_at i) (head_at j) (place_of (head_at j)) (one i il) (one j k)
+        (subst (λ (z : ℕ). 1 ≤ entry (head_at i) z) e (place_there (head_at i) (one i il))) (place_there (head_at j) (one j k)))
+
 module _ (order : MonomialOrder) (n : ℕ) (fs : List Terms) (a : IsAdmissible order n (replicate n 1)) (d : AreLinearForms n fs) where
   -- such a list of a run is in the variables, and a Gröbner basis of the ideal that it generates
   members_variables : (bs : List MarkedPolynomial) → IsWorkList fs (below_of order) bs → AreInVariables n (polys bs)
@@ -290,39 +357,6 @@ module _ (order : MonomialOrder) (n : ℕ) (fs : List Terms) (a : IsAdmissible o
       member = member-reached n (polys bs) (Contains bs) f g (members_variables bs w) inside r
           (member-s_polynomial n (polys bs) e c f (members_variables bs w) (there e k) (there c l) (inside e k) (inside c l) s)
 
-  -- one member more
-  more : (bs : List MarkedPolynomial) (g : Terms) (b : MarkedPolynomial) → AreLinearMembers bs → IsLinear g → IsMonicForm g b →
-      (IsDivisible (Contains bs) b.head → ⊥) → AreLinearMembers (bs ++ b ∷ [])
-  more bs g b m l q new = record {
-    heads = λ c k. elim (Contains-last bs b c k) [ inl i ↦ m.heads c i | inr e ↦ ap (λ (z : MarkedPolynomial). degree z.head) e ∙ l b.head q.there ];
-    within = λ c k. elim (Contains-last bs b c k) [
-      | inl i ↦ m.within c i
-      | inr e ↦
-          subst (λ (z : MarkedPolynomial). IsLinear z.poly) (sym e) (λ x h. l x (monic-monomials g b q x h))
-    ];
-    apart = λ i j c e less p o s. at i j c e less p o s (cases_lt j (length bs));
-  }
-    where
-      -- a place before the last one
-      before : (i : ℕ) (c : MarkedPolynomial) → i < length bs → IsAt (bs ++ b ∷ []) i c → IsAt bs i c
-      before i c less p = record { within = less; is = sym (get_or_append_left bs (b ∷ []) c i less) ∙ p.is }
-
-      at : (i j : ℕ) (c e : MarkedPolynomial) → i < j → IsAt (bs ++ b ∷ []) i c → IsAt (bs ++ b ∷ []) j e → same c.head e.head ≡ true → (j < length bs)
-          ⊎ (length bs ≤ j) → ⊥
-      at i j c e less p o s (inl k) = m.apart i j c e less (before i c (omega (arith, less, k)) p) (before j e k o) s
-      at i j c e less p o s (inr k) =
-          let long : length (bs ++ b ∷ []) ≡ length bs + 1 = length-append bs (b ∷ []) in
-          let inside : j < length (bs ++ b ∷ []) = o.within in
-          let end : j ≡ length bs = omega (arith, long, inside, k) in
-          let is : e ≡ b = sym o.is ∙ ap (λ (z : ℕ). get_or (bs ++ b ∷ []) z e) end ∙ last_at bs b e in
-          let first : IsAt bs i c = before i c (omega (arith, less, end)) p in
-          new (record {
-            member = c;
-            contained = at_contained bs i c first;
-            rest = [];
-            divides = same_flip c.head b.head (subst (λ (z : MarkedPolynomial). same c.head z.head ≡ true) is s);
-          })
-
   work_linear : (bs : List MarkedPolynomial) → IsWorkList fs (below_of order) bs → AreLinearMembers bs
   work_linear bs IsWorkList.start = record {
     heads = λ b c. absurd (omega (arith, c.1));
@@ -338,43 +372,9 @@ module _ (order : MonomialOrder) (n : ℕ) (fs : List Terms) (a : IsAdmissible o
   -- ---- there are few members
 
   pub few : (bs : List MarkedPolynomial) → IsWorkList fs (below_of order) bs → length bs ≤ n
-  few bs w = pigeons n (length bs) (λ i. place_of (head_at i)) low apart
-    where
-      m : AreLinearMembers bs
-      m = work_linear bs w
-
-      none : MarkedPolynomial
-      none = record { poly = []; head = [] }
-
-      head_at : ℕ → Exponents
-      head_at i = (get_or bs i none).head
-
-      here : (i : ℕ) → i < length bs → IsAt bs i (get_or bs i none)
-      here i l = record { within = l; is = get_or_default bs i (get_or bs i none) none l }
-
-      one : (i : ℕ) → i < length bs → degree (head_at i) ≡ 1
-      one i l = m.heads (get_or bs i none) (at_contained bs i (get_or bs i none) (here i l))
-
-      low : (i : ℕ) → i < length bs → place_of (head_at i) < n
-      low i l = at (cases_lt (place_of (head_at i)) n)
-        where
-          at : (place_of (head_at i) < n) ⊎ (n ≤ place_of (head_at i)) → place_of (head_at i) < n
-          at (inl k) = k
-          at (inr k) =
-              let c = at_contained bs i (get_or bs i none) (here i l) in
-              let z : entry (head_at i) (place_of (head_at i)) ≡ 0 =
-              variables_of_member n fs (get_or bs i none).poly d.variables (work-members n fs (below_of order) bs d.variables w (get_or bs i none) c)
-              (head_at i) (mark-there (below_of order) (get_or bs i none) (work-marked fs (below_of order) bs w (get_or bs i none) c)) (place_of (head_at i))
-              k in
-              let s = place_there (head_at i) (one i l) in
-              absurd (omega (arith, z, s))
-
-      apart : (i j : ℕ) → i < j → j < length bs → place_of (head_at i) ≡ place_of (head_at j) → ⊥
-      apart i j l k e =
-          let il : i < length bs = omega (arith, l, k) in
-          m.apart i j (get_or bs i none) (get_or bs j none) l (here i il) (here j k)
-          (same_places (head_at i) (head_at j) (place_of (head_at j)) (one i il) (one j k)
-          (subst (λ (z : ℕ). 1 ≤ entry (head_at i) z) e (place_there (head_at i) (one i il))) (place_there (head_at j) (one j k)))
+  few bs w = few_members n bs (work_linear bs w)
+      (λ b c. variables_of_member n fs b.poly d.variables (work-members n fs (below_of order) bs d.variables w b c) b.head
+      (mark-there (below_of order) b (work-marked fs (below_of order) bs w b c)))
 
   -- ---- sums of exponents
 

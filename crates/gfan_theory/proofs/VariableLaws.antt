@@ -1,5 +1,5 @@
 -- The normals of the bases of the ideal that the difference of two variables generates.
--- To cite: is_monomial, plain_of_variables, short_of_variables, in_variables, gives, vectors_equal, normals_differ. The rest are steps.
+-- To cite: is_monomial, either, plain_of_variables, short_of_variables, in_variables, gives, vectors_equal, normals_differ. The rest are steps.
 use Rattle.std.proofs.Common.{
   ◌≡◌,
   ◌⊎◌,
@@ -95,7 +95,7 @@ small_entry i x v k = at (same_place k i)
 
 module _ (n : ℕ) (f : Terms) (d : IsDifferenceOfVariables n f) where
   -- a monomial of it is one of the two variables
-  either : (x : Exponents) → HasMonomial f x → (same x d.left ≡ true) ⊎ (same x d.right ≡ true)
+  pub either : (x : Exponents) → HasMonomial f x → (same x d.left ≡ true) ⊎ (same x d.right ≡ true)
   either x h = elim (one_of_two (Some d.left) (Some d.right) f x d.binomial h) [
     | inl k ↦ inl (is_monomial d.left x k.there)
     | inr k ↦

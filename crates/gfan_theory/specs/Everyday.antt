@@ -1,9 +1,11 @@
--- Everyday inputs that meet the premises of completeness of `_bases --within` and `_bases --certificates`. Laws: proofs/VariableLaws.antt,
--- proofs/EverydayLaws.antt.
-use Rattle.std.specs.Prelude.{◌≡◌, ℕ, ◌<◌, ◌≤◌, false, List, [], ◌∷◌, length, None, Some, ℤ}
+-- Everyday inputs that meet the premises of completeness of `_bases --within`, `_bases --certificates` and `_saturation`. Laws: proofs/VariableLaws.antt,
+-- proofs/EverydayLaws.antt, proofs/SaturationLimits.antt.
+use Rattle.std.specs.Prelude.{◌≡◌, ℕ, ◌+◌, ◌<◌, ◌≤◌, false, List, [], ◌∷◌, length, None, Some, Contains, ℤ}
 use Rattle.gf_exponents_theory.specs.Exponents.{Exponents, entry}
 use Rattle.gf_poly.specs.Polynomial.{Terms}
 use Rattle.gf_buchberger.specs.Jobs.{HaveRingVariables}
+use Rattle.gf_buchberger.specs.Pairs.{pairs_below}
+use Rattle.gf_saturate.specs.Saturating.{AreStepsWithinLimits}
 use Rattle.gf_facets_theory.specs.Regions.{IsInRegion}
 use Rattle.gf_binomials_theory.specs.Binomials.{IsBinomialOf}
 use Rattle.gf_binomial_calls_theory.specs.Limits.{IsPlainGenerator, HasExponentsUpTo}
@@ -46,3 +48,14 @@ pub record CertificatesOfVariablesStayWithinLimits : Type 0 where
   pub regions : (o : ListOptions) (n : ℕ) (rows : List (List ℤ)) (v : List ℤ) (f : Terms) → o.limit ≡ None → n ≤ 3 → length rows ≤ 1 →
       AreDifferenceRows n rows →
       IsInRegion n (record { rows = rows; root = v }) v → HaveRingVariables n (f ∷ []) → IsDifferenceOfVariables n f → IsWithinRegion o n rows (f ∷ [])
+
+-- each of the polynomials is such a difference, as a-b, b-c
+abbrev pub AreDifferencesOfVariables : ℕ → List Terms → Type 0
+AreDifferencesOfVariables n fs = (f : Terms) → Contains fs f → IsDifferenceOfVariables n f
+
+-- Of differences of variables, in any number of variables, the run by the rule of the program stays within its limits on each set that a saturation by the
+-- product of the variables may come to: on those with the inverse of a variable, and on the last one. The budget is that of a list with one member more than
+-- there are variables.
+abbrev pub SaturationsOfVariablesStayWithinLimits : Type 0
+SaturationsOfVariablesStayWithinLimits = (n : ℕ) (fs : List Terms) (budget : ℕ) → HaveRingVariables n fs → AreDifferencesOfVariables n fs →
+    pairs_below (n + 1) ≤ budget → AreStepsWithinLimits n fs budget

@@ -14,6 +14,7 @@ ghost use Rattle.gfan_theory.specs.Linear.{LinearRunsStayWithinLimits, LinearRul
 ghost use Rattle.gfan_theory.specs.Linear.{LinearIdealsStayWithinLimits, LinearWeightsStayWithinLimits, LinearSessionsStayWithinLimits};
 ghost use Rattle.gfan_theory.specs.Continued.{ContinuationsStayWithinLimits};
 ghost use Rattle.gfan_theory.specs.Everyday.{RegionsOfBinomialsStayWithinLimits, CertificatesOfVariablesStayWithinLimits};
+ghost use Rattle.gfan_theory.specs.Everyday.{SaturationsOfVariablesStayWithinLimits};
 
 /// Each answer of `_bases` is the text of the list of all bases of an ideal in a region, or of the part of that list that follows a basis: the ideal
 /// and the ring are those of the input, the region is that of the file of `--within`, and the basis is that of the file of `--after`.
@@ -98,4 +99,10 @@ pub fn continuations_stay_within_limits()
 /// reduced Gröbner basis for its marking.
 pub fn linear_sessions_stay_within_limits()
     ensures { LinearSessionsStayWithinLimits }
+{}
+
+/// The premise of completeness of `_saturation` is met by differences of variables, as `a-b, b-c`, in any number of variables. The budget of pairs is at least
+/// that of a list with one member more than there are variables.
+pub fn saturations_of_variables_stay_within_limits()
+    ensures { SaturationsOfVariablesStayWithinLimits }
 {}
