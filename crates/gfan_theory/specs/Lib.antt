@@ -7,3 +7,4 @@ pub mod Differences  -- rows that compare two entries of a vector
 pub mod Everyday  -- everyday inputs that meet the premise of completeness
 pub mod Linear  -- ideals that differences of variables generate
 pub mod Continued  -- their lists, after a basis
+pub mod SmallSets  -- polynomials with small exponents in few variables

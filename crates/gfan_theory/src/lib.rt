@@ -13,6 +13,7 @@ ghost use Rattle.gfan_theory.specs.Differences.{RegionsOfDifferencesFit, Certifi
 ghost use Rattle.gfan_theory.specs.Linear.{LinearRunsStayWithinLimits, LinearRuledRunsStayWithinLimits};
 ghost use Rattle.gfan_theory.specs.Linear.{LinearIdealsStayWithinLimits, LinearWeightsStayWithinLimits, LinearSessionsStayWithinLimits};
 ghost use Rattle.gfan_theory.specs.Continued.{ContinuationsStayWithinLimits};
+ghost use Rattle.gfan_theory.specs.SmallSets.{StatisticsOfSmallSetsFit, SpacesOfSmallSetsFit};
 ghost use Rattle.gfan_theory.specs.Everyday.{RegionsOfBinomialsStayWithinLimits, CertificatesOfVariablesStayWithinLimits};
 ghost use Rattle.gfan_theory.specs.Everyday.{SaturationsOfVariablesStayWithinLimits};
 
@@ -105,4 +106,11 @@ pub fn linear_sessions_stay_within_limits()
 /// that of a list with one member more than there are variables.
 pub fn saturations_of_variables_stay_within_limits()
     ensures { SaturationsOfVariablesStayWithinLimits }
+{}
+
+/// The premises of completeness of `_stats` and `_homogeneityspace` are met by polynomials in at most three variables in which no exponent is greater
+/// than 3.
+pub fn spaces_of_small_sets_stay_within_limits()
+    ensures statistics { StatisticsOfSmallSetsFit }
+    ensures spaces { SpacesOfSmallSetsFit }
 {}
