@@ -53,13 +53,7 @@ fn whole(alloc: Global, n: u32) -> Result<Vec<Rays>, CutError>
 }
 
 /// The cones for the fan of some polynomials, cut by one more.
-fn cut(
-    kind: Kind,
-    alloc: Global,
-    n: u32,
-    f: &Poly,
-    cones: Vec<Rays>,
-) -> Result<Vec<Rays>, CutError>
+fn cut(kind: Kind, alloc: Global, n: u32, f: &Poly, cones: Vec<Rays>) -> Result<Vec<Rays>, CutError>
     requires variables { HasVariables n f.now }
     requires not_zero { f.now ≢ [] }
     requires ambient { AreOfAmbient n cones.items }

@@ -15,8 +15,8 @@ cutting-init c = record {
 pub cutting-preserved : goal.cutting-preserved
 cutting-preserved c = record {
   ambient = c.in_ok-cones-2.ensures.ambient;
-  fan = cut_next c.args.kind c.args.n c.args.set.now c.cutting.i c.index-set-i.result (map rows_of c.cutting.cones.items) (map rows_of c.in_ok-cones-2.cones.items)
-      c.requires.not_zero c.cutting-test.true c.index-set-i.is c.in_ok-cones-2.ensures.fan c.cutting.invariant.fan;
+  fan = cut_next c.args.kind c.args.n c.args.set.now c.cutting.i c.index-set-i.result (map rows_of c.cutting.cones.items)
+      (map rows_of c.in_ok-cones-2.cones.items) c.requires.not_zero c.cutting-test.true c.index-set-i.is c.in_ok-cones-2.ensures.fan c.cutting.invariant.fan;
 }
 
 pub returns-clause-fan : goal.returns-clause-fan
