@@ -1,5 +1,6 @@
 -- Lists of numbers none of which is above that of another list, and thinned lists of places.
-use Rattle.std.proofs.Common.{◌≡◌, ℕ, ◌+◌, ◌<◌, List, [], ◌∷◌, ◌++◌, length, take, get_or, ℤ, arith, sym, refl, ap, ◌∙◌, subst, Contains, All, inl, inr}
+use Rattle.std.proofs.Common.{◌≡◌, ◌≢◌, ℕ, ◌+◌, ◌<◌, List, [], ◌∷◌, ◌++◌, length, take, get_or, ℤ, arith, sym, refl, ap, ◌∙◌, subst, Contains, All, inl}
+use Rattle.std.proofs.Common.{inr}
 use Rattle.std.specs.List.Sorted.{IsPermutation}
 use Rattle.std.proofs.lemmas.Int.{ints}
 use Rattle.std.proofs.lemmas.List.{take_more, get_or_default}
@@ -7,7 +8,7 @@ use Rattle.std.proofs.lemmas.List.Elements.{All-contains, All-push, Contains-pus
 use Rattle.std.proofs.lemmas.List.Sorted.{Contains-permutation, IsPermutation-sym}
 use Rattle.gf_int_theory.proofs.ListLaws.{Contains-last, all_by}
 use Rattle.gf_duality_theory.proofs.ListLaws.{none_in, first_in, place, less, at, more}
-use Rattle.gf_cuts.specs.Heights.{IsBelow, row_at, IsThinned}
+use Rattle.gf_cuts.specs.Heights.{IsBelow, row_at, IsThinned, ArePlacesBut}
 
 pub below_refl : (xs : List ℤ) → IsBelow xs xs
 below_refl xs = record { long = refl; up = λ k l. omega (arith, ints) }
@@ -96,3 +97,31 @@ every_more k out new n f j l = subst (λ z. Contains z j) (sym n) (elim (place k
   | at g ↦ subst (Contains (out ++ k ∷ [])) g (Contains-push out k)
   | more g ↦ absurd (omega (arith, g, l))
 ])
+
+-- ---- the places below a number but one
+
+pub but_none : (but : ℕ) → ArePlacesBut 0 but []
+but_none but = record { each = λ k c. absurd (none_in k c); every = λ k l o. absurd (omega (arith, l)) }
+
+pub but_left : (k but : ℕ) (out : List ℕ) → k ≡ but → ArePlacesBut k but out → ArePlacesBut (k + 1) but out
+but_left k but out e p = record {
+  each = λ j c. let r = p.each j c in let l = r.0 in (omega (arith, l), r.1);
+  every = λ j l o. elim (place k j) [
+    | less g ↦ p.every j g o
+    | at g ↦ absurd (o (sym g ∙ e))
+    | more g ↦ absurd (omega (arith, g, l))
+  ];
+}
+
+pub but_more : (k but : ℕ) (out new : List ℕ) → k ≢ but → new ≡ out ++ k ∷ [] → ArePlacesBut k but out → ArePlacesBut (k + 1) but new
+but_more k but out new d n p = subst (ArePlacesBut (k + 1) but) (sym n) (record {
+  each = λ j c. elim (Contains-last out k j c) [
+    | inl i ↦ let r = p.each j i in let l = r.0 in (omega (arith, l), r.1)
+    | inr e ↦ (omega (arith, e), λ q. d (sym e ∙ q))
+  ];
+  every = λ j l o. elim (place k j) [
+    | less g ↦ first_in out k j (p.every j g o)
+    | at g ↦ subst (Contains (out ++ k ∷ [])) g (Contains-push out k)
+    | more g ↦ absurd (omega (arith, g, l))
+  ];
+})

@@ -28,6 +28,9 @@ outer_none n = record { each = λ d k. absurd (none_in d k); every = λ c k. abs
 pub taken : (vs rest new all : List RowsAndRays) (v : RowsAndRays) → rest ≡ v ∷ new → vs ++ rest ≡ all → (vs ++ v ∷ []) ++ new ≡ all
 taken vs rest new all v e h = append_assoc vs (v ∷ []) new ∙ ap (λ z. vs ++ z) (sym e) ∙ h
 
+pub joined_more : (cones vs out new : List RowsAndRays) (v : RowsAndRays) → new ≡ out ++ v ∷ [] → out ≡ cones ++ vs → new ≡ cones ++ (vs ++ v ∷ [])
+joined_more cones vs out new v n e = n ∙ ap (λ z. z ++ v ∷ []) e ∙ append_assoc cones vs (v ∷ [])
+
 pub taken_ambient : (n : ℕ) (vs rest new all : List RowsAndRays) (v : RowsAndRays) → rest ≡ v ∷ new → vs ++ rest ≡ all →
     All (λ (c : RowsAndRays). c.ambient ≡ n) all → v.ambient ≡ n
 taken_ambient n vs rest new all v e h a = All-contains (λ (c : RowsAndRays). c.ambient ≡ n) all v a

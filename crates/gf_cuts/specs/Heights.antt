@@ -1,9 +1,11 @@
--- Products of points with what generates a cone, and points that are nowhere above another one.
-use Rattle.std.specs.Prelude.{◌≡◌, ℕ, ◌<◌, List, [], map, ℤ, pos, ◌≤ℤ◌, length, Contains, slice_index_or}
+-- Products of points with what generates a cone, and points that are nowhere above another one, or as high as one.
+use Rattle.std.specs.Prelude.{◌≡◌, ◌≢◌, ◌↔◌, ℕ, ◌<◌, List, [], map, ℤ, pos, negsuc, ◌≤ℤ◌, length, AllPairs, Contains, slice_index_or}
 use Rattle.gf_vec.specs.Vector.{dot}
+use Rattle.gf_gordan.specs.Alternative.{AreRows}
 use Rattle.gf_duality_theory.specs.Rays.{IsRays}
 use Rattle.gf_rays.specs.Cones.{RowsAndRays}
 use Rattle.gf_levels_theory.specs.Generators.{generators}
+use Rattle.gf_levels_theory.specs.Parts.{IsAbove}
 
 -- its rays and its lineality basis are those of its rows
 abbrev pub HasItsRays : RowsAndRays → Type 0
@@ -34,3 +36,38 @@ row_at rows i = slice_index_or rows i []
 pub record IsThinned (rows : List (List ℤ)) (places kept : List ℕ) : Type 0 where
   pub each : (y : ℕ) → Contains kept y → Contains places y
   pub every : (x : ℕ) → Contains places x → (y : ℕ) × (Contains kept y × IsBelow (row_at rows x) (row_at rows y))
+
+-- the places below a number but one
+pub record ArePlacesBut (count but : ℕ) (places : List ℕ) : Type 0 where
+  pub each : (k : ℕ) → Contains places k → (k < count) × (k ≢ but)
+  pub every : (k : ℕ) → k < count → k ≢ but → Contains places k
+
+-- 0 where both numbers are the same, else -1
+pub record IsMark (x y m : ℤ) : Type 0 where
+  pub same : x ≡ y → m ≡ pos 0
+  pub other : x ≢ y → m ≡ negsuc 0
+
+-- that for each place of two lists
+pub record AreMarks (xs ys ms : List ℤ) : Type 0 where
+  pub long : length ms ≡ length xs
+  pub each : (k : ℕ) → k < length xs → IsMark (slice_index_or xs k (pos 0)) (slice_index_or ys k (pos 0)) (slice_index_or ms k (pos 0))
+
+-- that for each of these rows against the one at top
+pub record AreMarkRows (rows : List (List ℤ)) (top : ℕ) (marks : List (List ℤ)) : Type 0 where
+  pub long : length marks ≡ length rows
+  pub each : (k : ℕ) → k < length rows → AreMarks (row_at rows top) (row_at rows k) (row_at marks k)
+
+-- all numbers are zero
+abbrev pub AreZero : List ℤ → Type 0
+AreZero xs = (k : ℕ) → k < length xs → slice_index_or xs k (pos 0) ≡ pos 0
+
+-- the places below a number, ascending, at which both lists have the same entry
+pub record AreTiedPlaces (xs ys : List ℤ) (count : ℕ) (places : List ℕ) : Type 0 where
+  pub ascending : AllPairs (λ i j. i < j) places
+  pub each : (k : ℕ) → Contains places k → (k < count) × (slice_index_or xs k (pos 0) ≡ slice_index_or ys k (pos 0))
+  pub every : (k : ℕ) → k < count → slice_index_or xs k (pos 0) ≡ slice_index_or ys k (pos 0) → Contains places k
+
+-- rows that are negative nowhere exactly where none of the points at these places is above the one at top
+pub record AreRowsOver (A : List (List ℤ)) (top : ℕ) (places : List ℕ) (rows : List (List ℤ)) : Type 0 where
+  pub wide : (n : ℕ) → AreRows n A → AreRows n rows
+  pub says : (v : List ℤ) → ((h : List ℤ) → Contains rows h → pos 0 ≤ℤ dot h v) ↔ IsAbove A top places v

@@ -1,5 +1,5 @@
 //! Cones that lie inside another one, by their rays.
-ghost use Rattle.std.specs.Prelude.{◌≡◌, List, ℤ, All, Contains, IfOk, IsTrue, map};
+ghost use Rattle.std.specs.Prelude.{◌≡◌, ◌++◌, List, ℤ, All, Contains, IfOk, IsTrue, map};
 ghost use Rattle.gf_rays.specs.Cones.{RowsAndRays, rows_of};
 ghost use Rattle.gf_patterns_theory.specs.Cuts.{IsHeldBy};
 ghost use Rattle.gf_levels_theory.specs.Generators.{AreOuter};
@@ -7,6 +7,20 @@ ghost use Rattle.gf_levels_theory.specs.Generators.{AreOuter};
 use gf_rays::Rays;
 use gf_vec::{IntVec, is_one_of, same_vectors};
 use std::alloc::{AllocError, Global};
+
+/// These cones, and then others.
+///
+/// # Errors
+/// Want of memory alone.
+pub(crate) fn joined(cones: Vec<Rays>, more: Vec<Rays>) -> Result<Vec<Rays>, AllocError>
+    ensures { IfOk result (λ out. out.items ≡ cones.items ++ more.items) }
+{
+    let mut out = cones;
+    for cone in more {
+        out.push(cone)?;
+    }
+    Ok(out)
+}
 
 /// Whether each of the vectors is one of the others.
 fn are_some(xs: &[IntVec], ys: &[IntVec]) -> bool
@@ -61,7 +75,7 @@ fn outer_once(alloc: Global, n: u32, cones: Vec<Rays>) -> Result<Vec<Rays>, Allo
 ///
 /// # Errors
 /// Want of memory alone.
-pub fn outer(alloc: Global, n: u32, cones: Vec<Rays>) -> Result<Vec<Rays>, AllocError>
+pub(crate) fn outer(alloc: Global, n: u32, cones: Vec<Rays>) -> Result<Vec<Rays>, AllocError>
     requires { All (λ (c : RowsAndRays). c.ambient ≡ n) cones.items }
     ensures ambient { IfOk result (λ out. All (λ (c : RowsAndRays). c.ambient ≡ n) out.items) }
     ensures outer { IfOk result (λ out. AreOuter n (map rows_of cones.items) (map rows_of out.items)) }

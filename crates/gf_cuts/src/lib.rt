@@ -1,14 +1,19 @@
-//! What is left out when a cone is cut by all points of a polynomial at once: points that are nowhere above another one on the cone, as products with its
-//! rays and its lineality vectors show, and parts inside another one, as their rays show.
+//! Cones cut by all points of a polynomial at once: the parts on which one of the points is highest, or two of them are.
 //!
-//! Read `specs/Heights.antt` first; start at `tops` and `outer`.
+//! Read `specs/Heights.antt` first; start at `level`.
 #![tactic(auto)]
 
+mod above;
+mod error;
 mod generators;
 mod heights;
 mod highest;
 mod inside;
+mod levels;
+mod marks;
+mod parts;
 mod thinning;
+mod ties;
 
-pub use highest::tops;
-pub use inside::outer;
+pub use error::CutError;
+pub use levels::level;

@@ -1,6 +1,6 @@
 //! Rows that are nowhere above another one.
 ghost use Rattle.std.specs.Prelude.{◌<◌, ℕ, All, Contains, IfOk, IsTrue, length};
-ghost use Rattle.gf_cuts.specs.Heights.{row_at, IsBelow, IsThinned};
+ghost use Rattle.gf_cuts.specs.Heights.{row_at, ArePlacesBut, IsBelow, IsThinned};
 
 use gf_vec::IntVec;
 use std::alloc::{AllocError, Global};
@@ -78,6 +78,22 @@ pub(crate) fn places_below(alloc: Global, count: usize) -> Result<Vec<usize>, Al
     let mut out = Vec::with_capacity(alloc, count)?;
     for k in 0..count {
         out.push(k)?;
+    }
+    Ok(out)
+}
+
+/// The numbers below `count` but one.
+///
+/// # Errors
+/// Want of memory alone.
+pub(crate) fn places_but(alloc: Global, count: usize, but: usize) -> Result<Vec<usize>, AllocError>
+    ensures { IfOk result (λ out. ArePlacesBut count but out.items) }
+{
+    let mut out = Vec::with_capacity(alloc, count)?;
+    for k in 0..count {
+        if k != but {
+            out.push(k)?;
+        }
     }
     Ok(out)
 }
