@@ -17,7 +17,6 @@ use Rattle.gf_patterns_theory.specs.Patterns.{points, HavePoints}
 use Rattle.gf_patterns_theory.specs.PatternFans.{whole_space, IsFanOfPatterns}
 use Rattle.gf_patterns_theory.specs.Refinements.{HaveEntries}
 use Rattle.gf_patterns_theory.proofs.PointLaws.{points_wide, points_distinct}
-use Rattle.gf_levels_theory.specs.declared.members.Members.{Members}
 use Rattle.gf_levels_theory.specs.Laws.{LevelsAreOfPatterns}
 use Rattle.gf_levels_theory.specs.Levels.{IsLevel}
 use Rattle.gf_levels_theory.specs.VertexPoints.{AreVertexPoints}
