@@ -134,8 +134,8 @@ shape_of_relation n k l x m = by_terms (IsShape n) (rabinowitsch_terms (variable
   (let r = product_shape n k l in let p = r.0 in let q = r.1 in (omega (arith, p, q), omega (arith, q))),
   (
     (let p = degree-ones (length (variable_at n k) + 1) in
-    let q = entry-ones (length (variable_at n k) + 1) n in
-    (omega (arith, p, q), omega (arith, q))),
+        let q = entry-ones (length (variable_at n k) + 1) n in
+        (omega (arith, p, q), omega (arith, q))),
     tt,
   ),
 ) x m

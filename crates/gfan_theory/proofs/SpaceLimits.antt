@@ -155,10 +155,10 @@ module _ (n : ℕ) (fs : List MarkedPolynomial) (h : 1 ≤ n) (l : n ≤ 3) (sma
   fan_fits = record {
     finding = fans_with_room_stay_within_limits n 3 (c ∷ []) h (omega arith)
         (λ d k. subst (λ (z : RowsAndRays). IsSmallSystem n 3 (rows_of z)) (sym (alone d k)) rows) (record {
-      own = λ d k. subst (λ (z : RowsAndRays). has_room n 3 (length z.inequalities) ≡ true) (sym (alone d k)) room;
-      pairs = λ i j d e before last p q. absurd (omega (arith, before, last));
-      none = equations_have_room n h l;
-    });
+          own = λ d k. subst (λ (z : RowsAndRays). has_room n 3 (length z.inequalities) ≡ true) (sym (alone d k)) room;
+          pairs = λ i j d e before last p q. absurd (omega (arith, before, last));
+          none = equations_have_room n h l;
+        });
     writing = λ f is_fan w step.
         none_wide w (zeros f.ambient) step.0.rays
         (subst (λ (z : List (List ℤ)). IsFirstWide w (adding_steps (zeros f.ambient) (numbered z step.0.rays)))
