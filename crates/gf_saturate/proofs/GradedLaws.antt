@@ -178,7 +178,7 @@ basis_by_weights n ws gs s p v b =
         let w = variables_of_member n gs c.poly (ring_variables n gs v) (b.inside c m) in
         (refl, λ i l. past x (w x hx) i l ∙ sym (past y (w y hy) i l))
 
-step_basis : (n : ℕ) (gs : List Terms) (s : MarkedPolynomials) → HaveRingVariables n gs → IsWeightedBasis n gs s → IsBasis n gs s.items
+pub step_basis : (n : ℕ) (gs : List Terms) (s : MarkedPolynomials) → HaveRingVariables n gs → IsWeightedBasis n gs s → IsBasis n gs s.items
 step_basis n gs s v b =
     basis_by_weights n b.weighted.weights gs s (positive_weights n b.weighted.weights b.weighted.long b.weighted.positive) v
     (subst (λ (o : MonomialOrder). IsArrangedBasis o n gs s) b.weighted.is b.basis)

@@ -11,3 +11,4 @@ pub mod SearchLaws  -- a list searched place by place
 pub mod OneReached  -- a saturation that 1 is in has all polynomials
 pub mod OneTermLaws  -- what a polynomial of one term, or a mark that is 1, says of the ideal
 pub mod InverseLaws  -- more polynomials of a saturation, by inverses
+pub mod ChainLaws  -- one variable after another, by elimination by degree

@@ -143,7 +143,7 @@ member-back n bs b h c z = narrowed-back n b.poly (h.variables b c) listed
     listed = each_contained (λ (t : Term). entry t.mono n ≡ 0) b.poly (λ t i. free t.mono (term_there (n + 1) b.poly t (h.variables b c) (h.descending b c) i) n
         (omega arith))
 
-not_equal : (a b : ℕ) → (a == b) ≡ false → a ≡ b → ⊥
+pub not_equal : (a b : ℕ) → (a == b) ≡ false → a ≡ b → ⊥
 not_equal a b h e = let t : (a == b) ≡ true = ap (λ z. z == b) e ∙ same_number b in absurd (cc)
   where
     same_number : (b : ℕ) → (b == b) ≡ true

@@ -4,4 +4,5 @@ pub mod Graded  -- grades, which variables are enough, bases and division
 pub mod Units  -- variables as polynomials
 pub mod OneTerm  -- polynomials of one term as they are kept, and marks that are 1
 pub mod Proposals  -- vectors that are proposed, and what runs start from
+pub mod Chains  -- saturations by one variable after another
 pub mod Saturating  -- what a saturation is answered with, the sets on the way, refusals

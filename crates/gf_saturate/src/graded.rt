@@ -256,7 +256,7 @@ fn divided_by(
 }
 
 /// The place of the first variable that occurs.
-fn first_variable(n: u32, x: &Mono) -> Option<u32>
+pub(crate) fn first_variable(n: u32, x: &Mono) -> Option<u32>
     requires { n ≤ length x.now }
     ensures { IfSome result (λ k. k < n) }
 {

@@ -23,14 +23,23 @@ use std::alloc::{AllocError, Global};
 /// The most pairs of a run with an inverse.
 const SOON: u64 = 1000;
 
-/// The basis of polynomials in `n + 1` variables by degree, in which the last variable counts twice, then revlex.
-fn inverse_basis(alloc: Global, n: u32, set: &[Poly], pairs: u64) -> Option<MarkedSet>
+/// How often the inverse counts in the degree.
+const TWICE: i128 = 2;
+
+/// The basis of polynomials in `n + 1` variables by degree, in which the last variable counts so many times, then revlex.
+pub(crate) fn inverse_basis(
+    alloc: Global,
+    n: u32,
+    times: i128,
+    set: &[Poly],
+    pairs: u64,
+) -> Option<MarkedSet>
     requires room { n < ROOM }
     requires variables { HaveRingVariables (n + 1) set.now }
     ensures { IfSome result (IsWeightedBasis (n + 1) set.now) }
 {
     let mut grade = [1i128; ROOM];
-    grade[n as usize] = 2;
+    grade[n as usize] = times;
     let Some(order) = lowered_order(alloc, n + 1, n + 1, &grade[..n as usize + 1]) else {
         return None;
     };
@@ -41,7 +50,7 @@ fn inverse_basis(alloc: Global, n: u32, set: &[Poly], pairs: u64) -> Option<Mark
 }
 
 /// Whether the last of `n + 1` variables doesn't occur in the polynomial.
-fn is_without(n: u32, f: &Poly) -> bool
+pub(crate) fn is_without(n: u32, f: &Poly) -> bool
     requires { HasVariables (n + 1) f.now }
     ensures { IsTrue result → map widened_term (map (narrowed_term n) f.now) ≡ f.now }
 {
@@ -95,7 +104,7 @@ fn with_inverse(alloc: Global, n: u32, k: u32, set: &[Poly], pairs: u64) -> Opti
     let Ok(generators) = extended(alloc, n, &by, set) else {
         return None;
     };
-    let Some(found) = inverse_basis(alloc, n, &generators, pairs) else {
+    let Some(found) = inverse_basis(alloc, n, TWICE, &generators, pairs) else {
         return None;
     };
     match with_members_without(alloc, n, k, set, &found) {

@@ -4,6 +4,7 @@ ghost use Rattle.gf_buchberger.specs.Bases.{IsWantOfMemory};
 ghost use Rattle.gf_buchberger.specs.Jobs.{HaveRingVariables};
 ghost use Rattle.gf_saturate.specs.Saturating.{IsOnTheWay, IsStage, IsSaturation, IsSaturateRefusal, AreStepsWithinLimits};
 
+use crate::chain::by_chain;
 use crate::graded::by_division;
 use crate::inverses::by_inverses;
 use crate::stages::{Stage, first_stage, step};
@@ -75,6 +76,19 @@ fn by_elimination(alloc: Global, n: u32, set: &[Poly], pairs: u64) -> Result<Mar
     }
 }
 
+/// The saturation by one variable after another, by elimination by degree; else by the inverses' weight and lex.
+fn by_variables(alloc: Global, n: u32, set: &[Poly], pairs: u64) -> Result<MarkedSet, BasisError>
+    requires room { n < ROOM }
+    requires variables { HaveRingVariables n set.now }
+    ensures ok { IfOk result (IsSaturation n set.now) }
+    ensures err { IfErr result (IsSaturateRefusal n set.now pairs) }
+{
+    match by_chain(alloc, n, set, pairs) {
+        Some(saturation) => Ok(saturation),
+        None => by_elimination(alloc, n, set, pairs),
+    }
+}
+
 /// The saturation of polynomials that aren't divided: of an ideal modulo which each variable is found to be a unit that is the ideal itself; else it is
 /// worked out by inverses.
 fn ungraded(alloc: Global, n: u32, set: &[Poly], pairs: u64) -> Result<MarkedSet, BasisError>
@@ -85,7 +99,7 @@ fn ungraded(alloc: Global, n: u32, set: &[Poly], pairs: u64) -> Result<MarkedSet
 {
     match by_units(alloc, n, set, pairs) {
         Some(saturation) => Ok(saturation),
-        None => by_elimination(alloc, n, set, pairs),
+        None => by_variables(alloc, n, set, pairs),
     }
 }
 
@@ -100,8 +114,12 @@ fn ungraded(alloc: Global, n: u32, set: &[Poly], pairs: u64) -> Result<MarkedSet
 /// Else, and where one of these runs is refused, it is tested whether each variable is a unit modulo the ideal: whether a run on the polynomials and the
 /// variable, with at most 1000 pairs, finds 1. If so, the ideal is its own saturation, and its basis by deglex is made, by a run in wider numbers too.
 ///
-/// Else, and where that is refused, x is taken out so: with a new last variable t and `t*x - 1` among the generators a basis by
-/// the weight of t, then lex, is made, and its members without t generate the saturation by x. At the end the basis by deglex is made. A
+/// Else, and where that is refused, x is taken out so, if it isn't such a unit: with a new last variable t and `t*x - 1` among the generators a basis by
+/// degree, in which t counts 1000 times, then revlex, is made, with at most 1000 pairs. If t is in no member without being in its mark, the members without
+/// t generate the saturation by x. If a run is refused, it is begun anew with its variable, up to three times. At the end the basis by deglex is made.
+///
+/// Else, and where that is refused, with such generators a basis by the weight of t, then lex, is made, and its members without t generate the saturation
+/// by x. At the end the basis by deglex is made. A
 /// variable that occurs in no mark of the basis before, that of the polynomials by deglex at first, is left out: nothing is added by it. So
 /// is all the rest where 1 is reached.
 ///
