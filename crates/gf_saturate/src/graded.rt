@@ -268,7 +268,7 @@ pub(crate) fn first_variable(n: u32, x: &Mono) -> Option<u32>
     None
 }
 
-/// The same number for each variable, and a smaller one for that at place `k`, which is dropped last.
+/// A number for each variable: equal ones, but for a smaller one at index `k`, so that this variable is dropped last.
 fn kept_last(k: u32) -> [u64; ROOM]
     requires { k < ROOM }
 {

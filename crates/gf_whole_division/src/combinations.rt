@@ -57,7 +57,11 @@ fn push_sum(out: &mut Vec<WholeTerm>, s: &WholeTerm, t: &WholeTerm) -> Result<()
     Ok(())
 }
 
-/// A multiple of the polynomial.
+/// The polynomial times a whole number.
+///
+/// # Errors
+///
+/// `Beyond` if a coefficient reaches 2^512, or if there is no memory.
 pub fn scaled(alloc: Global, terms: &[WholeTerm], by: &Whole) -> Result<Vec<WholeTerm>, Beyond>
     ensures { IfOk result (λ h. whole_terms h.items ≡ times (whole by.now) [] (whole_terms terms.now)) }
 {
@@ -73,6 +77,10 @@ pub fn scaled(alloc: Global, terms: &[WholeTerm], by: &Whole) -> Result<Vec<Whol
 }
 
 /// The polynomial divided by a divisor of its coefficients.
+///
+/// # Errors
+///
+/// `Beyond` if a division is not found to be exact, or if there is no memory.
 pub fn divided(alloc: Global, terms: &[WholeTerm], by: &Whole) -> Result<Vec<WholeTerm>, Beyond>
     ensures { IfOk result (λ h. whole_terms terms.now ≡ times (whole by.now) [] (whole_terms h.items)) }
 {
@@ -92,7 +100,12 @@ fn next_rank(m: &Multiplier, t: &WholeTerm) -> Rank {
     m.rank.plus(&t.rank)
 }
 
-/// `by` times one polynomial, and `m` times another one.
+/// The sum of `by` times one polynomial and `m` times another one, with like terms combined where the two lists show them at the same rank.
+///
+/// # Errors
+///
+/// `Beyond` if a coefficient reaches 2^512, if the degree of a product leaves the room of an exponent, if terms of equal rank have different
+/// monomials, or if there is no memory.
 pub fn combined(
     alloc: Global,
     old: &[WholeTerm],

@@ -35,7 +35,11 @@ fn is_divided(x: &Mono, degree: u64, mark: &Mono) -> bool
     mark.divides(x)
 }
 
-/// The place of the first member whose mark divides `x`, if there is one. `Beyond` where a mark before that isn't in the variables of `x`.
+/// The index of the first member whose mark divides `x`, if there is one.
+///
+/// # Errors
+///
+/// `Beyond` if a mark before that one has another number of variables than `x`.
 pub fn divisor_of(x: &Mono, by: &[WholeMember]) -> Result<Option<usize>, Beyond>
     ensures { IfOk result (λ found. IfSome found (IsDividedAt by.now x.now)) }
 {
@@ -97,7 +101,11 @@ impl WholeDividend {
         self.rest.is_empty()
     }
 
-    /// Passes the greatest term that waits.
+    /// Passes the greatest term that waits; nothing changes if none does.
+    ///
+    /// # Errors
+    ///
+    /// `Beyond` if there is no memory.
     pub fn pass(&mut self) -> Result<(), Beyond>
         ensures { OnOk result (SamePolynomial (terms_of self.new) (terms_of self.old)) }
     {
@@ -130,6 +138,11 @@ impl WholeDividend {
     }
 
     /// The step at the greatest term that waits, by the first member whose mark divides it; where none does, the term is passed.
+    ///
+    /// # Errors
+    ///
+    /// `Beyond` if a coefficient reaches 2^512, if an exponent or a degree leaves its range, if another term has the same monomial, or if there is
+    /// no memory.
     pub fn reduce(
         &mut self,
         alloc: Global,
@@ -183,7 +196,11 @@ impl WholeDividend {
         Ok(())
     }
 
-    /// The same, where the numbers have grown by 128 bits.
+    /// Divides by a common divisor of all coefficients once the coefficient of the greatest waiting term has grown by 128 bits.
+    ///
+    /// # Errors
+    ///
+    /// `Beyond` if a division is not found to be exact, or if there is no memory.
     pub fn shorten(&mut self, alloc: Global) -> Result<(), Beyond>
         ensures { OnOk result (IsMultipleOf (terms_of self.new) (terms_of self.old)) }
     {

@@ -75,7 +75,11 @@ fn place_of(terms: &[WholeTerm], rank: &Rank) -> usize
     0
 }
 
-/// A factor that isn't zero, and the terms of the polynomial times it, which are whole, ascending by their ranks.
+/// A factor that isn't zero, and the terms of the polynomial times it, which have whole coefficients, ascending by their ranks.
+///
+/// # Errors
+///
+/// `Beyond` if a number reaches 2^512, if the degree of a monomial leaves the room of an exponent, or if there is no memory.
 pub fn whole_multiple(
     alloc: Global,
     terms: &[Term],
@@ -97,7 +101,11 @@ pub fn whole_multiple(
 }
 
 impl WholeMember {
-    /// The marked polynomial, with a whole multiple of it.
+    /// The marked polynomial, with a multiple of it that has whole coefficients.
+    ///
+    /// # Errors
+    ///
+    /// `Beyond` if a number reaches 2^512, if the degree of a monomial leaves the room of an exponent, or if there is no memory.
     pub fn new(alloc: Global, marked: &Marked, ranking: &Ranking) -> Result<WholeMember, Beyond>
         ensures { IfOk result (λ m. m ≡ marked.now) }
     {

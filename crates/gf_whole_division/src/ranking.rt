@@ -57,7 +57,11 @@ impl Ranking {
         Ranking { weight, by_revlex }
     }
 
-    /// The rank of a monomial; none where its degree leaves the room of an exponent.
+    /// The rank of a monomial.
+    ///
+    /// # Errors
+    ///
+    /// `Beyond` if its degree leaves the room of an exponent.
     pub fn rank(&self, mono: &Mono) -> Result<Rank, Beyond> {
         let exponents = mono.exponents();
         let bits = bits(exponents.len());
@@ -81,7 +85,11 @@ impl Ranking {
         Ok(Rank { heft, key })
     }
 
-    /// The rank of a product; none where its degree leaves the room of an exponent.
+    /// The rank of a product, of which the ranks of the factors are given.
+    ///
+    /// # Errors
+    ///
+    /// `Beyond` if its degree leaves the room of an exponent.
     pub fn sum(&self, mono: &Mono, x: &Rank, y: &Rank) -> Result<Rank, Beyond> {
         let bits = bits(mono.exponents().len());
         if mono.degree() >= 1u64.wrapping_shl(bits) {

@@ -48,7 +48,11 @@ pub struct WholeTerm {
 }
 
 impl WholeTerm {
-    /// A multiple of the term.
+    /// The term times a whole number.
+    ///
+    /// # Errors
+    ///
+    /// `Beyond` if the coefficient reaches 2^512, or if there is no memory.
     pub fn scaled(&self, by: &Whole) -> Result<WholeTerm, Beyond>
         ensures { IfOk result (λ r. term_value r ≡ times_term (whole by.now) [] (term_value self.now)) }
     {
@@ -61,7 +65,11 @@ impl WholeTerm {
         })
     }
 
-    /// The term, divided by a divisor of its coefficient.
+    /// The term divided by a divisor of its coefficient.
+    ///
+    /// # Errors
+    ///
+    /// `Beyond` if the division is not found to be exact, or if there is no memory.
     pub fn divided(&self, by: &Whole) -> Result<WholeTerm, Beyond>
         ensures { IfOk result (λ r. term_value self.now ≡ times_term (whole by.now) [] (term_value r)) }
     {
@@ -75,7 +83,11 @@ impl WholeTerm {
     }
 }
 
-/// The product.
+/// The product of two whole numbers.
+///
+/// # Errors
+///
+/// `Beyond` if its size reaches 2^512.
 pub fn product(a: &Whole, b: &Whole) -> Result<Whole, Beyond>
     ensures { IfOk result (λ z. z ≡ a.now *ℤ b.now) }
 {
@@ -85,7 +97,11 @@ pub fn product(a: &Whole, b: &Whole) -> Result<Whole, Beyond>
     }
 }
 
-/// The quotient, where the division is found to be exact.
+/// The quotient of two whole numbers.
+///
+/// # Errors
+///
+/// `Beyond` if the division is not found to be exact.
 pub fn share(a: &Whole, by: &Whole) -> Result<Whole, Beyond>
     ensures { IfOk result (λ z. a.now ≡ by.now *ℤ z) }
 {
@@ -95,7 +111,11 @@ pub fn share(a: &Whole, by: &Whole) -> Result<Whole, Beyond>
     }
 }
 
-/// The sum.
+/// The sum of two whole numbers.
+///
+/// # Errors
+///
+/// `Beyond` if its size reaches 2^512.
 pub fn sum(a: &Whole, b: &Whole) -> Result<Whole, Beyond>
     ensures { IfOk result (λ z. z ≡ a.now +ℤ b.now) }
 {
