@@ -1,4 +1,5 @@
 pub mod TokensLaws  -- the tokens of a text, one after another
+pub mod FrontsLaws  -- how much texts have in common at their fronts
 pub mod SpelledLaws  -- bytes that spell tokens
 pub mod MachineLaws  -- what machines read, and what grammars say of it
 pub mod NamesLaws  -- different names, kept as keys of a set

@@ -1,14 +1,14 @@
 -- A set is read piece by piece: the machine only adds to the terms of a polynomial that were read before.
 -- To cite: plain, joined_start, joined_go, joined_done, joined_halt, joined_ended, pieces_go_within, pieces_done_within, terms_within. The rest are steps.
-use Rattle.std.proofs.Common.{◌≡◌, ℕ, Bool, true, false, nat_le, ◌&&◌, ◌==◌, Ok, Err, List, [], ◌∷◌, ◌++◌, length, Option, Some, None, refl, sym, ap, subst}
-use Rattle.std.proofs.Common.{◌∙◌, bytes_eq, append_assoc, append-nil, if◌then◌else◌}
+use Rattle.std.proofs.Common.{◌≡◌, ℕ, Bool, true, false, nat_le, ◌&&◌, ◌==◌, Ok, Err, List, [], ◌∷◌, ◌++◌, length, Option, Some, None, refl, sym, ap}
+use Rattle.std.proofs.Common.{◌∙◌, bytes_eq, append_assoc, if◌then◌else◌}
 use Rattle.gf_text.specs.declared.error.Cause.{Cause}
-use Rattle.gf_text.specs.declared.error.Cause.TheVariants.{Ended, Unexpected, ZeroDenominator, TooWide, UnknownName}
+use Rattle.gf_text.specs.declared.error.Cause.TheVariants.{Unexpected, ZeroDenominator, TooWide, UnknownName}
 use Rattle.gf_text.specs.declared.tree.WrittenTerm.{WrittenTerm}
 use Rattle.gf_text.specs.declared.set_reader.SetPlace.{SetPlace}
 use Rattle.gf_text.specs.declared.set_reader.SetPlace.TheVariants as at
 use Rattle.gf_text.specs.declared.set_reader.Part.{Part}
-use Rattle.gf_text.specs.Machine.{Lexeme, behind, go, done, halt, after}
+use Rattle.gf_text.specs.Machine.{Lexeme, behind, go, done, halt}
 use Rattle.gf_text.specs.Tokens.{is_number, decimal_value, lexemes, ring_more}
 use Rattle.gf_text.specs.RingText.{IsRing}
 use Rattle.gf_text.specs.SetText.{variable, most, most_exponent, SetMove, with_factor, with_numer, with_denom, part_term, part_terms, next_term, all_of}
@@ -17,7 +17,7 @@ use Rattle.gf_text.specs.SetText.{token_step, set_step, empty, set_at}
 use Rattle.gf_text.specs.Marks.{plus_mark, minus_mark, comma, star, slash, caret, brace, brace_end}
 use Rattle.gf_text.specs.Limits.{AreTermsWithin, ArePolynomialsWithin}
 use Rattle.gf_text.specs.Pieces.{IsBegun, fronted, waiting, joined}
-use Rattle.gf_text.proofs.SetGrowsLaws.{Reading, reading_start, reading_go, reading_done, reading_halt, reading_ended, go_within, done_within, open_within}
+use Rattle.gf_text.proofs.SetGrowsLaws.{Reading, reading_go, reading_done, reading_halt, go_within, done_within, open_within}
 
 abbrev Sets : Type 0
 Sets = List (List WrittenTerm)

@@ -1,6 +1,7 @@
 pub mod Machine  -- machines that read tokens, and the places of faults
 pub mod Refusing  -- what a fault is refused as
 pub mod Tokens  -- white space, the tokens of a text
+pub mod Fronts  -- fronts that texts have in common
 pub mod Marks  -- the tokens of a single byte
 pub mod ListText  -- lists: grammar, machine
 pub mod RingText  -- rings: grammar, machine, printed text

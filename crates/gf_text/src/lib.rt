@@ -6,6 +6,7 @@
 
 mod combine;
 mod error;
+mod fronts;
 mod marked_reader;
 mod names;
 mod pieces;

@@ -1,25 +1,33 @@
 //! The names of a ring's variables.
-ghost use Rattle.std.specs.Prelude.{◌≡◌, ◌++◌, ◌∷◌, ◌<◌, ◌≤◌, [], false, true, IfOk, IfSome, OnOk, length, not, slice_get, if◌then◌else◌};
+ghost use Rattle.std.specs.Prelude.{◌≡◌, ◌++◌, ◌∷◌, ◌<◌, ◌≤◌, [], false, true, IfOk, IfSome, OnOk, drop, length, nat_eq, not, slice_get};
+ghost use Rattle.std.specs.Prelude.{if◌then◌else◌};
+ghost use Rattle.std.specs.List.{starts_with};
+ghost use Rattle.gf_text.specs.Fronts.{IsFound};
 ghost use Rattle.gf_text.specs.RingText.{is_name, has, IsRing};
 ghost use Rattle.gf_text.specs.SetText.{variable};
 ghost use Rattle.gf_text.specs.declared.TheConstants.{MOST_VARIABLES};
 
+use crate::fronts::{Found, front_at, table_of};
 use indexmap::IndexSet;
 use std::alloc::{AllocError, Global};
 use std::marker::Model;
 
-/// A name, seen as its bytes.
+/// A name, seen as its bytes. A long one has a table by which it is looked for in a source.
 #[derive(Drop)]
 pub struct Name {
     bytes: Vec<u8>,
+    table: Vec<usize>,
 }
 
 impl Model for Name {
     ghost use Rattle.std.specs.Prelude.{List, ℕ};
+    ghost use Rattle.gf_text.specs.Fronts.{IsTable};
 
     ghost Value = { List ℕ };
 
     ghost view = { λ n. n.bytes.items };
+
+    ghost invariant = { λ n. IsTable n.bytes.items n.table.items };
 }
 
 impl Name {
@@ -27,8 +35,10 @@ impl Name {
     fn from_slice(alloc: Global, bytes: &[u8]) -> Result<Name, AllocError>
         ensures { IfOk result (λ n. n ≡ bytes.now) }
     {
+        let table = table_of(alloc, bytes)?;
         Ok(Name {
             bytes: Vec::from_slice(alloc, bytes)?,
+            table,
         })
     }
 
@@ -37,6 +47,20 @@ impl Name {
         ensures { result.now ≡ self.now }
     {
         self.bytes.as_slice()
+    }
+
+    /// Whether the source has the name at this place; what was found of it before tells of other places.
+    pub(crate) fn stands_at(&self, source: &[u8], at: usize, found: &mut Found) -> bool
+        requires within { at ≤ length source.now }
+        requires known { IsFound self.now source.now found.old }
+        ensures value { result ≡ starts_with nat_eq (drop at source.now) self.now }
+        ensures known { IsFound self.now source.now found.new }
+    {
+        let name = self.bytes.as_slice();
+        if self.table.is_empty() {
+            return source[at..].starts_with(name);
+        }
+        front_at(name, self.table.as_slice(), source, at, found) == name.len()
     }
 }
 

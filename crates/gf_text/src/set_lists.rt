@@ -9,7 +9,7 @@ use crate::combine::Sums;
 use crate::error::{Cause, TextError, refused_at};
 use crate::names::Ring;
 use crate::set_reader::sums_from;
-use crate::tokens::{is_mark, ring_token_from};
+use crate::tokens::{first_token_from, is_mark};
 use crate::written::Written;
 use gf_frac::Overflow;
 use gf_poly::ExponentOverflow;
@@ -72,7 +72,7 @@ fn items_from(
     loop {
         let (sums, end) = sums_from(alloc, ring, source, at)?;
         all.add(sums)?;
-        let Some((start, behind)) = ring_token_from(ring, source, end) else {
+        let Some((start, behind)) = first_token_from(ring, source, end) else {
             return Err(refused_at(source.len(), Cause::Ended));
         };
         let token = &source[start..behind];
@@ -98,7 +98,7 @@ fn behind_brace(
     ensures err { IfErr result (λ e. Fails e (sets_from ring.now sets_first source.now from)) }
     ensures within { IfOk result (λ x. x.1 ≤ length source.now) }
 {
-    let Some((start, end)) = ring_token_from(ring, source, from) else {
+    let Some((start, end)) = first_token_from(ring, source, from) else {
         return Err(refused_at(source.len(), Cause::Ended));
     };
     if is_mark(&source[start..end], b'}') {
@@ -120,7 +120,7 @@ fn list_from(
     ensures err { IfErr result (λ e. Fails e (sets_at ring.now source.now from)) }
     ensures within { IfOk result (λ x. x.1 ≤ length source.now) }
 {
-    let Some((start, end)) = ring_token_from(ring, source, from) else {
+    let Some((start, end)) = first_token_from(ring, source, from) else {
         return Err(refused_at(source.len(), Cause::Ended));
     };
     if !is_mark(&source[start..end], b'{') {

@@ -8,8 +8,10 @@ ghost use Rattle.gf_text.specs.Limits.{AreTermsWithin, ArePolynomialsWithin};
 ghost use Rattle.gf_text.specs.Pieces.{HasFront, IsBegun, Settles};
 ghost use Rattle.gf_text.specs.Sets.{AreSetSums, IsSetRead, IsSetCause, AreIn};
 
+use crate::MOST_VARIABLES;
 use crate::combine::Sums;
 use crate::error::{Cause, TextError, refused_at};
+use crate::fronts::NOWHERE;
 use crate::names::Ring;
 use crate::pieces::{Front, add_behind, take_piece};
 use crate::tokens::{Number, number_of, ring_token_from};
@@ -329,9 +331,10 @@ fn sums_of_whole(
     let mut part = Part::new(alloc);
     let mut place = SetPlace::Brace;
     let mut sums = Sums::new(alloc);
+    let mut found = [NOWHERE; MOST_VARIABLES];
     let mut at = from;
     loop {
-        let Some((start, end)) = ring_token_from(ring, source, at) else {
+        let Some((start, end)) = ring_token_from(ring, source, at, &mut found) else {
             return Err(refused_at(source.len(), Cause::Ended));
         };
         match part.step(alloc, ring, place, &source[start..end])? {
@@ -402,9 +405,10 @@ fn sums_of_pieces(
     let mut place = SetPlace::Brace;
     let mut front: Option<Front> = None;
     let mut sums = Sums::new(alloc);
+    let mut found = [NOWHERE; MOST_VARIABLES];
     let mut at = from;
     loop {
-        let Some((start, end)) = ring_token_from(ring, source, at) else {
+        let Some((start, end)) = ring_token_from(ring, source, at, &mut found) else {
             return Err(refused_at(source.len(), Cause::Ended));
         };
         match part.step(alloc, ring, place, &source[start..end])? {

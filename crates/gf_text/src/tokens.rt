@@ -1,10 +1,15 @@
 //! The tokens of a text.
-ghost use Rattle.std.specs.Prelude.{◌≡◌, ◌<◌, ◌≤◌, ◌^◌, ◌-◌, ◌∷◌, [], length, take_while, max, nat_eq, bytes_eq, true, MatchOption, IfSome, if◌then◌else◌};
+ghost use Rattle.std.specs.Prelude.{◌≡◌, ◌<◌, ◌≤◌, ◌^◌, ◌-◌, ◌∷◌, [], drop, length, take_while, max, nat_eq, bytes_eq, true, MatchOption, IfSome};
+ghost use Rattle.std.specs.Prelude.{if◌then◌else◌};
 ghost use Rattle.std.specs.List.{list_all, starts_with};
 ghost use Rattle.gf_text.specs.Tokens.{is_space, is_digit, is_name_byte, is_number, decimal_value, spaces, lexemes, lexeme, longest, word_more, ring_more};
 ghost use Rattle.gf_text.specs.Tokens.{begins_token};
+ghost use Rattle.gf_text.specs.Fronts.{AreFound, IsFound};
 ghost use Rattle.gf_text.specs.Given.{IsNumberRead};
+ghost use Rattle.gf_text.specs.declared.TheConstants.{MOST_VARIABLES};
 
+use crate::MOST_VARIABLES;
+use crate::fronts::{Found, NOWHERE};
 use crate::names::{Name, Ring};
 
 /// A token: its text, and the place of its first byte in the source.
@@ -65,40 +70,52 @@ fn word_more(text: &[u8]) -> usize
     0
 }
 
-/// The length of the longest of these names that the text begins with, 0 where it begins with none.
-fn longest(names: &[Name], text: &[u8]) -> usize
-    ensures { result ≡ longest names.now text.now }
+/// The length of the longest of these names that stands in the source at this place, 0 where none does.
+fn longest(names: &[Name], source: &[u8], at: usize, found: &mut [Found]) -> usize
+    requires within { at ≤ length source.now }
+    requires room { length names.now ≤ length found.old }
+    requires known { AreFound names.now source.now found.old }
+    ensures value { result ≡ longest names.now (drop at source.now) }
+    ensures known { AreFound names.now source.now found.new }
 {
     let mut best = 0;
-    for name in names {
-        best = longer(best, name.as_slice(), text);
+    for (i, name) in names.iter().enumerate() {
+        best = longer(best, name, source, at, &mut found[i]);
     }
     best
 }
 
-/// The length of the name where the text begins with it and it is greater than `best`, else `best`.
-fn longer(best: usize, name: &[u8], text: &[u8]) -> usize
-    ensures { result ≡ max best (if starts_with nat_eq text.now name.now then length name.now else 0) }
+/// The length of the name where it stands in the source at this place and is greater than `best`, else `best`.
+fn longer(best: usize, name: &Name, source: &[u8], at: usize, found: &mut Found) -> usize
+    requires within { at ≤ length source.now }
+    requires known { IsFound name.now source.now found.old }
+    ensures value { result ≡ max best (if starts_with nat_eq (drop at source.now) name.now then length name.now else 0) }
+    ensures known { IsFound name.now source.now found.new }
 {
-    if name.len() > best && text.starts_with(name) {
-        name.len()
+    let size = name.as_slice().len();
+    if size > best && name.stands_at(source, at, found) {
+        size
     } else {
         best
     }
 }
 
-/// How many bytes of the token at the front of a text follow its first byte, where names are those of a ring.
-fn ring_more(ring: &Ring, text: &[u8]) -> usize
-    ensures { result ≡ ring_more ring.now text.now }
+/// How many bytes of the token that stands in the source at this place follow its first byte, where names are those of a ring.
+fn ring_more(ring: &Ring, source: &[u8], at: usize, found: &mut [Found]) -> usize
+    requires within { at ≤ length source.now }
+    requires room { MOST_VARIABLES ≤ length found.old }
+    requires known { AreFound ring.now source.now found.old }
+    ensures value { result ≡ ring_more ring.now (drop at source.now) }
+    ensures known { AreFound ring.now source.now found.new }
 {
-    let [first, rest @ ..] = text else {
+    let [first, rest @ ..] = &source[at..] else {
         return 0;
     };
     if first.is_ascii_digit() {
         return digits(rest);
     }
     if first.is_ascii_alphabetic() {
-        return longest(ring.names(), text).saturating_sub(1);
+        return longest(ring.names(), source, at, found).saturating_sub(1);
     }
     0
 }
@@ -120,19 +137,38 @@ pub fn word_from(source: &[u8], at: usize) -> Option<(usize, usize)>
 }
 
 /// The place of the first byte of the first token at or behind `at`, and the place behind that token; none where only white space follows. A name is
-/// the longest one of the ring that stands there; a letter at which none stands is a token by itself.
-pub(crate) fn ring_token_from(ring: &Ring, source: &[u8], at: usize) -> Option<(usize, usize)>
-    requires { at ≤ length source.now }
+/// the longest one of the ring that stands there; a letter at which none stands is a token by itself. What was found of the names before tells of this
+/// place too.
+pub(crate) fn ring_token_from(
+    ring: &Ring,
+    source: &[u8],
+    at: usize,
+    found: &mut [Found],
+) -> Option<(usize, usize)>
+    requires within { at ≤ length source.now }
+    requires room { MOST_VARIABLES ≤ length found.old }
+    requires known { AreFound ring.now source.now found.old }
     ensures token { MatchOption result (lexemes (ring_more ring.now) source.now at ≡ []) (λ t. lexemes (ring_more ring.now) source.now at ≡
         lexeme source.now t.0 t.1 ∷ lexemes (ring_more ring.now) source.now t.1) }
     ensures within { IfSome result (λ t. (at ≤ t.0) × (t.0 < t.1) × (t.1 ≤ length source.now)) }
+    ensures known { AreFound ring.now source.now found.new }
 {
     let start = at + spaces(&source[at..]);
     if start == source.len() {
         return None;
     }
-    let more = ring_more(ring, &source[start..]);
+    let more = ring_more(ring, source, start, found);
     Some((start, start + 1 + more))
+}
+
+/// What `ring_token_from` gives where nothing was found of the names before.
+pub(crate) fn first_token_from(ring: &Ring, source: &[u8], at: usize) -> Option<(usize, usize)>
+    requires { at ≤ length source.now }
+    ensures token { MatchOption result (lexemes (ring_more ring.now) source.now at ≡ []) (λ t. lexemes (ring_more ring.now) source.now at ≡
+        lexeme source.now t.0 t.1 ∷ lexemes (ring_more ring.now) source.now t.1) }
+    ensures within { IfSome result (λ t. (at ≤ t.0) × (t.0 < t.1) × (t.1 ≤ length source.now)) }
+{
+    ring_token_from(ring, source, at, &mut [NOWHERE; MOST_VARIABLES])
 }
 
 /// Whether a token is this mark.

@@ -1,4 +1,3 @@
-use Rattle.std.proofs.Common.{◌≡◌, None, Some}
 use Rattle.gf_text.specs.declared.written.Written.TheVariants as written
 use Rattle.gf_text.proofs.PiecesLaws.{adds_none, adds_some}
 use Rattle.gf_text.proofs.pieces.add_behind.Goals as goal

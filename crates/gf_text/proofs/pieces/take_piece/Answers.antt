@@ -1,4 +1,4 @@
-use Rattle.std.proofs.Common.{◌≡◌, ◌∙◌, ◌++◌, sym, ap, subst, append-nil}
+use Rattle.std.proofs.Common.{◌≡◌, ◌∙◌, ◌++◌, ap, subst, append-nil}
 use Rattle.gf_text.specs.Pieces.{IsFront}
 use Rattle.gf_text.proofs.pieces.take_piece.Goals as goal
 

@@ -3,9 +3,11 @@ use Rattle.gf_text.specs.Tokens.{lexeme}
 use Rattle.gf_text.specs.Limits.{AreTermsWithin, ArePolynomialsWithin}
 use Rattle.gf_text.specs.GivenSet.{set_move}
 use Rattle.gf_text.specs.Pieces.{HasFront, Settles, AddsBehind, fronted, joined}
+use Rattle.gf_text.specs.declared.TheConstants.{MOST_VARIABLES}
 use Rattle.gf_text.specs.declared.error.Cause.TheVariants.{Ended}
 use Rattle.gf_text.specs.declared.set_reader.SetPlace.TheVariants.{Brace}
 use Rattle.gf_text.proofs.MachineLaws.{failed}
+use Rattle.gf_text.proofs.FrontsLaws.{none_yet}
 use Rattle.gf_text.proofs.TokensLaws.{behind-lexeme}
 use Rattle.gf_text.proofs.SetGrowsLaws.{Reading, reading_start, reading_ended}
 use Rattle.gf_text.proofs.SetPiecesLaws.{joined_go, joined_done, joined_halt, pieces_go_within, pieces_done_within, others_within, terms_within}
@@ -18,6 +20,7 @@ loop-start-init c =
     record {
       within = c.requires;
       forward = omega arith;
+      known = none_yet ring source MOST_VARIABLES;
       said = [];
       us = [];
       none = ap (λ p. p.polynomials) c.new-part.ensures;
@@ -140,6 +143,7 @@ loop-start-preserved c =
     let s = settles i.said i.us i.come i.summed in
     record {
       within = c.in-Some.ensures.within.2;
+      known = c.in-Some.ensures.known;
       forward = (let before = c.loop-start.invariant.forward in let next = c.in-Some.ensures.within.0 in let rises = c.in-Some.ensures.within.1 in omega arith);
       said = said;
       us = s.front;

@@ -1,6 +1,7 @@
 use Rattle.std.proofs.Common.{◌≡◌, ◌≤◌, ◌-◌, [], List, length}
 use Rattle.gf_text.specs.declared.tree.WrittenTerm.{WrittenTerm}
 use Rattle.gf_text.specs.Pieces.{IsFront, joined}
+use Rattle.gf_text.specs.Fronts.{AreFound}
 use Rattle.gf_text.specs.Sets.{HasSums}
 use Rattle.gf_text.proofs.SetGrowsLaws.{Reading}
 use Rattle.gf_text.proofs.set_reader.sums_of_pieces.Given as goal
@@ -9,6 +10,7 @@ abbrev pub invariant-loop-start : goal.invariant-loop-start
 invariant-loop-start l = record {
   within : l.at ≤ length l.source;
   forward : l.from ≤ l.at;
+  known : AreFound l.ring l.source l.found;
   said : List (List WrittenTerm);
   us : List WrittenTerm;
   none : l.part.polynomials ≡ [];

@@ -3,9 +3,11 @@ use Rattle.gf_text.specs.Tokens.{lexeme}
 use Rattle.gf_text.specs.Limits.{ArePolynomialsWithin}
 use Rattle.gf_text.specs.GivenSet.{set_move}
 use Rattle.gf_text.specs.Sets.{Adds}
+use Rattle.gf_text.specs.declared.TheConstants.{MOST_VARIABLES}
 use Rattle.gf_text.specs.declared.error.Cause.TheVariants.{Ended}
 use Rattle.gf_text.specs.declared.set_reader.SetPlace.TheVariants.{Brace}
 use Rattle.gf_text.proofs.MachineLaws.{failed}
+use Rattle.gf_text.proofs.FrontsLaws.{none_yet}
 use Rattle.gf_text.proofs.TokensLaws.{behind-lexeme}
 use Rattle.gf_text.proofs.SetGrowsLaws.{Reading, reading_start, reading_go, reading_done, reading_halt, reading_ended, go_within, done_within}
 use Rattle.gf_text.proofs.set_reader.sums_of_whole.Goals as goal
@@ -17,6 +19,7 @@ loop-start-init c =
     record {
       within = c.requires;
       forward = omega arith;
+      known = none_yet ring source MOST_VARIABLES;
       said = [];
       none = ap (λ p. p.polynomials) c.new-part.ensures;
       reading = subst (λ p. Reading ring source c.args.from c.args.from (Brace, p) []) (sym c.new-part.ensures) (reading_start ring source c.args.from);
@@ -104,6 +107,7 @@ loop-start-preserved c =
     let adds = subst (λ n. Adds n ps c.loop-start.sums c.add_read-in-loop-start.new.self) c.len-n.ensures.value c.in_ok-add_read.ensures in
     record {
       within = c.in-Some.ensures.within.2;
+      known = c.in-Some.ensures.known;
       forward = (let before = c.loop-start.invariant.forward in let next = c.in-Some.ensures.within.0 in let rises = c.in-Some.ensures.within.1 in omega arith);
       said = i.said ++ ps;
       none = c.clear.ensures;
