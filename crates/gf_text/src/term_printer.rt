@@ -12,12 +12,17 @@ use gf_outside::{Sink, WriteFault, write_all};
 use gf_poly::{Mono, Poly, Term};
 use itoa::Buffer;
 
-/// Writes bytes.
+/// Writes bytes. Most pieces are one byte or two, the names and exponents of small rings: such a piece is offered with its length known, since the copy of
+/// a piece of unknown length is a call.
 fn write_bytes<E: Sink>(sink: &mut E, bytes: &[u8]) -> Result<(), WriteFault>
     ensures { Told (E.held sink.old) (E.held sink.new) (E.faults sink.old) (E.faults sink.new) bytes.now
         result }
 {
-    write_all(sink, bytes)
+    match bytes {
+        [byte] => write_all(sink, &[*byte]),
+        [first, second] => write_all(sink, &[*first, *second]),
+        _ => write_all(sink, bytes),
+    }
 }
 
 /// Writes a text.

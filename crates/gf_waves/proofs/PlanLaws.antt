@@ -5,14 +5,15 @@
 use Rattle.std.proofs.Common.{◌≡◌, ℕ, zero, suc, ◌<◌, ◌≤◌, ◌+◌, ◌-◌, ◌*◌, min, List, [], ◌∷◌, ◌++◌, length, refl, sym, ap, subst, ◌∙◌, append_assoc, arith}
 use Rattle.std.proofs.Common.{get_or, length-append, append-nil, replicate, take, drop}
 use Rattle.std.specs.Vec.{vec_capacity}
+use Rattle.std.specs.VecDeque.{deque_capacity}
 use Rattle.std.proofs.Math.Nat.{suc-mul}
 use Rattle.gf_reverse_search.specs.Place.{Place}
 use Rattle.gf_reverse_search.specs.declared.expand.Piece.{Piece}
 use Rattle.gf_waves.specs.declared.job.Slot.{Slot}
 use Rattle.gf_waves.specs.declared.job.Job.{Job}
 use Rattle.gf_waves.specs.Frontier.{job_number, first_job, behind_job, renewed, walkers_of}
-use Rattle.gf_waves.specs.Plans.{IsPlanned, IsSpare, AreSpare, IsFit, AreFit, IsJobFit, AreFreeJobs, AreNumbered, IsDealt, hands_of, AreExpanded, IsWorked}
-use Rattle.gf_waves.specs.Plans.{worked_rows, piles_of, gather}
+use Rattle.gf_waves.specs.Plans.{IsPlanned, IsSpare, AreSpare, IsFit, AreFit, IsJobFit, IsSpareRow, AreFreeJobs, AreNumbered, IsDealt, hands_of, AreExpanded}
+use Rattle.gf_waves.specs.Plans.{IsWorked, worked_rows, piles_of, gather}
 use Rattle.gf_waves.specs.Wave.{IsWaved, ExpandsOn}
 
 -- ---- the pieces of a job
@@ -97,7 +98,7 @@ module _ {T N L E : Type 0} where
 
   pub free_more : (m : ℕ) (js : List (Job T N L E)) (j : Job T N L E) → AreFreeJobs m js → AreFreeJobs m (j ∷ []) → AreFreeJobs m (js ++ j ∷ [])
   free_more m [] j a b = b
-  free_more m (i ∷ js) j a b = (a.0, a.1, a.2, a.3, free_more m js j a.4 b)
+  free_more m (i ∷ js) j a b = (a.0, a.1, a.2, a.3, a.4, free_more m js j a.5 b)
 
   pub numbered_more : (n : ℕ) (js : List (Job T N L E)) (j : Job T N L E) → AreNumbered n js → j.number ≡ job_number (n + length js) →
       AreNumbered n (js ++ j ∷ [])
@@ -152,7 +153,8 @@ module _ {T N L E : Type 0} where
   -- the jobs, while so many places are to be dealt out
   abbrev pub IsOpenHand : ℕ → Job T N L E → Type 0
   IsOpenHand m j = AreFit j.slots.items × (j.worked.items ≡ []) × (length j.slots.items + m ≤ vec_capacity j.slots) ×
-      (length j.slots.items + m ≤ vec_capacity j.worked)
+      (length j.slots.items + m ≤ vec_capacity j.worked) ×
+      IsSpareRow j.spare.items (deque_capacity j.spare)
 
   abbrev pub AreOpenHands : ℕ → List (Job T N L E) → Type 0
   AreOpenHands m [] = Unit {0}
@@ -164,12 +166,12 @@ module _ {T N L E : Type 0} where
       let none : length j.slots.items ≡ 0 = ap length a.0 in
       let room = a.2 in
       let place = a.3 in
-      ((subst AreFit (sym a.0) tt, a.1, omega (arith, none, room), omega (arith, none, place)), free_hands m js a.4)
+      ((subst AreFit (sym a.0) tt, a.1, omega (arith, none, room), omega (arith, none, place), a.4), free_hands m js a.5)
 
   none_at : (m : ℕ) (js : List (Job T N L E)) → AreFreeJobs m js → (i : ℕ) (d : List (Slot T N L E)) → i < length (hands_of js) → get_or (hands_of js) i d ≡ []
   none_at m [] a i d h = absurd (omega (arith, h))
   none_at m (j ∷ js) a zero d h = a.0
-  none_at m (j ∷ js) a (suc i) d h = none_at m js a.4 i d (omega (arith, h))
+  none_at m (j ∷ js) a (suc i) d h = none_at m js a.5 i d (omega (arith, h))
 
   pub free_dealt : (m : ℕ) (js : List (Job T N L E)) → AreFreeJobs m js → IsDealt [] (hands_of js)
   free_dealt m js a = none_at m js a
@@ -180,11 +182,11 @@ module _ {T N L E : Type 0} where
 
   pub hands_fewer : (m : ℕ) (js : List (Job T N L E)) → AreOpenHands (suc m) js → AreOpenHands m js
   hands_fewer m [] a = tt
-  hands_fewer m (j ∷ js) a = (let h = a.0 in let x = h.2 in let y = h.3 in ((h.0, h.1, omega (arith, x), omega (arith, y)), hands_fewer m js a.1))
+  hands_fewer m (j ∷ js) a = (let h = a.0 in let x = h.2 in let y = h.3 in ((h.0, h.1, omega (arith, x), omega (arith, y), h.4), hands_fewer m js a.1))
 
   pub hands_fit : (m : ℕ) (js : List (Job T N L E)) → AreOpenHands m js → (i : ℕ) (d : Job T N L E) → i < length js → IsJobFit (get_or js i d)
   hands_fit m [] a i d h = absurd (omega (arith, h))
-  hands_fit m (j ∷ js) a zero d h = (let x = a.0 in let y = x.3 in (x.0, x.1, omega (arith, y)))
+  hands_fit m (j ∷ js) a zero d h = (let x = a.0 in let y = x.3 in (x.0, x.1, omega (arith, y), x.4))
   hands_fit m (j ∷ js) a (suc i) d h = hands_fit m js a.1 i d (omega (arith, h))
 
 -- ---- a row that was cut up, dealt out, worked on and put together again

@@ -15,7 +15,7 @@ use Rattle.gf_waves.specs.Wave.{ExpandsOn, IsExpansion}
 
 -- the place has no pieces yet, and room for those that it may have
 abbrev pub IsSpare : {T N L E : Type 0} → Slot T N L E → Type 0
-IsSpare s = (s.row.items ≡ []) × (s.done.items ≡ []) × (40 ≤ deque_capacity s.row) × (40 ≤ deque_capacity s.done)
+IsSpare s = (s.row.items ≡ []) × (40 ≤ deque_capacity s.row)
 
 -- each of them
 abbrev pub AreSpare : {T N L E : Type 0} → List (Slot T N L E) → Type 0
@@ -24,7 +24,7 @@ AreSpare (s ∷ ss) = IsSpare s × AreSpare ss
 
 -- the place has at most eight pieces, and room for all that they may become
 abbrev pub IsFit : {T N L E : Type 0} → Slot T N L E → Type 0
-IsFit s = (s.done.items ≡ []) × (length s.row.items ≤ 8) × (40 ≤ deque_capacity s.row) × (40 ≤ deque_capacity s.done)
+IsFit s = (length s.row.items ≤ 8) × (40 ≤ deque_capacity s.row)
 
 -- each of them
 abbrev pub AreFit : {T N L E : Type 0} → List (Slot T N L E) → Type 0
@@ -40,10 +40,15 @@ IsPlanned {T} {N} {L} {E} (suc m) olds slots tail =
 
 -- ---- dealing out
 
+-- a row without pieces, which has room for those of a place
+abbrev pub IsSpareRow : {P : Type 0} → List P → ℕ → Type 0
+IsSpareRow pieces capacity = (pieces ≡ []) × (40 ≤ capacity)
+
 -- the jobs have no places yet, and room for so many
 abbrev pub AreFreeJobs : {T N L E : Type 0} → ℕ → List (Job T N L E) → Type 0
 AreFreeJobs m [] = Unit {0}
-AreFreeJobs m (j ∷ js) = (j.slots.items ≡ []) × (j.worked.items ≡ []) × (m ≤ vec_capacity j.slots) × (m ≤ vec_capacity j.worked) × AreFreeJobs m js
+AreFreeJobs m (j ∷ js) = (j.slots.items ≡ []) × (j.worked.items ≡ []) × (m ≤ vec_capacity j.slots) × (m ≤ vec_capacity j.worked) ×
+    IsSpareRow j.spare.items (deque_capacity j.spare) × AreFreeJobs m js
 
 -- their numbers are n and those after it; at its last value a number stays
 abbrev pub AreNumbered : {T N L E : Type 0} → ℕ → List (Job T N L E) → Type 0
@@ -87,7 +92,8 @@ AreExpanded lt up refuses k n (s ∷ ss) (row ∷ rows) =
 
 -- the job has places that are to be worked on, and room for what they become
 abbrev pub IsJobFit : {T N L E : Type 0} → Job T N L E → Type 0
-IsJobFit j = AreFit j.slots.items × (j.worked.items ≡ []) × (length j.slots.items ≤ vec_capacity j.worked)
+IsJobFit j = AreFit j.slots.items × (j.worked.items ≡ []) × (length j.slots.items ≤ vec_capacity j.worked) ×
+    IsSpareRow j.spare.items (deque_capacity j.spare)
 
 -- each of them, by its index
 abbrev pub AreFitAt : {T N L E : Type 0} → List (Job T N L E) → Type 0

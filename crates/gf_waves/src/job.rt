@@ -3,28 +3,29 @@ ghost use Rattle.std.specs.Prelude.{◌<◌, ◌≤◌, ◌+◌, ◌-◌, ◌*�
 ghost use Rattle.std.specs.Vec.{vec_capacity};
 ghost use Rattle.std.specs.VecDeque.{deque_capacity};
 ghost use Rattle.gf_reverse_search.specs.Pieces.{RefusesAt};
-ghost use Rattle.gf_waves.specs.Plans.{IsExpanded, IsFit, IsJobFit, IsOn, IsWorked};
+ghost use Rattle.gf_waves.specs.Plans.{IsExpanded, IsFit, IsJobFit, IsOn, IsSpareRow, IsWorked};
 ghost use Rattle.gf_waves.specs.Wave.{ExpandsOn};
 
 use crate::Gate;
-use crate::rows::{push, push_before, put_before, put_behind};
+use crate::rows::{move_behind, push, push_before, put_before};
 use gf_reverse_search::{Piece, ReusingTree, Tree, Walker};
 use std::alloc::Global;
 use std::collections::VecDeque;
 
-/// A place of a job: the pieces of the row that stand there, and a row for what is done with.
+/// A place of a job: the pieces of the row that stand there.
 #[derive(Drop)]
 pub struct Slot<T: Tree> {
     pub row: VecDeque<Piece<T>>,
-    pub done: VecDeque<Piece<T>>,
 }
 
-/// A job of a wave: its places in list order, what the places became that were worked on, and its number.
+/// A job of a wave: its places in list order, what the places became that were worked on, its number, and a row for what is done with. The row of a
+/// place that was worked on is that of the next one.
 #[derive(Drop)]
 pub struct Job<T: Tree> {
     pub slots: Vec<Slot<T>>,
     pub worked: Vec<VecDeque<Piece<T>>>,
     pub number: u64,
+    pub spare: VecDeque<Piece<T>>,
 }
 
 /// Expands a walker before a row: into its node, its next child's subtree and what follows. A refusal stays with the walker.
@@ -86,28 +87,31 @@ fn step<T: ReusingTree>(
 }
 
 /// What the row of a place becomes by so many expansions of the first walker that there is, or by fewer, where there is no room for
-/// two pieces more, of so many; and how many expansions and how much room are left.
+/// two pieces more, of so many; how many expansions and how much room are left; and a row without pieces. What is done with goes into a row that is given.
 fn expand_on<T: ReusingTree>(
     alloc: Global,
     slot: Slot<T>,
+    mut done: VecDeque<Piece<T>>,
     times: usize,
     room: usize,
     store: &mut T::Store,
-) -> (VecDeque<Piece<T>>, usize, usize)
+) -> (VecDeque<Piece<T>>, usize, usize, VecDeque<Piece<T>>)
     requires fit { IsFit slot }
+    requires spare { IsSpareRow done.items (deque_capacity done) }
     requires few_more { room ≤ 32 }
     ensures on { ExpandsOn T.before T.up (RefusesAt T.up T.refuses) times room slot.row.items result.1 result.2 result.0.items }
     ensures few { length result.0.items + result.2 ≤ length slot.row.items + room }
+    ensures spare { IsSpareRow result.3.items (deque_capacity result.3) }
 {
-    let Slot { mut row, mut done } = slot;
+    let Slot { mut row } = slot;
     let limit = row.len() + room;
     let mut left = times;
     while left > 0 && !row.is_empty() && done.len() + row.len() + 1 < limit {
         left = step(alloc, &mut done, &mut row, left, limit, store);
     }
-    put_behind(&mut done, row);
+    move_behind(&mut done, &mut row);
     let rest = limit - done.len();
-    (done, left, rest)
+    (done, left, rest, row)
 }
 
 /// Puts what a place became behind what those before became, where there is room.
@@ -139,13 +143,22 @@ pub fn work<T: ReusingTree, G: Gate>(
         mut slots,
         mut worked,
         number,
+        mut spare,
     } = job;
     let mut store = T::store(alloc);
     let mut left = times;
     let mut free = room;
     while !slots.is_empty() {
-        let (row, fewer, less) = expand_on(alloc, slots.remove(0), left, free, &mut store);
+        let (row, fewer, less, empty) = expand_on(
+            alloc,
+            slots.remove(0),
+            spare,
+            left,
+            free,
+            &mut store,
+        );
         keep(&mut worked, row);
+        spare = empty;
         left = fewer;
         free = less.min(32);
     }
@@ -153,5 +166,6 @@ pub fn work<T: ReusingTree, G: Gate>(
         slots,
         worked,
         number,
+        spare,
     }
 }

@@ -23,15 +23,15 @@ pub fn spare_slots<T: Tree>(alloc: Global, count: usize) -> Result<Vec<Slot<T>>,
     let mut slots = Vec::with_capacity(alloc, count)?;
     while slots.len() < count {
         let row = VecDeque::with_capacity(alloc, 40)?;
-        let done = VecDeque::with_capacity(alloc, 40)?;
-        if slots.push(Slot { row, done }).is_err() {
+        if slots.push(Slot { row }).is_err() {
             unreachable!();
         }
     }
     Ok(slots)
 }
 
-/// So many jobs without places, each with room for so many, numbered from `first` on. At its last value the number stays.
+/// So many jobs without places, each with room for so many and with a row for what is done with, numbered from `first` on. At its last value the number
+/// stays.
 ///
 /// # Errors
 ///
@@ -52,10 +52,12 @@ pub fn spare_jobs<T: Tree>(
         let slots = Vec::with_capacity(alloc, places)?;
         let worked = Vec::with_capacity(alloc, places)?;
         let number = first.saturating_add(jobs.len() as u64);
+        let spare = VecDeque::with_capacity(alloc, 40)?;
         let job = Job {
             slots,
             worked,
             number,
+            spare,
         };
         if jobs.push(job).is_err() {
             unreachable!();
@@ -131,12 +133,9 @@ pub fn plan<T: Tree>(
     ensures { IsPlanned (length spares.items) row.old.items slots.new.items row.new.items }
 {
     while let Some(spare) = spares.pop() {
-        let Slot {
-            row: mut pieces,
-            done,
-        } = spare;
+        let Slot { row: mut pieces } = spare;
         cut(row, &mut pieces);
-        let slot = Slot { row: pieces, done };
+        let slot = Slot { row: pieces };
         add(slots, slot);
     }
 }

@@ -38,13 +38,24 @@ pub fn put_before<T: Tree>(row: &mut VecDeque<Piece<T>>, mut pieces: Vec<Piece<T
     }
 }
 
+/// Moves the pieces of a row behind another that has room for them.
+pub fn move_behind<T: Tree>(row: &mut VecDeque<Piece<T>>, pieces: &mut VecDeque<Piece<T>>)
+    requires { length row.old.items + length pieces.old.items ≤ deque_capacity row.old }
+    ensures items { row.new.items ≡ row.old.items ++ pieces.old.items }
+    ensures room { deque_capacity row.old ≤ deque_capacity row.new }
+    ensures empty { pieces.new.items ≡ [] }
+    ensures kept { deque_capacity pieces.new ≡ deque_capacity pieces.old }
+{
+    if row.append(pieces).is_err() {
+        unreachable!();
+    }
+}
+
 /// Puts the pieces of a row behind another that has room for them.
 pub fn put_behind<T: Tree>(row: &mut VecDeque<Piece<T>>, mut pieces: VecDeque<Piece<T>>)
     requires { length row.old.items + length pieces.items ≤ deque_capacity row.old }
     ensures items { row.new.items ≡ row.old.items ++ pieces.items }
     ensures room { deque_capacity row.old ≤ deque_capacity row.new }
 {
-    if row.append(&mut pieces).is_err() {
-        unreachable!();
-    }
+    move_behind(row, &mut pieces);
 }

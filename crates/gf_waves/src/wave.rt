@@ -42,6 +42,7 @@ where
             slots: Vec::new(alloc),
             worked: Vec::new(alloc),
             number: 0,
+            spare: VecDeque::new(alloc),
         };
         let old = mem::replace(job, none);
         *job = work(alloc, gate, old, times, room);

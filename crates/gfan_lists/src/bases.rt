@@ -105,6 +105,9 @@ fn offer<K: Sink>(output: &mut K, piece: &[u8]) -> Result<(), Refusal>
     }
 }
 
+/// Room for the piece of a basis, so that most texts grow in place.
+const PIECE: usize = 1024;
+
 /// The piece of a basis alone: with the first one the line of the ring and a brace, with each other one what parts them.
 fn piece(
     alloc: Global,
@@ -115,7 +118,7 @@ fn piece(
     requires { basis.now.variables ≡ length ring.now }
     ensures { IfOk result (λ text. text.items ≡ basis_piece ring.now is_first (basis_text ring.now basis.now.items)) }
 {
-    let mut text = Vec::new(alloc);
+    let mut text = Vec::with_capacity(alloc, PIECE)?;
     if is_first {
         Printer::ring(&mut text, ring)?;
         text.push(b'{')?;

@@ -14,14 +14,14 @@ loop-left-init g c =
     let up = g.T.Tree.up in
     let refuses = RefusesAt up g.T.Tree.refuses in
     let row = c.args.slot.row.items in
-    let empty = c.requires.fit.0 in
-    let none : length c.args.slot.done.items ≡ 0 = ap length empty in
+    let empty = c.requires.spare.0 in
+    let none : length c.args.done.items ≡ 0 = ap length empty in
     record {
       on = λ n j i news e h. subst (ExpandsOn lt up refuses c.args.times c.args.room row j i) (sym (ap (λ d. d ++ news) empty))
           (subst (λ k. ExpandsOn lt up refuses c.args.times k row j i news) (let k : n ≡ c.args.room = omega (arith, e, none) in k) h);
       few = omega (arith, none);
-      room = c.requires.fit.2;
-      room_for_done = c.requires.fit.3;
+      room = c.requires.fit.1;
+      room_for_done = c.requires.spare.1;
     }
 
 pub loop-left-preserved : goal.loop-left-preserved
@@ -69,10 +69,10 @@ returns-clause-on g c =
           inr (inl (omega (arith, e, k)))
       | else-loop-left-test w ↦ inl (let e = w.loop-left-test.false in omega (arith, e))
     ] in
-    let long = ap length c.put_behind.ensures.items in
+    let long = ap length c.move_behind.ensures.items in
     let parts = length-append l.done.items l.row.items in
-    let end : c.len-2.result ≡ length c.put_behind.new.row.items = search rules in
+    let end : c.len-2.result ≡ length c.move_behind.new.row.items = search rules in
     let same : n ≡ c.len.result + c.args.room - c.len-2.result = omega (arith, start, end, long, parts) in
-    subst (λ m. ExpandsOn lt up refuses c.args.times c.args.room row l.left m c.put_behind.new.row.items) same
-    (subst (ExpandsOn lt up refuses c.args.times c.args.room row l.left n) (sym c.put_behind.ensures.items)
+    subst (λ m. ExpandsOn lt up refuses c.args.times c.args.room row l.left m c.move_behind.new.row.items) same
+    (subst (ExpandsOn lt up refuses c.args.times c.args.room row l.left n) (sym c.move_behind.ensures.items)
     (l.invariant.on n l.left n l.row.items refl (on_over lt up refuses l.left n l.row.items over)))

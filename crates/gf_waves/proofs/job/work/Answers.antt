@@ -1,5 +1,7 @@
-use Rattle.std.proofs.Common.{◌≡◌, ◌<◌, min, ◌++◌, ◌∷◌, map, length, sym, ap, subst, rules, arith}
+use Rattle.std.proofs.Common.{◌≡◌, ◌<◌, min, ◌++◌, ◌∷◌, map, length, ◌∙◌, sym, ap, subst, rules, arith}
+use Rattle.std.proofs.lemmas.Bool.{eqb-true}
 use Rattle.std.proofs.lemmas.List.{length_push}
+use Rattle.std.specs.Vec.{vec_len}
 use Rattle.gf_reverse_search.specs.Pieces.{RefusesAt}
 use Rattle.gf_waves.specs.Plans.{AreExpanded, AreFit}
 use Rattle.gf_waves.proofs.JobLaws.{worked_more, worked_over, map_more}
@@ -17,6 +19,7 @@ loop-alloc-init g c =
       fit = c.requires.fit.0;
       few = (let a = c.requires.room in omega (arith, a));
       room = (let a = ap length none in let b = c.requires.fit.2 in omega (arith, a, b));
+      spare = c.requires.fit.3;
     }
 
 pub expand_on-row-requires-clause-fit : goal.expand_on-row-requires-clause-fit
@@ -55,11 +58,12 @@ loop-alloc-preserved g c =
       few = search rules;
       room = (let a = ap length slots in let b = ap length c.keep.ensures.items in let d = length_push l.worked.items row in let e = l.invariant.room in let f =
           c.keep.ensures.room in omega (arith, a, b, d, e, f));
+      spare = c.expand_on-row.ensures.spare;
     }
 
 pub returns : goal.returns
 returns g c =
     let l = c.loop-alloc in
-    let none : length l.slots.items ≡ 0 = search rules in
+    let none : length l.slots.items ≡ 0 = (let e = eqb-true (vec_len l.slots) 0 (sym c.is_empty.ensures ∙ c.loop-alloc-test.false) in omega (arith, e)) in
     worked_over g.T.Tree.before g.T.Tree.up (RefusesAt g.T.Tree.up g.T.Tree.refuses) c.args.times c.args.room l.left l.free c.args.job.slots.items l.slots.items
     (map (λ d. d.items) l.worked.items) none l.invariant.on

@@ -1,7 +1,8 @@
 use Rattle.std.proofs.Common.{◌+◌, ◌≤◌, map, length}
 use Rattle.std.specs.Vec.{vec_capacity}
+use Rattle.std.specs.VecDeque.{deque_capacity}
 use Rattle.gf_reverse_search.specs.Pieces.{RefusesAt}
-use Rattle.gf_waves.specs.Plans.{AreFit}
+use Rattle.gf_waves.specs.Plans.{AreFit, IsSpareRow}
 use Rattle.gf_waves.proofs.JobLaws.{GoesOn}
 use Rattle.gf_waves.proofs.job.work.Given as goal
 
@@ -13,6 +14,7 @@ invariant-loop-alloc g l = record {
   fit : AreFit l.slots.items;
   few : l.free ≤ 32;
   room : length l.slots.items + length l.worked.items ≤ vec_capacity l.worked;
+  spare : IsSpareRow l.spare.items (deque_capacity l.spare);
 }
 
 abbrev pub decreases-loop-alloc : goal.decreases-loop-alloc

@@ -42,7 +42,7 @@ loop-slot-preserved g c =
     let news = c.insert-in-Some.new.self.items in
     let jobs : l.jobs.items ≡ init ++ job ∷ [] = search rules in
     let last : l.slots.items ≡ fewer ++ slot ∷ [] = search rules in
-    let is : news ≡ record { slots = c.insert.new.self; worked = job.worked; number = job.number } ∷ init = search rules in
+    let is : news ≡ record { slots = c.insert.new.self; worked = job.worked; number = job.number; spare = job.spare } ∷ init = search rules in
     let more : c.insert.new.self.items ≡ slot ∷ job.slots.items = search rules in
     let both = hands_last (length l.slots.items) init job (subst (AreOpenHands (length l.slots.items)) jobs l.invariant.open_hands) in
     let hand = both.1 in
@@ -59,12 +59,12 @@ loop-slot-preserved g c =
       dealt = (
         slot ∷ dealt.0,
         last_over c.args.slots.items l.slots.items fewer dealt.0 slot dealt.1 last,
-        dealt_first slot dealt.0 l.jobs.items init news job (record { slots = c.insert.new.self; worked = job.worked; number = job.number })
+        dealt_first slot dealt.0 l.jobs.items init news job (record { slots = c.insert.new.self; worked = job.worked; number = job.number; spare = job.spare })
             jobs is more dealt.2,
       );
       fit = fit.0;
       open_hands = subst (AreOpenHands (length fewer)) (sym is) (
-        (subst AreFit (sym more) (fit.1, hand.0), hand.1, omega (arith, fits, less, grown, kept), omega (arith, worked, less, grown)),
+        (subst AreFit (sym more) (fit.1, hand.0), hand.1, omega (arith, fits, less, grown, kept), omega (arith, worked, less, grown), hand.4),
         hands_fewer (length fewer) init (subst (λ m. AreOpenHands m init) less both.0),
       );
       count = (let a = ap length is in let b = ap length jobs in let d = length_push init job in let e = l.invariant.count in omega (arith, a, b, d, e));

@@ -13,7 +13,7 @@ cut-requires-clause-empty g c =
 pub cut-requires-clause-room : goal.cut-requires-clause-room
 cut-requires-clause-room g c =
     let last : c.loop-spare.spares.items ≡ c.pop.new.self.items ++ c.in-Some.spare ∷ [] = search rules in
-    (spare_last c.pop.new.self.items c.in-Some.spare (subst AreSpare last c.loop-spare.invariant.spare)).1.2
+    (spare_last c.pop.new.self.items c.in-Some.spare (subst AreSpare last c.loop-spare.invariant.spare)).1.1
 
 -- the pieces in front become a place
 pub loop-spare-preserved : goal.loop-spare-preserved
@@ -28,15 +28,15 @@ loop-spare-preserved g c =
     let push = length_push fewer c.in-Some.spare in
     let less : length l.spares.items ≡ suc (length fewer) = omega (arith, long, push) in
     let kept = c.cut.ensures.room in
-    let cap = spare.2 in
+    let cap = spare.1 in
     let enough : 40 ≤ deque_capacity c.cut.new.slot = omega (arith, kept, cap) in
     record {
       spare = both.0;
       planned = goes_place (length c.args.spares.items) c.args.row.now.items (length l.spares.items) (length fewer) l.row.items c.cut.new.row.items
-          l.slots.items more (record { row = c.cut.new.slot; done = c.in-Some.spare.done }) less c.cut.ensures.rest
-          (spare.1, c.cut.ensures.few, enough, spare.3) c.cut.ensures.job c.add.ensures.items l.invariant.planned;
+          l.slots.items more (record { row = c.cut.new.slot }) less c.cut.ensures.rest
+          (c.cut.ensures.few, enough) c.cut.ensures.job c.add.ensures.items l.invariant.planned;
       room = (let a = l.invariant.room in let b = c.add.ensures.room in let d = ap length c.add.ensures.items in let e =
-          length_push l.slots.items (record { row = c.cut.new.slot; done = c.in-Some.spare.done }) in omega (arith, a, b, d, e, less));
+          length_push l.slots.items (record { row = c.cut.new.slot }) in omega (arith, a, b, d, e, less));
     }
 
 pub add-requires : goal.add-requires

@@ -7,11 +7,9 @@ use Rattle.gf_waves.proofs.planning.spare_slots.Goals as goal
 pub loop-alloc-preserved : goal.loop-alloc-preserved
 loop-alloc-preserved g c =
     let l = c.loop-alloc in
-    let is : c.push.new.self.items ≡ l.slots.items ++ record { row = c.in_ok-row.row; done = c.in_ok-done.done } ∷ [] = search rules in
+    let is : c.push.new.self.items ≡ l.slots.items ++ record { row = c.in_ok-row.row } ∷ [] = search rules in
     record {
-      spare = subst AreSpare (sym is) (spare_more l.slots.items (record { row = c.in_ok-row.row; done = c.in_ok-done.done }) l.invariant.spare (
-        search rules,
-        search rules,
+      spare = subst AreSpare (sym is) (spare_more l.slots.items (record { row = c.in_ok-row.row }) l.invariant.spare (
         search rules,
         search rules,
       ));
