@@ -5,3 +5,4 @@ pub mod FaceLaws  -- one face tried; what is refused there
 pub mod CutLaws  -- what a cone and rows share
 pub mod LimitLaws  -- within limits only memory may be wanting
 pub mod SameLaws  -- lists that are the same up to a place
+pub mod PassingLaws  -- vectors that passed at a basis

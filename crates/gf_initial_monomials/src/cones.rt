@@ -2,14 +2,17 @@
 ghost use Rattle.std.specs.Prelude.{◌≡◌, ◌++◌, ◌<◌, IfOk, IfErr};
 ghost use Rattle.gf_gordan.specs.Alternative.{AreRows};
 ghost use Rattle.gf_gordan.specs.Steps.{Failed};
+ghost use Rattle.gf_duality_theory.specs.Faces.{cone_of};
 ghost use Rattle.gf_rays.specs.Cones.{rows_of};
 ghost use Rattle.gf_rays.specs.Reached.{IsRaysStep};
 ghost use Rattle.gf_initial_monomials.specs.Outcomes.{IsCutBy, HasOutcome};
+ghost use Rattle.gf_initial_monomials.specs.Passing.{AreKnownIn, ArePassedIn};
 ghost use Rattle.gf_initial_monomials.specs.Refusals.{IsConeRefusal};
 ghost use Rattle.gf_initial_monomials.specs.Limits.{AreFacesWithinLimits, IsMemoryWanted};
 
 use crate::error::InitialError;
 use crate::faces::at_faces;
+use crate::passed::Passed;
 use crate::seen::Seen;
 use gf_gordan::GordanError;
 use gf_poly::{MarkedSet, ROOM};
@@ -17,17 +20,33 @@ use gf_rays::Rays;
 use gf_vec::{IntVec, copied, joined};
 use std::alloc::Global;
 
-/// The part of a cone on which none of the rows is negative.
+/// The part of a cone on which none of the rows is negative, by a double description of all rows.
 ///
 /// # Errors
 /// `Cone`: an operation of finding its rays leaves its range. `Memory`: memory runs out.
-fn cut_by(alloc: Global, cone: &Rays, rows: &[IntVec]) -> Result<Rays, GordanError>
+fn cut_anew(alloc: Global, cone: &Rays, rows: &[IntVec]) -> Result<Rays, GordanError>
     requires { AreRows cone.now.ambient rows.now }
     ensures ok { IfOk result (IsCutBy (rows_of cone.now) cone.now.ambient rows.now) }
     ensures err { IfErr result (Failed (IsRaysStep cone.now.ambient (cone.now.inequalities ++ rows.now) cone.now.equations)) }
 {
     let inequalities = joined(copied(alloc, cone.inequalities())?, rows)?;
     Rays::of(alloc, cone.ambient(), &inequalities, cone.equations())
+}
+
+/// The part of a cone on which none of the rows is negative: by a double description that begins with the rays of the cone, and where that is
+/// refused, by one of all rows.
+///
+/// # Errors
+/// `Cone`: an operation of finding its rays by all rows leaves its range. `Memory`: memory runs out.
+fn cut_by(alloc: Global, cone: &Rays, rows: &[IntVec]) -> Result<Rays, GordanError>
+    requires { AreRows cone.now.ambient rows.now }
+    ensures ok { IfOk result (IsCutBy (rows_of cone.now) cone.now.ambient rows.now) }
+    ensures err { IfErr result (Failed (IsRaysStep cone.now.ambient (cone.now.inequalities ++ rows.now) cone.now.equations)) }
+{
+    match cone.with_more(rows) {
+        Ok(cut) => Ok(cut),
+        Err(_) => cut_anew(alloc, cone, rows),
+    }
 }
 
 /// The first vector that fails of the intersection of the cone with the cone of the rows.
@@ -41,25 +60,28 @@ fn first_failing(
     cone: &Rays,
     pairs: u64,
     seen: &mut Seen,
+    passed: &mut Passed,
 ) -> Result<Option<IntVec>, InitialError>
     requires room { basis.now.variables < ROOM }
     requires ambient { cone.now.ambient ≡ basis.now.variables }
     requires normals { AreRows basis.now.variables normals.now }
     requires seen { seen.old ≡ basis.now.variables }
+    requires known { AreKnownIn basis.now.variables basis.now.items (cone_of normals.now) passed.old }
     ensures seen { seen.new ≡ seen.old }
+    ensures passed { IfOk result (λ _. ArePassedIn basis.now.variables basis.now.items (cone_of normals.now) passed.old passed.new) }
     ensures ok { IfOk result (HasOutcome basis.now.variables basis.now.items normals.now (rows_of cone.now)) }
     ensures err { IfErr result (IsConeRefusal basis.now.variables basis.now.items normals.now (rows_of cone.now) pairs) }
 {
     let cut = cut_by(alloc, cone, normals)?;
     let faces = cut.faces()?;
-    at_faces(alloc, basis, &cut, &faces, pairs, seen)
+    at_faces(alloc, basis, &cut, &faces, pairs, seen, passed)
 }
 
 /// The first vector that fails of a cone and a Gröbner basis, whose `normals` are those of its closed cone; none if all pass. For each face
 /// of the intersection of the two cones, by dimension and then by the numbers of its rays, the sum of its rays is tested, a vector with an
 /// entry for each variable: it fails if the ideal of the initial forms of the basis at it has a polynomial with a single term. Each run of
 /// Buchberger's algorithm settles at most `pairs` pairs. Initial forms in `seen`, those that passed at this basis before, are not tested
-/// again; those that pass now are added.
+/// again, nor are vectors in `passed`, which are known to pass where they are in the closed cone; those that pass now are added to both.
 ///
 /// # Errors
 ///
@@ -78,15 +100,18 @@ pub fn at_cone(
     cone: &Rays,
     pairs: u64,
     seen: &mut Seen,
+    passed: &mut Passed,
 ) -> Result<Option<IntVec>, InitialError>
     requires room { basis.now.variables < ROOM }
     requires ambient { cone.now.ambient ≡ basis.now.variables }
     requires normals { AreRows basis.now.variables normals.now }
     requires seen { seen.old ≡ basis.now.variables }
+    requires known { AreKnownIn basis.now.variables basis.now.items (cone_of normals.now) passed.old }
     ensures seen { seen.new ≡ seen.old }
+    ensures passed { IfOk result (λ _. ArePassedIn basis.now.variables basis.now.items (cone_of normals.now) passed.old passed.new) }
     ensures ok { IfOk result (HasOutcome basis.now.variables basis.now.items normals.now (rows_of cone.now)) }
     ensures err { IfErr result (IsConeRefusal basis.now.variables basis.now.items normals.now (rows_of cone.now) pairs) }
     ensures complete { AreFacesWithinLimits basis.now.variables basis.now.items normals.now (rows_of cone.now) pairs → IfErr result IsMemoryWanted }
 {
-    first_failing(alloc, basis, normals, cone, pairs, seen)
+    first_failing(alloc, basis, normals, cone, pairs, seen, passed)
 }

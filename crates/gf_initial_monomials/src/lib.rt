@@ -8,10 +8,12 @@ mod cones;
 mod error;
 mod faces;
 mod forms;
+mod passed;
 mod seen;
 mod sums;
 mod vectors;
 
 pub use cones::at_cone;
 pub use error::InitialError;
+pub use passed::Passed;
 pub use seen::Seen;

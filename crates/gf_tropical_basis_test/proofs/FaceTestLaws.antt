@@ -1,4 +1,4 @@
--- What the outcome of a basis and a cone says of the test of all faces. To cite: passes, fails.
+-- What the outcome of a basis and a cone says of the test of all faces. To cite: closed_by, passes, fails.
 use Rattle.std.specs.Prelude.{None, Some}
 use Rattle.std.proofs.Common.{◌≡◌, ℕ, List, ◌++◌, ℤ, All, Contains, length, sym, ap₂, ◌∙◌, subst}
 use Rattle.std.proofs.lemmas.List.{append-nil}
@@ -29,7 +29,7 @@ use Rattle.gf_tropical_basis_test.specs.Verdicts.{HasBasisOutcome}
 
 -- ---- what the cone and the closed cone of the basis share
 
-closed_by : (n : ℕ) (bs : List MarkedPolynomial) (ns : List (List ℤ)) → AreCanonical n bs → AreNormals bs ns → IsClosedConeBy n bs (cone_of ns)
+pub closed_by : (n : ℕ) (bs : List MarkedPolynomial) (ns : List (List ℤ)) → AreCanonical n bs → AreNormals bs ns → IsClosedConeBy n bs (cone_of ns)
 closed_by n bs ns k a u lu = (
   λ i. closed_by_normals n bs u k (λ t m. up_in (cone_of ns) u t i (a.all t m)),
   λ c. is_in (cone_of ns) u (λ h m. normals_closed n bs u k c h (a.only h m)) (λ e m. absurd (none_in e m)),

@@ -4,6 +4,7 @@ pub mod MaximalConeLaws  -- the maximal cones of a prevariety are its cones
 pub mod PlaceLaws  -- the maximal cones of a fan by their places
 pub mod FaceTestLaws  -- what a basis and a cone say of the test of all faces
 pub mod WalkLaws  -- the bases one after another
+pub mod PassingLaws  -- vectors that passed at one basis pass at each other one
 pub mod VerdictLaws  -- the verdict is right
 pub mod EndLaws  -- the verdict of the whole
 pub mod LimitLaws  -- within limits only memory may be wanting

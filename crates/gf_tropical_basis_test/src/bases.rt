@@ -14,6 +14,7 @@ use crate::error::BasisTestError;
 use crate::verdict::Verdict;
 use gf_cone::Region;
 use gf_fan::Fan;
+use gf_initial_monomials::Passed;
 use gf_poly::{MarkedSet, ROOM};
 use gf_tree::{Walker, to_root};
 use std::alloc::Global;
@@ -37,9 +38,10 @@ fn from_root(
     ensures err { IfErr result (λ e. (fs : List Terms) (start : MarkedPolynomials) → IsStartOf fs start region.now root →
         AreBasesRefused start.variables fs (maximal_rows fan.now) pairs e) }
 {
+    let mut passed = Passed::new(alloc);
     let mut walker = Walker::at(alloc, root, region, pairs)?;
     while let Some(basis) = walker.advance()? {
-        let found = at_basis(alloc, &basis, fan, pairs)?;
+        let found = at_basis(alloc, &basis, fan, pairs, &mut passed)?;
         if let Some(v) = found {
             return Ok(Verdict::No(v));
         }

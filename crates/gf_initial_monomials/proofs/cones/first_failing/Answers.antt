@@ -6,6 +6,7 @@ use Rattle.gf_rays.specs.declared.faces.Face.{Face}
 use Rattle.gf_initial_monomials.specs.Outcomes.{IsCutBy, IsFirstThatFails, PassesAt, FailsAt}
 use Rattle.gf_initial_monomials.specs.Refusals.{IsConeRefusal, IsFaceRefusal}
 use Rattle.gf_initial_monomials.proofs.FaceLaws.{rays_refused}
+use Rattle.gf_initial_monomials.proofs.PassingLaws.{known_in_cut, passed_by_cut}
 use Rattle.gf_initial_monomials.proofs.cones.first_failing.Goals as goal
 
 pub cut_by-requires : goal.cut_by-requires
@@ -13,6 +14,13 @@ cut_by-requires c = subst (λ m. AreRows m c.args.normals.now) (sym c.requires.a
 
 pub at_faces-requires-clause-ambient : goal.at_faces-requires-clause-ambient
 at_faces-requires-clause-ambient c = c.in_ok-cut.ensures.ok.ambient ∙ c.requires.ambient
+
+pub at_faces-requires-clause-known : goal.at_faces-requires-clause-known
+at_faces-requires-clause-known c =
+    let is : IsCutBy (rows_of c.args.cone.now) c.args.basis.now.variables c.args.normals.now c.in_ok-cut.cut =
+    subst (λ m. IsCutBy (rows_of c.args.cone.now) m c.args.normals.now c.in_ok-cut.cut) c.requires.ambient c.in_ok-cut.ensures.ok in
+    known_in_cut c.args.basis.now.variables c.args.basis.now.items (rows_of c.args.cone.now) c.args.normals.now c.in_ok-cut.cut c.args.passed.now is
+    c.requires.known
 
 pub returns-in_err-cut-clause-err : goal.returns-in_err-cut-clause-err
 returns-in_err-cut-clause-err c =
@@ -32,6 +40,13 @@ returns-clause-ok c =
       outcome = subst (λ (z : List Face). IsFirstThatFails (PassesAt c.args.basis.now.items c.in_ok-cut.cut) (FailsAt c.args.basis.now.items c.in_ok-cut.cut)
           z v) c.deref.ensures.value o;
     }) c.at_faces.ensures.ok
+
+pub returns-clause-passed : goal.returns-clause-passed
+returns-clause-passed c =
+    let is : IsCutBy (rows_of c.args.cone.now) c.args.basis.now.variables c.args.normals.now c.in_ok-cut.cut =
+    subst (λ m. IsCutBy (rows_of c.args.cone.now) m c.args.normals.now c.in_ok-cut.cut) c.requires.ambient c.in_ok-cut.ensures.ok in
+    IfOk-weaker c.at_faces.result _ _ (λ v p. passed_by_cut c.args.basis.now.variables c.args.basis.now.items (rows_of c.args.cone.now) c.args.normals.now
+    c.in_ok-cut.cut c.args.passed.now c.at_faces.new.passed is p) c.at_faces.ensures.passed
 
 pub returns-clause-err : goal.returns-clause-err
 returns-clause-err c =

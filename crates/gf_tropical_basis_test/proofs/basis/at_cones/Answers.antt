@@ -2,11 +2,13 @@ use Rattle.std.specs.Prelude.{Option, None, Some}
 use Rattle.std.proofs.Common.{◌∙◌, ◌<◌, ◌≤◌, ℕ, List, ℤ, length, arith, sym, subst}
 use Rattle.std.proofs.lemmas.Result.{err_from_is_err_and}
 use Rattle.gf_gordan.specs.Alternative.{AreRows}
-use Rattle.gf_duality_theory.specs.Faces.{Rows}
+use Rattle.gf_duality_theory.specs.Faces.{Rows, cone_of}
 use Rattle.gf_rays.specs.Cones.{rows_of}
 use Rattle.gf_initial_monomials.specs.Outcomes.{HasOutcome}
 use Rattle.gf_initial_monomials.specs.Refusals.{IsConeRefusal}
+use Rattle.gf_initial_monomials.specs.Passing.{AreKnownIn, ArePassedIn}
 use Rattle.gf_initial_monomials.proofs.OutcomeLaws.{pass_none, pass_more, pass_all, reached}
+use Rattle.gf_initial_monomials.proofs.PassingLaws.{passed_none, passed_on, still_known}
 use Rattle.gf_tropical_basis_test.specs.Verdicts.{maximal_rows}
 use Rattle.gf_tropical_basis_test.specs.Refusals.{IsRefusedWithBasis}
 use Rattle.gf_tropical_basis_test.proofs.PlaceLaws.{rows_long}
@@ -16,6 +18,7 @@ pub places-init : goal.places-init
 places-init c = (
   pass_none (λ (d : Rows). HasOutcome c.args.basis.now.variables c.args.basis.now.items c.args.cone.now.normals d None) (maximal_rows c.args.fan.now),
   c.new-seen.ensures ∙ c.variables.ensures,
+  passed_none c.args.basis.now.variables c.args.basis.now.items (cone_of c.args.cone.now.normals) c.args.passed.now,
 )
 
 pub maximal_cone-maximal-requires : goal.maximal_cone-maximal-requires
@@ -26,6 +29,12 @@ at_cone-requires-clause-ambient c = c.maximal_cone-maximal.ensures.ambient ∙ c
 
 pub at_cone-requires-clause-normals : goal.at_cone-requires-clause-normals
 at_cone-requires-clause-normals c = subst (λ m. AreRows m c.normals.result.now) c.requires.cone.variables c.normals.ensures.widths
+
+pub at_cone-requires-clause-known : goal.at_cone-requires-clause-known
+at_cone-requires-clause-known c =
+    subst (λ (z : List (List ℤ)). AreKnownIn c.args.basis.now.variables c.args.basis.now.items (cone_of z) c.places.passed) (sym c.normals.ensures.value)
+    (still_known c.args.basis.now.variables c.args.basis.now.items (cone_of c.args.cone.now.normals) c.args.passed.now c.places.passed
+    (c.requires.known c.args.cone.now.normals c.requires.cone.normals) c.places.invariant.2)
 
 pub returns-in_err-found-clause-err : goal.returns-in_err-found-clause-err
 returns-in_err-found-clause-err c =
@@ -73,6 +82,9 @@ places-preserved c =
       pass_more (λ (d : Rows). HasOutcome c.args.basis.now.variables c.args.basis.now.items c.args.cone.now.normals d None) (maximal_rows c.args.fan.now)
           c.places.i (rows_of c.maximal_cone-maximal.result.now) (omega (arith, l, long)) c.maximal_cone-maximal.ensures.value o c.places.invariant.0,
       c.in_ok-found.ensures.seen ∙ c.places.invariant.1,
+      passed_on c.args.basis.now.variables c.args.basis.now.items (cone_of c.args.cone.now.normals) c.args.passed.now c.places.passed c.at_cone.new.passed
+          c.places.invariant.2 (subst (λ (z : List (List ℤ)). ArePassedIn c.args.basis.now.variables c.args.basis.now.items (cone_of z) c.places.passed
+          c.at_cone.new.passed) c.normals.ensures.value c.in_ok-found.ensures.passed),
     )
 
 pub returns-clause-ok : goal.returns-clause-ok
@@ -85,3 +97,15 @@ returns-clause-ok c =
       outcome = pass_all (λ (d : Rows). HasOutcome c.args.basis.now.variables c.args.basis.now.items c.args.cone.now.normals d None)
           (maximal_rows c.args.fan.now) c.places.i (omega (arith, l, long)) c.places.invariant.0;
     }
+
+pub returns-in-Some-clause-passed : goal.returns-in-Some-clause-passed
+returns-in-Some-clause-passed c = (
+  c.args.cone.now.normals,
+  c.requires.cone.normals,
+  passed_on c.args.basis.now.variables c.args.basis.now.items (cone_of c.args.cone.now.normals) c.args.passed.now c.places.passed c.at_cone.new.passed
+      c.places.invariant.2 (subst (λ (z : List (List ℤ)). ArePassedIn c.args.basis.now.variables c.args.basis.now.items (cone_of z) c.places.passed
+      c.at_cone.new.passed) c.normals.ensures.value c.in_ok-found.ensures.passed),
+)
+
+pub returns-clause-passed : goal.returns-clause-passed
+returns-clause-passed c = (c.args.cone.now.normals, c.requires.cone.normals, c.places.invariant.2)
