@@ -1,6 +1,7 @@
 -- The checks of a marked set of variables and differences of variables stay within their limits, and so does its printed weight.
 -- To cite: forms_marked, linear_checks_beside, linear_checks, set_differences, linear_weight, linear_weights. The rest are steps.
-use Rattle.std.proofs.Common.{◌≡◌, ℕ, ◌+◌, ◌<◌, ◌≤◌, ◌^◌, List, [], ◌++◌, length, map, All, Contains, ℤ, unsigned_abs, arith, refl, sym, ap, ◌∙◌, subst, inl, inr}
+use Rattle.std.proofs.Common.{◌≡◌, ℕ, ◌+◌, ◌<◌, ◌≤◌, ◌^◌, List, [], ◌++◌, length, map, All, Contains, ℤ, unsigned_abs}
+use Rattle.std.proofs.Common.{arith, refl, sym, ap, ◌∙◌, subst, inl, inr}
 use Rattle.std.proofs.lemmas.List.Elements.{All-nil, All-contains, Contains-append_left, Contains-append_cases}
 use Rattle.gf_exponents_theory.specs.Exponents.{Exponents, plus, join, degree}
 use Rattle.gf_exponents_theory.proofs.WeightLaws.{degree-plus, degree-same}

@@ -1,6 +1,7 @@
 -- The normals of a reduced basis of an ideal that differences of variables generate are differences of two entries, and in four variables there are at most
 -- three. To cite: linear_normals. The rest are steps.
-use Rattle.std.proofs.Common.{◌≡◌, ◌≢◌, ◌⊎◌, ℕ, ◌<◌, ◌≤◌, true, false, List, [], ◌∷◌, length, get_or, Some, None, Option, ℤ, pos, ◌-ℤ◌, Contains, arith, sym, ap₂, ◌∙◌, subst, inl, inr}
+use Rattle.std.proofs.Common.{◌≡◌, ◌≢◌, ◌⊎◌, ℕ, ◌<◌, ◌≤◌, true, false, List, [], ◌∷◌, length, get_or, Some, None, Option, ℤ, pos}
+use Rattle.std.proofs.Common.{◌-ℤ◌, Contains, arith, sym, ap₂, ◌∙◌, subst, inl, inr}
 use Rattle.std.proofs.lemmas.Bool.{cases_lt}
 use Rattle.gf_int_theory.proofs.ListLaws.{Contains-here}
 use Rattle.gf_vec.specs.Vector.{dot}
