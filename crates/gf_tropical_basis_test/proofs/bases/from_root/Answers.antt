@@ -19,7 +19,7 @@ use Rattle.gf_tropical_basis_test.proofs.bases.from_root.Goals as goal
 pub loop-walker-init : goal.loop-walker-init
 loop-walker-init c = (
   rw c.in_ok-walker.ensures (passed_none c.args.root.variables (maximal_rows c.args.fan.now) (walk_at c.args.root c.args.region.now c.args.pairs) c.requires.own),
-  rw c.new.ensures (free_none c.args.root.variables (polys c.args.root.items)),
+  rw c.new-passed.ensures (free_none c.args.root.variables (polys c.args.root.items)),
 )
 
 pub at_basis-requires-clause-room : goal.at_basis-requires-clause-room
