@@ -1,5 +1,5 @@
 -- Regions and certificates of few rows that are differences of two entries, in at most three variables, stay within their limits.
--- To cite: rows_small, regions_of_differences_fit, certificates_of_differences_fit. The rest are steps.
+-- To cite: rows_small, reached_rises, reached_room, turned_room, regions_of_differences_fit, certificates_of_differences_fit. The rest are steps.
 use Rattle.std.proofs.Common.{
   ◌≡◌,
   ◌⊎◌,
@@ -122,17 +122,17 @@ reached_some : (n k : ℕ) → 1 ≤ n → 1 ≤ reached_bound n 1 k
 reached_some n zero h = omega arith
 reached_some n (suc k) h = let p = reached_some n k h in let q = next_step n 1 (reached_bound n 1 k) h (omega arith) p in omega (arith, p, q)
 
-reached_rises : (n : ℕ) → 1 ≤ n → (k : ℕ) → reached_bound n 1 k ≤ reached_bound n 1 (suc k)
+pub reached_rises : (n : ℕ) → 1 ≤ n → (k : ℕ) → reached_bound n 1 k ≤ reached_bound n 1 (suc k)
 reached_rises n h k = next_step n 1 (reached_bound n 1 k) h (omega arith) (reached_some n k h)
 
-reached_room : (n : ℕ) → 1 ≤ n → n ≤ 3 → reached_bound n 1 5 < 2 ^ 127
+pub reached_room : (n : ℕ) → 1 ≤ n → n ≤ 3 → reached_bound n 1 5 < 2 ^ 127
 reached_room zero h l = absurd (omega arith)
 reached_room (suc zero) h l = omega arith
 reached_room (suc (suc zero)) h l = omega arith
 reached_room (suc (suc (suc zero))) h l = omega arith
 reached_room (suc (suc (suc (suc n)))) h l = absurd (omega arith)
 
-turned_room : (n : ℕ) → n ≤ 3 → turned_bound 1 n < 2 ^ 127
+pub turned_room : (n : ℕ) → n ≤ 3 → turned_bound 1 n < 2 ^ 127
 turned_room zero l = omega arith
 turned_room (suc zero) l = omega arith
 turned_room (suc (suc zero)) l = omega arith

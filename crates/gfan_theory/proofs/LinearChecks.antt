@@ -1,47 +1,16 @@
 -- The checks of a marked set of variables and differences of variables stay within their limits, and so does its printed weight.
--- To cite: linear_checks, set_differences, linear_weight, linear_weights. The rest are steps.
-use Rattle.std.proofs.Common.{
-  ◌≡◌,
-  ◌⊎◌,
-  ℕ,
-  ◌+◌,
-  ◌<◌,
-  ◌≤◌,
-  ◌^◌,
-  List,
-  [],
-  ◌∷◌,
-  ◌++◌,
-  length,
-  map,
-  All,
-  Contains,
-  Err,
-  ℤ,
-  unsigned_abs,
-  arith,
-  refl,
-  sym,
-  ap,
-  ◌∙◌,
-  subst,
-  inl,
-  inr,
-}
-use Rattle.std.proofs.lemmas.List.Elements.{All-nil, All-contains, Contains-append_cases}
-use Rattle.gf_exponents_theory.specs.Exponents.{Exponents, entry, plus, join, degree}
+-- To cite: forms_marked, linear_checks, node, set_differences, linear_weight, linear_weights. The rest are steps.
+use Rattle.std.proofs.Common.{◌≡◌, ℕ, ◌+◌, ◌<◌, ◌≤◌, ◌^◌, map, Contains, arith, refl, sym, ap, ◌∙◌, subst, inl, inr}
+use Rattle.gf_exponents_theory.specs.Exponents.{Exponents, plus, join, degree}
 use Rattle.gf_exponents_theory.proofs.WeightLaws.{degree-plus, degree-same}
-use Rattle.gf_int_theory.proofs.ListLaws.{all_by}
 use Rattle.gf_poly.specs.declared.error.PolyError.{PolyError}
 use Rattle.gf_poly.specs.declared.error.PolyError.TheVariants as errors
-use Rattle.gf_poly.specs.Polynomial.{Terms}
-use Rattle.gf_poly.specs.Marking.{MarkedPolynomial, MarkedPolynomials, HaveVariables, HasMarkedTerm, Each, polys, IsArranged}
-use Rattle.gf_ideal_theory.specs.Reduction.{IsMonicForm}
+use Rattle.gf_poly.specs.Marking.{MarkedPolynomial, MarkedPolynomials, HasMarkedTerm, polys, IsArranged}
 use Rattle.gf_ideal_theory.specs.Operands.{IsShiftOperation, IsSPolynomialExponents}
 use Rattle.gf_division.specs.SPolynomials.{AreMadeMonic}
 use Rattle.gf_ideal_theory.proofs.ListLaws.{each_contained}
 use Rattle.gf_ideal_theory.proofs.PieceLaws.{Contains-marked}
-use Rattle.gf_ideal_theory.proofs.StepLaws.{IsWithin, taken, monic-monomials}
+use Rattle.gf_ideal_theory.proofs.StepLaws.{taken, monic-monomials}
 use Rattle.gf_bases_theory.proofs.LawsHold.{only_ideals_count, marked_bases_are_reduced}
 use Rattle.gf_facets_theory.specs.Regions.{all_positive}
 use Rattle.gf_facets_theory.specs.MarkedBases.{IsBasisInRegion, IsMarkedReducedBasis}
@@ -53,13 +22,10 @@ use Rattle.gf_reduced.proofs.FormLaws.{is_form, form_of}
 use Rattle.gf_reduced.proofs.GroebnerLaws.{polys_variables}
 use Rattle.gf_reduced.proofs.ReducedLaws.{reduced_of}
 use Rattle.gf_weights.specs.Refusals.{IsWeightWithinLimits, AreCertificatesFittingIn}
-use Rattle.gf_weights.specs.declared.error.WeightError.{WeightError}
 use Rattle.gf_weights.specs.declared.error.WeightError.TheVariants as weight_errors
 use Rattle.gf_duality_theory.proofs.ListLaws.{none_in}
-use Rattle.gf_binomial_calls_theory.specs.Sets.{IsBinomialSet}
 use Rattle.gf_binomial_calls_theory.proofs.CheckLaws.{head_there, member_fits, polys_binomial, forms_binomial, pairs_fit}
 use Rattle.gf_binomial_calls_theory.proofs.SystemLimits.{marking_within}
-use Rattle.gfan_sets.specs.WeightVector.{IsWeighedWithin}
 use Rattle.gfan_theory.specs.Linear.{IsLinear, AreLinearDifferences, IsLinearSet, LinearWeightsStayWithinLimits}
 use Rattle.gfan_theory.proofs.LinearRuns.{IsOfDegree, AreLinearMarked, closed-degree, entry_low, join_low, shift_short, step_short, s_polynomial_degree}
 use Rattle.gfan_theory.proofs.LinearNormals.{linear_normals}
@@ -67,7 +33,7 @@ use Rattle.gfan_theory.proofs.DifferenceLimits.{certificates_of_differences_fit}
 
 module _ (s : MarkedPolynomials) (l : IsLinearSet s) where
   -- the monic forms
-  forms_marked : AreLinearMarked (map monic_of s.items)
+  pub forms_marked : AreLinearMarked (map monic_of s.items)
   forms_marked = record { heads = heads; within = within }
     where
       heads : (d : MarkedPolynomial) → Contains (map monic_of s.items) d → degree d.head ≡ 1
@@ -139,7 +105,7 @@ module _ (s : MarkedPolynomials) (l : IsLinearSet s) where
   -- ---- the weight
 
   module _ (basis : IsMarkedGroebnerBasis s.variables s.items) (terms : AreReduced s.items) (t : MarkedPolynomials) (a : IsArranged (monic_set s) t) where
-    node : IsBasisInRegion s.variables (polys s.items) (all_positive s.variables) t.items
+    pub node : IsBasisInRegion s.variables (polys s.items) (all_positive s.variables) t.items
     node =
         let r = reduced_of s t l.binomials.variables (each_contained HasMarkedTerm s.items l.binomials.marked) a terms basis in
         let here : IsMarkedReducedBasis s.variables (polys t.items) t.items = subst (λ (m : ℕ). IsMarkedReducedBasis m (polys t.items) t.items) a.variables

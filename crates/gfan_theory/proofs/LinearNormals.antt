@@ -1,46 +1,13 @@
 -- The normals of a reduced basis of an ideal that differences of variables generate are differences of two entries, and in three variables there are at most
--- two. To cite: linear_normals. The rest are steps.
-use Rattle.std.proofs.Common.{
-  ◌≡◌,
-  ◌≢◌,
-  ◌⊎◌,
-  ℕ,
-  zero,
-  suc,
-  ◌+◌,
-  ◌<◌,
-  ◌≤◌,
-  true,
-  false,
-  List,
-  [],
-  ◌∷◌,
-  length,
-  get_or,
-  Some,
-  None,
-  Option,
-  ℤ,
-  pos,
-  ◌-ℤ◌,
-  Contains,
-  arith,
-  refl,
-  sym,
-  ap,
-  ap₂,
-  ◌∙◌,
-  subst,
-  inl,
-  inr,
-}
+-- two. To cite: one_at_most, linear_normals. The rest are steps.
+use Rattle.std.proofs.Common.{◌≡◌, ◌≢◌, ◌⊎◌, ℕ, ◌<◌, ◌≤◌, true, false, List, [], ◌∷◌, length, get_or, Some, None, Option, ℤ, pos, ◌-ℤ◌, Contains, arith, sym}
+use Rattle.std.proofs.Common.{ap, ap₂, ◌∙◌, subst, inl, inr}
 use Rattle.std.proofs.lemmas.Bool.{cases_lt}
-use Rattle.gf_frac.specs.Fraction.{zero_ℚ, one_ℚ}
 use Rattle.gf_int_theory.proofs.ListLaws.{Contains-here}
 use Rattle.gf_vec.specs.Vector.{dot}
 use Rattle.gf_vec.specs.Primitive.{IsPrimitivePart}
 use Rattle.gf_vec.proofs.VectorLaws.{dot_comm}
-use Rattle.gf_duality_theory.proofs.ListLaws.{in_tail}
+use Rattle.gf_duality_theory.proofs.ListLaws.{none_in, in_tail, in_cons}
 use Rattle.gf_exponents_theory.specs.Exponents.{Exponents, entry, same, degree, IsInRing}
 use Rattle.gf_exponents_theory.proofs.ExponentsLaws.{same_flip, same_trans, entries_same}
 use Rattle.gf_poly.specs.Polynomial.{Terms}
@@ -51,16 +18,16 @@ use Rattle.gf_ideal_theory.proofs.MarkWeights.{mark-there}
 use Rattle.gf_ideal_theory.proofs.MembershipLaws.{variables_of_member}
 use Rattle.gf_ideal_theory.proofs.UniquenessLaws.{apart_same}
 use Rattle.gf_exponents_theory.specs.Orders.{gains, lighter}
-use Rattle.gf_facets_theory.specs.Rows.{differences, IsNormal}
+use Rattle.gf_facets_theory.specs.Rows.{IsNormal}
 use Rattle.gf_facets_theory.specs.Systems.{unit}
 use Rattle.gf_facets_theory.specs.LexPositive.{IsBefore}
 use Rattle.gf_facets_theory.specs.Normals.{AreNormals}
 use Rattle.gf_facets_theory.specs.Regions.{Region}
-use Rattle.gf_facets_theory.specs.MarkedBases.{AreCanonical, IsBasisInRegion}
+use Rattle.gf_facets_theory.specs.MarkedBases.{IsBasisInRegion}
 use Rattle.gf_facets_theory.proofs.NormalLaws.{IsNormalOf, normal_of, normal-length}
 use Rattle.gf_facets_theory.proofs.UnitLaws.{dot-unit}
 use Rattle.gf_facets_theory.proofs.VectorOrder.{before_strict}
-use Rattle.gf_binomials_theory.specs.Binomials.{indicator, IsMarkedBinomial, AreMarkedBinomials}
+use Rattle.gf_binomials_theory.specs.Binomials.{AreMarkedBinomials}
 use Rattle.gf_binomials_theory.proofs.MonomialLaws.{IsTheMonomial, IsFirst, one_of_two}
 use Rattle.gf_binomial_bases_theory.proofs.LawsHold.{bases_of_binomials}
 use Rattle.gfan_theory.specs.Differences.{IsDifferenceRow, AreDifferenceRows}
@@ -96,6 +63,15 @@ four_places : (n p q r s : ℕ) → n ≤ 3 → p < n → q < n → r < n → s 
 four_places n p q r s l a b c d e f g h i j = omega arith
 
 -- ---- normals
+
+-- the members of a list of one are one
+alone_in : (bs : List MarkedPolynomial) (x y : MarkedPolynomial) → length bs ≤ 1 → Contains bs x → Contains bs y → x ≡ y
+alone_in [] x y l c d = absurd (none_in x c)
+alone_in (b ∷ []) x y l c d = one x c ∙ sym (one y d)
+  where
+    one : (z : MarkedPolynomial) → Contains (b ∷ []) z → z ≡ b
+    one z k = elim (in_cons b [] z k) [ inl e ↦ e | inr m ↦ absurd (none_in z m) ]
+alone_in (b ∷ (d ∷ bs)) x y l c e = absurd (omega (arith, l))
 
 module _ (n : ℕ) (fs : List Terms) (k : Region) (bs : List MarkedPolynomial) (d : AreLinearDifferences n fs) (b : IsBasisInRegion n fs k bs) where
   members : AreLinearMembers bs
@@ -248,6 +224,26 @@ module _ (n : ℕ) (fs : List Terms) (k : Region) (bs : List MarkedPolynomial) (
 
       t : IsLinearNormal e
       t = normal_at e third
+
+  -- of one member there is at most one
+  pub one_at_most : (ns : List (List ℤ)) → AreNormals bs ns → length bs ≤ 1 → length ns ≤ 1
+  one_at_most [] m l = omega arith
+  one_at_most (a ∷ []) m l = omega arith
+  one_at_most (a ∷ (c ∷ ns)) m l =
+      absurd (before_strict.irreflexive a (subst (IsBefore a) (sym (one_normal a c first second r s (ap (λ (x : MarkedPolynomial). place_of x.head)
+      (alone_in bs r.member s.member l r.contained s.contained)))) (m.rises.0 c (Contains-here c ns))))
+    where
+      first : IsNormal bs a
+      first = m.only a (Contains-here a (c ∷ ns))
+
+      second : IsNormal bs c
+      second = m.only c (in_tail a (c ∷ ns) c (Contains-here c ns))
+
+      r : IsLinearNormal a
+      r = normal_at a first
+
+      s : IsLinearNormal c
+      s = normal_at c second
 
   differ : (a : List ℤ) → IsNormal bs a → IsDifferenceRow n a
   differ a h =

@@ -8,3 +8,9 @@ pub mod Everyday  -- everyday inputs that meet the premise of completeness
 pub mod Linear  -- ideals that differences of variables generate
 pub mod Continued  -- their lists, after a basis
 pub mod SmallSets  -- polynomials with small exponents in few variables
+pub mod SmallCones  -- cones with few small rows
+pub mod LinearFans  -- fans of the cones of bases of variables and differences of variables
+pub mod PlaneFans  -- fan files of the plane
+pub mod TropicalFans  -- polynomials with few terms and small exponents
+pub mod Tests  -- tests of marked sets, membership, homogenizations
+pub mod Dimensions  -- the dimension of a cone, by its implied equations and by its rays
