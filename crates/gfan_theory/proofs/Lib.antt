@@ -30,5 +30,5 @@ pub mod LinearCones  -- cones of bases of variables and differences of variables
 pub mod LinearFans  -- fans of their cones
 pub mod PlaneFiles  -- fan files of the plane
 pub mod TropicalLimits  -- tropical fans of polynomials with few terms
-pub mod TestLimits  -- tests of marked sets, membership, homogenizations
+pub mod SetTestLimits  -- tests of marked sets, membership, homogenizations
 pub mod DimensionLaws  -- the dimension of a cone by its implied equations, and by its rays

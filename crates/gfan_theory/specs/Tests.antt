@@ -1,5 +1,5 @@
 -- Tests of marked sets of variables and differences of variables, membership in their ideals, and homogenizations: what the commands may do stays within
--- its limits. Laws: proofs/TestLimits.antt.
+-- its limits. Laws: proofs/SetTestLimits.antt.
 use Rattle.std.specs.Prelude.{ℕ, ◌^◌, ◌<◌, ◌≤◌, List, Contains}
 use Rattle.gf_poly.specs.Marking.{MarkedPolynomial, MarkedPolynomials}
 use Rattle.gf_reduced.specs.Markings.{IsMarkedGroebnerBasis}

@@ -1,4 +1,4 @@
-use Rattle.gfan_theory.proofs.TestLimits.{tests_of_linear_sets_fit, membership_in_linear_ideals_fits, homogenizations_fit}
+use Rattle.gfan_theory.proofs.SetTestLimits.{tests_of_linear_sets_fit, membership_in_linear_ideals_fits, homogenizations_fit}
 use Rattle.gfan_theory.proofs.tests_of_linear_sets_fit.Goals as goal
 
 pub returns-clause-tests : goal.returns-clause-tests
