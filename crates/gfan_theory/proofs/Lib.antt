@@ -5,15 +5,19 @@ pub mod CertifiedLaws  -- what is printed after each basis
 pub mod BasisFileLaws  -- a basis that is printed behind its ring is read again
 pub mod JoinedLaws  -- a list that was cut and then continued
 pub mod BinaryRays  -- the rays of cones that compare entries have entries 0 and 1
+pub mod RowSteps  -- the vectors that are reached on the way to them
+pub mod FourColumns  -- systems with four columns
 pub mod DifferenceLimits  -- few such rows, in few variables, stay within their limits
 pub mod VariableLaws  -- the normals of the difference of two variables
 pub mod EverydayLaws  -- everyday inputs meet the premise of completeness
 pub mod LinearRuns  -- runs on variables and differences of variables
 pub mod LinearBases  -- the members of their bases are linear, and their flips within limits
-pub mod LinearNormals  -- their normals, in three variables two at most
-pub mod LinearLimits  -- searches over their bases, in at most three variables
+pub mod LinearNormals  -- their normals, in four variables three at most
+pub mod LinearLimits  -- searches over their bases, in at most four variables
 pub mod LinearChecks  -- the checks of marked sets of such polynomials, and their weights
+pub mod GivenLimits  -- their lists, from a marked basis
 pub mod ContinuedLaws  -- their lists, after a basis
+pub mod SummaryLimits  -- summaries of such ideals
 pub mod SessionLaws  -- sessions that start at one of their bases
 pub mod CoefficientSums  -- the sum of the coefficients, on an ideal
 pub mod SaturationRuns  -- runs on linear polynomials and the inverse of a variable
@@ -26,9 +30,11 @@ pub mod FewVectors  -- there are few vectors with small entries
 pub mod SmallFans  -- sums that are written of fans with small rows
 pub mod ConeRowLaws  -- the rows of a cone: no more, and no larger, than what is given
 pub mod ToldLimits  -- descriptions of cones with few small rows
+pub mod Arrangements  -- marked sets have arrangements
 pub mod LinearCones  -- cones of bases of variables and differences of variables
 pub mod LinearFans  -- fans of their cones
 pub mod PlaneFiles  -- fan files of the plane
 pub mod TropicalLimits  -- tropical fans of polynomials with few terms
-pub mod SetTestLimits  -- tests of marked sets, membership, homogenizations
+pub mod SetTestLimits  -- tests of marked sets, and membership
+pub mod HomogenizationLimits  -- homogenizations
 pub mod DimensionLaws  -- the dimension of a cone by its implied equations, and by its rays

@@ -1,6 +1,6 @@
 -- The cone of a reduced basis of variables and differences of variables, in at most three variables, is described within all limits.
 -- To cite: monic_normals, normals_found, normals_bounded, cones_of_linear_sets_fit. The rest are steps.
-use Rattle.std.proofs.Common.{◌≡◌, ◌⊎◌, ℕ, zero, suc, ◌+◌, ◌-◌, ◌<◌, ◌≤◌, Bool, true, false, List, [], ◌∷◌, ◌++◌, length, length-append, map, ℤ, pos, ◌<ℤ◌}
+use Rattle.std.proofs.Common.{◌≡◌, ◌⊎◌, ℕ, zero, suc, ◌+◌, ◌-◌, ◌<◌, ◌≤◌, ◌^◌, Bool, true, false, List, [], ◌∷◌, ◌++◌, length, length-append, map, ℤ, pos, ◌<ℤ◌}
 use Rattle.std.proofs.Common.{unsigned_abs, arith, refl, sym, ap, ap₂, ◌∙◌, subst, inl, inr, All, Contains}
 use Rattle.std.proofs.lemmas.Int.{ints}
 use Rattle.std.proofs.lemmas.List.Elements.{All-contains, Contains-append_cases, Contains-append_left, Contains-append_right}
@@ -20,8 +20,8 @@ use Rattle.gf_poly.proofs.CoefficientLaws.{term_length}
 use Rattle.gf_ideal_theory.proofs.ListLaws.{contained_each}
 use Rattle.gf_duality_theory.proofs.ListLaws.{none_in, in_tail, in_cons}
 use Rattle.gf_rays.specs.Cones.{AreRaysWithinLimits}
-use Rattle.gf_rays.specs.Limits.{reached_bound, IsPointed, has_room}
-use Rattle.gf_rays.proofs.ReachedSizes.{mono, entry_up, small_systems_stay_within_limits}
+use Rattle.gf_rays.specs.Limits.{turned_bound, reached_bound, IsPointed, has_room}
+use Rattle.gf_rays.proofs.ReachedSizes.{mono, next_step, entry_up, small_systems_stay_within_limits}
 use Rattle.gf_facets_theory.specs.Rows.{row_between, rows_of_terms, rows_of_polynomials}
 use Rattle.gf_facets_theory.specs.Normals.{AreNormals}
 use Rattle.gf_facets_theory.specs.Systems.{unit, units}
@@ -44,9 +44,10 @@ use Rattle.gfan_fans.specs.ToldCones.{IsConeFanWithin, IsToldWithin, IsTellingWi
 use Rattle.gfan_theory.specs.Differences.{AreDifferenceRows}
 use Rattle.gfan_theory.specs.Linear.{IsLinearSet}
 use Rattle.gfan_theory.specs.SmallCones.{HasRoomUpTo, ConesOfLinearSetsFit}
-use Rattle.gfan_theory.proofs.DifferenceLimits.{rows_small, reached_rises, reached_room, turned_room}
-use Rattle.gfan_theory.proofs.LinearNormals.{linear_normals}
+use Rattle.gfan_theory.proofs.DifferenceLimits.{rows_small}
+use Rattle.gfan_theory.proofs.LinearNormals.{few_in_three, linear_normals}
 use Rattle.gfan_theory.proofs.LinearChecks.{linear_checks, set_differences, node}
+use Rattle.gfan_theory.proofs.Arrangements.{arranged_set}
 use Rattle.gfan_theory.proofs.ConeRowLaws.{AreBounded, given_long, given_bounded, rows_bounded, rows_positive, rows_few, unit_one, length_units, cut_bounded}
 use Rattle.gfan_theory.proofs.ConeRowLaws.{small_system}
 use Rattle.gfan_theory.proofs.ToldLimits.{finding_fits, fan_fits, certified_fit, up_to_two, up_to_three, up_to_four}
@@ -105,13 +106,40 @@ unit_nonzero n i l z =
     let f : dot (unit n i) (unit n i) ≡ pos 0 = dot_zero_row (unit n i) (unit n i) z in
     omega (arith, ints, e, f)
 
+-- ---- bounds
+
+reached_some : (n k : ℕ) → 1 ≤ n → 1 ≤ reached_bound n 1 k
+reached_some n zero h = omega arith
+reached_some n (suc k) h = let p = reached_some n k h in let q = next_step n 1 (reached_bound n 1 k) h (omega arith) p in omega (arith, p, q)
+
+reached_rises : (n : ℕ) → 1 ≤ n → (k : ℕ) → reached_bound n 1 k ≤ reached_bound n 1 (suc k)
+reached_rises n h k = next_step n 1 (reached_bound n 1 k) h (omega arith) (reached_some n k h)
+
+reached_room : (n : ℕ) → 1 ≤ n → n ≤ 3 → reached_bound n 1 5 < 2 ^ 127
+reached_room zero h l = absurd (omega (arith, h))
+reached_room (suc zero) h l = omega arith
+reached_room (suc (suc zero)) h l = omega arith
+reached_room (suc (suc (suc zero))) h l = omega arith
+reached_room (suc (suc (suc (suc n)))) h l = absurd (omega (arith, l))
+
+turned_room : (n : ℕ) → n ≤ 3 → turned_bound 1 n < 2 ^ 127
+turned_room zero l = omega arith
+turned_room (suc zero) l = omega arith
+turned_room (suc (suc zero)) l = omega arith
+turned_room (suc (suc (suc zero))) l = omega arith
+turned_room (suc (suc (suc (suc n)))) l = absurd (omega (arith, l))
+
 -- ---- the rows of the cone
 
 module _ (s t : MarkedPolynomials) (l : IsLinearSet s) (some : 1 ≤ s.variables) (small : s.variables ≤ 3) (basis : IsMarkedGroebnerBasis s.variables s.items)
     (terms : AreReduced s.items) (a : IsArranged (monic_set s) t) (ns : List (List ℤ)) (are : AreNormals s.items ns) where
   pub normals_found : (length ns ≤ 2) × AreDifferenceRows s.variables ns
-  normals_found = linear_normals s.variables (polys s.items) (all_positive s.variables) t.items (set_differences s l) (node s l basis terms t a) ns
-      (monic_normals s t a ns are) small
+  normals_found = (
+    few_in_three s.variables (polys s.items) (all_positive s.variables) t.items (set_differences s l) (node s l basis terms t a) ns
+        (monic_normals s t a ns are) small,
+    (linear_normals s.variables (polys s.items) (all_positive s.variables) t.items (set_differences s l) (node s l basis terms t a) ns
+        (monic_normals s t a ns are) (omega (arith, small))).1,
+  )
 
   pub normals_bounded : AreBounded s.variables 1 ns
   normals_bounded x c = record {
@@ -231,7 +259,7 @@ module _ (s t : MarkedPolynomials) (l : IsLinearSet s) (some : 1 ≤ s.variables
 module _ (o : GroebnerConeOptions) (s t : MarkedPolynomials) (l : IsLinearSet s) (some : 1 ≤ s.variables) (small : s.variables ≤ 3)
     (basis : IsMarkedGroebnerBasis s.variables s.items) (terms : AreReduced s.items) (a : IsArranged (monic_set s) t) where
   within : ((ns : List (List ℤ)) → AreNormals s.items ns → IsTellingWithin o s.variables ns []) → IsBasisConeWithin o s
-  within cone = record { variables = l.binomials.variables; basis = basis; reduced = terms; checks = linear_checks s l small; cone = cone }
+  within cone = record { variables = l.binomials.variables; basis = basis; reduced = terms; checks = linear_checks s l (omega (arith, small)); cone = cone }
 
   as_sections : o.as_fan ≡ false → IsBasisConeWithin o s
   as_sections p = within (λ ns are. subst (λ (f : Bool). IsToldWithin f o.certificates s.variables (inequalities_of o.restricted s.variables ns) []) (sym p)
@@ -249,6 +277,6 @@ module _ (o : GroebnerConeOptions) (s t : MarkedPolynomials) (l : IsLinearSet s)
 
 pub cones_of_linear_sets_fit : ConesOfLinearSetsFit
 cones_of_linear_sets_fit = record {
-  sections = λ o s t p l some small basis terms a. as_sections o s t l some small basis terms a p;
-  fans = λ o s t p q l some small basis terms a. as_fan o s t l some small basis terms a p q;
+  sections = λ o s p l some small basis terms. let t = arranged_set (monic_set s) in as_sections o s t.0 l some small basis terms t.1 p;
+  fans = λ o s p q l some small basis terms. let t = arranged_set (monic_set s) in as_fan o s t.0 l some small basis terms t.1 p q;
 }

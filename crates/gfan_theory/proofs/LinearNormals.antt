@@ -1,7 +1,7 @@
--- The normals of a reduced basis of an ideal that differences of variables generate are differences of two entries, and in three variables there are at most
--- two. To cite: one_at_most, linear_normals. The rest are steps.
-use Rattle.std.proofs.Common.{◌≡◌, ◌≢◌, ◌⊎◌, ℕ, ◌<◌, ◌≤◌, true, false, List, [], ◌∷◌, length, get_or, Some, None, Option, ℤ, pos, ◌-ℤ◌, Contains, arith, sym}
-use Rattle.std.proofs.Common.{ap, ap₂, ◌∙◌, subst, inl, inr}
+-- The normals of a reduced basis of an ideal that differences of variables generate are differences of two entries, and in four variables there are at most
+-- three. To cite: few_in_three, one_at_most, linear_normals. The rest are steps.
+use Rattle.std.proofs.Common.{◌≡◌, ◌≢◌, ◌⊎◌, ℕ, ◌<◌, ◌≤◌, true, false, List, [], ◌∷◌, length, get_or, Some, None, Option, ℤ, pos}
+use Rattle.std.proofs.Common.{◌-ℤ◌, Contains, arith, sym, ap, ap₂, ◌∙◌, subst, inl, inr}
 use Rattle.std.proofs.lemmas.Bool.{cases_lt}
 use Rattle.gf_int_theory.proofs.ListLaws.{Contains-here}
 use Rattle.gf_vec.specs.Vector.{dot}
@@ -59,10 +59,29 @@ place_same x y d e s = elim (same_or_not (place_of x) (place_of y)) [
       omega (arith, z, t, p))
 ]
 
+-- places that are apart
+record AreApart (p q r s : ℕ) : Type 0 where
+  pub first_second : p ≢ q
+  pub first_third : p ≢ r
+  pub first_fourth : p ≢ s
+  pub second_third : q ≢ r
+  pub second_fourth : q ≢ s
+  pub third_fourth : r ≢ s
+
+-- three numbers below four that are none of these, and one more
+four_of_three : (c p q r s : ℕ) → c ≤ 3 → p ≤ 3 → q ≤ 3 → r ≤ 3 → s ≤ 3 → AreApart p q r s → p ≢ c → q ≢ c → r ≢ c → s ≢ c → ⊥
+four_of_three c p q r s lc lp lq lr ls a np nq nr ns =
+    let d1 = a.first_second in
+    let d2 = a.first_third in
+    let d3 = a.first_fourth in
+    let d4 = a.second_third in
+    let d5 = a.second_fourth in
+    let d6 = a.third_fourth in
+    omega (arith, lc, lp, lq, lr, ls, d1, d2, d3, d4, d5, d6, np, nq, nr, ns)
+
+-- four places that differ aren't below 3
 four_places : (n p q r s : ℕ) → n ≤ 3 → p < n → q < n → r < n → s < n → p ≢ q → p ≢ r → p ≢ s → q ≢ r → q ≢ s → r ≢ s → ⊥
 four_places n p q r s l a b c d e f g h i j = omega arith
-
--- ---- normals
 
 -- the members of a list of one are one
 alone_in : (bs : List MarkedPolynomial) (x y : MarkedPolynomial) → length bs ≤ 1 → Contains bs x → Contains bs y → x ≡ y
@@ -72,6 +91,8 @@ alone_in (b ∷ []) x y l c d = one x c ∙ sym (one y d)
     one : (z : MarkedPolynomial) → Contains (b ∷ []) z → z ≡ b
     one z k = elim (in_cons b [] z k) [ inl e ↦ e | inr m ↦ absurd (none_in z m) ]
 alone_in (b ∷ (d ∷ bs)) x y l c e = absurd (omega (arith, l))
+
+-- ---- normals
 
 module _ (n : ℕ) (fs : List Terms) (k : Region) (bs : List MarkedPolynomial) (d : AreLinearDifferences n fs) (b : IsBasisInRegion n fs k bs) where
   members : AreLinearMembers bs
@@ -193,18 +214,66 @@ module _ (n : ℕ) (fs : List Terms) (k : Region) (bs : List MarkedPolynomial) (
       let u : true ≡ false = sym (same_flip r.at r.member.head t) ∙ r.unmarked in
       absurd (cc)
 
-  few : (ns : List (List ℤ)) → AreNormals bs ns → n ≤ 3 → length ns ≤ 2
+  -- normals at different places of a list have marks at different places
+  apart_marks : (a c : List ℤ) → IsBefore a c → IsNormal bs a → IsNormal bs c → (r : IsLinearNormal a) (s : IsLinearNormal c) →
+      place_of r.member.head ≢ place_of s.member.head
+  apart_marks a c l h i r s q = before_strict.irreflexive a (subst (IsBefore a) (sym (one_normal a c h i r s q)) l)
+
+  few : (ns : List (List ℤ)) → AreNormals bs ns → n ≤ 4 → length ns ≤ 3
   few [] m l = omega arith
   few (a ∷ []) m l = omega arith
   few (a ∷ (c ∷ [])) m l = omega arith
-  few (a ∷ (c ∷ (e ∷ ns))) m l =
+  few (a ∷ (c ∷ (e ∷ []))) m l = omega arith
+  few (a ∷ (c ∷ (e ∷ (g ∷ ns)))) m l =
+      absurd (four_of_three (place_of r.at) (place_of r.member.head) (place_of s.member.head) (place_of t.member.head) (place_of u.member.head)
+      (let p = r.low_inside in omega (arith, p, l)) (let p = r.high_inside in omega (arith, p, l)) (let p = s.high_inside in omega (arith, p, l))
+      (let p = t.high_inside in omega (arith, p, l)) (let p = u.high_inside in omega (arith, p, l))
+      (record {
+        first_second = apart_marks a c (m.rises.0 c (Contains-here c (e ∷ (g ∷ ns)))) first second r s;
+        first_third = apart_marks a e (m.rises.0 e (in_tail c (e ∷ (g ∷ ns)) e (Contains-here e (g ∷ ns)))) first third r t;
+        first_fourth = apart_marks a g (m.rises.0 g (in_tail c (e ∷ (g ∷ ns)) g (in_tail e (g ∷ ns) g (Contains-here g ns)))) first fourth r u;
+        second_third = apart_marks c e (m.rises.1.0 e (Contains-here e (g ∷ ns))) second third s t;
+        second_fourth = apart_marks c g (m.rises.1.0 g (in_tail e (g ∷ ns) g (Contains-here g ns))) second fourth s u;
+        third_fourth = apart_marks e g (m.rises.1.1.0 g (Contains-here g ns)) third fourth t u;
+      })
+      (λ q. no_mark a r r.member r.contained (sym q)) (λ q. no_mark a r s.member s.contained (sym q)) (λ q. no_mark a r t.member t.contained (sym q))
+      (λ q. no_mark a r u.member u.contained (sym q)))
+    where
+      first : IsNormal bs a
+      first = m.only a (Contains-here a (c ∷ (e ∷ (g ∷ ns))))
+
+      second : IsNormal bs c
+      second = m.only c (in_tail a (c ∷ (e ∷ (g ∷ ns))) c (Contains-here c (e ∷ (g ∷ ns))))
+
+      third : IsNormal bs e
+      third = m.only e (in_tail a (c ∷ (e ∷ (g ∷ ns))) e (in_tail c (e ∷ (g ∷ ns)) e (Contains-here e (g ∷ ns))))
+
+      fourth : IsNormal bs g
+      fourth =
+          m.only g (in_tail a (c ∷ (e ∷ (g ∷ ns))) g (in_tail c (e ∷ (g ∷ ns)) g (in_tail e (g ∷ ns) g (Contains-here g ns))))
+
+      r : IsLinearNormal a
+      r = normal_at a first
+
+      s : IsLinearNormal c
+      s = normal_at c second
+
+      t : IsLinearNormal e
+      t = normal_at e third
+
+      u : IsLinearNormal g
+      u = normal_at g fourth
+
+  -- in three variables there are at most two
+  pub few_in_three : (ns : List (List ℤ)) → AreNormals bs ns → n ≤ 3 → length ns ≤ 2
+  few_in_three [] m l = omega arith
+  few_in_three (a ∷ []) m l = omega arith
+  few_in_three (a ∷ (c ∷ [])) m l = omega arith
+  few_in_three (a ∷ (c ∷ (e ∷ ns))) m l =
       absurd (four_places n (place_of r.member.head) (place_of s.member.head) (place_of t.member.head) (place_of r.at) l r.high_inside s.high_inside
-      t.high_inside r.low_inside
-      (λ q. before_strict.irreflexive a (subst (IsBefore a) (sym (one_normal a c first second r s q)) (m.rises.0 c (Contains-here c (e ∷ ns)))))
-      (λ q. before_strict.irreflexive a (subst (IsBefore a) (sym (one_normal a e first third r t q)) (m.rises.0 e (in_tail c (e ∷ ns) e (Contains-here e ns)))))
-      (λ q. no_mark a r r.member r.contained (sym q))
-      (λ q. before_strict.irreflexive c (subst (IsBefore c) (sym (one_normal c e second third s t q)) (m.rises.1.0 e (Contains-here e ns))))
-      (λ q. no_mark a r s.member s.contained (sym q))
+      t.high_inside r.low_inside (apart_marks a c (m.rises.0 c (Contains-here c (e ∷ ns))) first second r s)
+      (apart_marks a e (m.rises.0 e (in_tail c (e ∷ ns) e (Contains-here e ns))) first third r t) (λ q. no_mark a r r.member r.contained (sym q))
+      (apart_marks c e (m.rises.1.0 e (Contains-here e ns)) second third s t) (λ q. no_mark a r s.member s.contained (sym q))
       (λ q. no_mark a r t.member t.contained (sym q)))
     where
       first : IsNormal bs a
@@ -230,8 +299,8 @@ module _ (n : ℕ) (fs : List Terms) (k : Region) (bs : List MarkedPolynomial) (
   one_at_most [] m l = omega arith
   one_at_most (a ∷ []) m l = omega arith
   one_at_most (a ∷ (c ∷ ns)) m l =
-      absurd (before_strict.irreflexive a (subst (IsBefore a) (sym (one_normal a c first second r s (ap (λ (x : MarkedPolynomial). place_of x.head)
-      (alone_in bs r.member s.member l r.contained s.contained)))) (m.rises.0 c (Contains-here c ns))))
+      absurd (apart_marks a c (m.rises.0 c (Contains-here c ns)) first second r s (ap (λ (x : MarkedPolynomial). place_of x.head)
+      (alone_in bs r.member s.member l r.contained s.contained)))
     where
       first : IsNormal bs a
       first = m.only a (Contains-here a (c ∷ ns))
@@ -257,5 +326,5 @@ module _ (n : ℕ) (fs : List Terms) (k : Region) (bs : List MarkedPolynomial) (
         difference = λ v l. r.value v;
       }
 
-  pub linear_normals : (ns : List (List ℤ)) → AreNormals bs ns → n ≤ 3 → (length ns ≤ 2) × AreDifferenceRows n ns
+  pub linear_normals : (ns : List (List ℤ)) → AreNormals bs ns → n ≤ 4 → (length ns ≤ 3) × AreDifferenceRows n ns
   linear_normals ns m l = (few ns m l, λ row c. differ row (m.only row c))

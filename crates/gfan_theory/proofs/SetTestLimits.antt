@@ -1,5 +1,5 @@
--- Tests of marked sets of variables and differences of variables, membership in their ideals, and homogenizations stay within their limits.
--- To cite: tests_of_linear_sets_fit, membership_in_linear_ideals_fits, homogenizations_fit. The rest are steps.
+-- Tests of marked sets of variables and differences of variables and membership in their ideals stay within their limits.
+-- To cite: tests_of_linear_sets_fit, membership_in_linear_ideals_fits. The rest are steps.
 use Rattle.std.proofs.Common.{map, Contains, Err, arith, refl}
 use Rattle.std.proofs.lemmas.List.Sorted.{Contains-permutation, IsPermutation-sym}
 use Rattle.gf_int_theory.proofs.ListLaws.{all_by}
@@ -18,14 +18,14 @@ use Rattle.gf_small.specs.Homogenization.{IsHomogenizedWithinLimit}
 use Rattle.gf_text.specs.declared.written.Written.{Written}
 use Rattle.gf_text.specs.declared.written.Written.TheVariants as written
 use Rattle.gfan_theory.specs.Linear.{IsLinear, IsLinearSet}
-use Rattle.gfan_theory.specs.Tests.{TestsOfLinearSetsFit, MembershipInLinearIdealsFits, HomogenizationsFit}
+use Rattle.gfan_theory.specs.Tests.{TestsOfLinearSetsFit, MembershipInLinearIdealsFits}
 use Rattle.gfan_theory.proofs.LinearRuns.{IsOfDegree, AreLinearMarked, closed-degree, step_short}
 use Rattle.gfan_theory.proofs.LinearChecks.{linear_checks, forms_marked}
 
 -- ---- tests
 
 pub tests_of_linear_sets_fit : TestsOfLinearSetsFit
-tests_of_linear_sets_fit ring s l small e h = test_only_memory {A = CheckError} s (Err e) h (linear_checks s l small)
+tests_of_linear_sets_fit ring s l small e h = test_only_memory {A = CheckError} s (Err e) h (linear_checks s l (omega (arith, small)))
 
 -- ---- membership
 
@@ -51,15 +51,6 @@ pub membership_in_linear_ideals_fits : MembershipInLinearIdealsFits
 membership_in_linear_ideals_fits ring s ws l small basis differences = record {
   variables = l.binomials.variables;
   basis = basis;
-  checks = linear_checks s l small;
+  checks = linear_checks s l (omega (arith, small));
   members = λ t f a c. reduced_within s l t a f (differences.forms.linear f c) (differences.binomials f c);
 }
-
--- ---- homogenizations
-
-pub homogenizations_fit : HomogenizationsFit
-homogenizations_fit ring ws name low = all_by IsHomogenizedWithinLimit ws at
-  where
-    at : (w : Written) → Contains ws w → IsHomogenizedWithinLimit w
-    at written.Zero c = tt
-    at (written.Nonzero b) c = λ k d i. let p = low b c in omega (arith, p)

@@ -6,8 +6,7 @@ use Rattle.gf_vec.specs.Vector.{dot}
 use Rattle.gf_gordan.specs.Alternative.{AreRows}
 use Rattle.gf_gordan.specs.Sizes.{HaveEntriesUpTo}
 use Rattle.gf_rays.specs.Limits.{has_room}
-use Rattle.gf_poly.specs.Marking.{MarkedPolynomials, IsArranged}
-use Rattle.gf_reduced.specs.Forms.{monic_set}
+use Rattle.gf_poly.specs.Marking.{MarkedPolynomials}
 use Rattle.gf_reduced.specs.Markings.{IsMarkedGroebnerBasis}
 use Rattle.gf_reduced.specs.Terms.{AreReduced}
 use Rattle.gf_front.specs.declared.options.GroebnerConeOptions.{GroebnerConeOptions}
@@ -54,9 +53,9 @@ pub record FewRowsHaveRoom : Type 0 where
 
 -- The cone of a reduced basis of variables and differences of variables, in at most three variables, is described in sections, also with certificates and in
 -- the non-negative orthant; and as a fan, in the non-negative orthant if there are at most two variables. So the premise of completeness of `_groebnercone`
--- is met. The members, made monic and arranged, are t.
+-- is met.
 pub record ConesOfLinearSetsFit : Type 0 where
-  pub sections : (o : GroebnerConeOptions) (s t : MarkedPolynomials) → o.as_fan ≡ false → IsLinearSet s → 1 ≤ s.variables → s.variables ≤ 3 →
-      IsMarkedGroebnerBasis s.variables s.items → AreReduced s.items → IsArranged (monic_set s) t → IsBasisConeWithin o s
-  pub fans : (o : GroebnerConeOptions) (s t : MarkedPolynomials) → o.as_fan ≡ true → (o.restricted ≡ false) ⊎ (s.variables ≤ 2) → IsLinearSet s →
-      1 ≤ s.variables → s.variables ≤ 3 → IsMarkedGroebnerBasis s.variables s.items → AreReduced s.items → IsArranged (monic_set s) t → IsBasisConeWithin o s
+  pub sections : (o : GroebnerConeOptions) (s : MarkedPolynomials) → o.as_fan ≡ false → IsLinearSet s → 1 ≤ s.variables → s.variables ≤ 3 →
+      IsMarkedGroebnerBasis s.variables s.items → AreReduced s.items → IsBasisConeWithin o s
+  pub fans : (o : GroebnerConeOptions) (s : MarkedPolynomials) → o.as_fan ≡ true → (o.restricted ≡ false) ⊎ (s.variables ≤ 2) → IsLinearSet s →
+      1 ≤ s.variables → s.variables ≤ 3 → IsMarkedGroebnerBasis s.variables s.items → AreReduced s.items → IsBasisConeWithin o s

@@ -1,15 +1,12 @@
--- Tests of marked sets of variables and differences of variables, membership in their ideals, and homogenizations: what the commands may do stays within
--- its limits. Laws: proofs/SetTestLimits.antt.
-use Rattle.std.specs.Prelude.{ℕ, ◌^◌, ◌<◌, ◌≤◌, List, Contains}
-use Rattle.gf_poly.specs.Marking.{MarkedPolynomial, MarkedPolynomials}
+-- Tests of marked sets of variables and differences of variables, and membership in their ideals: what the commands may do stays within its limits.
+-- Laws: proofs/SetTestLimits.antt.
+use Rattle.std.specs.Prelude.{ℕ, ◌≤◌, List}
+use Rattle.gf_poly.specs.Marking.{MarkedPolynomials}
 use Rattle.gf_reduced.specs.Markings.{IsMarkedGroebnerBasis}
-use Rattle.gf_small.specs.Degrees.{total_degree}
 use Rattle.gf_text.specs.declared.written.Written.{Written}
-use Rattle.gf_text.specs.declared.written.Written.TheVariants as written
 use Rattle.gfan_common.specs.Forms.{generators_of}
 use Rattle.gfan_sets.specs.Marked.{marked_command}
 use Rattle.gfan_sets.specs.Containment.{containment_command}
-use Rattle.gfan_sets.specs.Homogenize.{homogenize_command}
 use Rattle.gfan_theory.specs.Linear.{AreLinearDifferences, IsLinearSet}
 
 -- the premise of completeness of `_ismarkedgroebnerbasis` is met by such a set in at most three variables, whether it is a basis or not
@@ -20,8 +17,3 @@ TestsOfLinearSetsFit = (ring : List (List ℕ)) (s : MarkedPolynomials) → IsLi
 abbrev pub MembershipInLinearIdealsFits : Type 0
 MembershipInLinearIdealsFits = (ring : List (List ℕ)) (s : MarkedPolynomials) (ws : List Written) → IsLinearSet s → s.variables ≤ 3 →
     IsMarkedGroebnerBasis s.variables s.items → AreLinearDifferences s.variables (generators_of ws) → containment_command.IsWithin (ring, (s, ws))
-
--- that of `_homogenize` by polynomials of total degrees below 2^31, in any number of variables
-abbrev pub HomogenizationsFit : Type 0
-HomogenizationsFit = (ring : List (List ℕ)) (ws : List Written) (name : List ℕ) →
-    ((b : MarkedPolynomial) → Contains ws (written.Nonzero b) → total_degree b.poly < 2 ^ 31) → homogenize_command.IsWithin (ring, (ws, name))

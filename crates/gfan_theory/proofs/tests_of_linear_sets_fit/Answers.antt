@@ -1,4 +1,4 @@
-use Rattle.gfan_theory.proofs.SetTestLimits.{tests_of_linear_sets_fit, membership_in_linear_ideals_fits, homogenizations_fit}
+use Rattle.gfan_theory.proofs.SetTestLimits.{tests_of_linear_sets_fit, membership_in_linear_ideals_fits}
 use Rattle.gfan_theory.proofs.tests_of_linear_sets_fit.Goals as goal
 
 pub returns-clause-tests : goal.returns-clause-tests
@@ -6,6 +6,3 @@ returns-clause-tests c = tests_of_linear_sets_fit
 
 pub returns-clause-membership : goal.returns-clause-membership
 returns-clause-membership c = membership_in_linear_ideals_fits
-
-pub returns-clause-homogenizations : goal.returns-clause-homogenizations
-returns-clause-homogenizations c = homogenizations_fit
