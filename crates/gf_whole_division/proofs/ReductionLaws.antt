@@ -70,10 +70,10 @@ moved_last done left t e =
     ∙ sym (coefficient-++ (whole_terms done) (whole_terms (left ++ t ∷ [])) e)
 
 -- both parts times a number, and more in the second
-pub added_parts : (k m : Fraction) (x : Exponents) (f g h l p : Terms) → h ≡ times k [] f → SamePolynomial l (times k [] g ++ times m x p) →
+pub added_parts : (k m : Fraction) (x : Exponents) (f g h l p : Terms) → SamePolynomial h (times k [] f) → SamePolynomial l (times k [] g ++ times m x p) →
     SamePolynomial (h ++ l) (times k [] (f ++ g) ++ times m x p)
 added_parts k m x f g h l p eh el e =
-    coefficient-++ h l e ∙ ap (λ (z : Terms). coefficient z e +ℚ coefficient l e) eh
+    coefficient-++ h l e ∙ ap (λ z. z +ℚ coefficient l e) (eh e)
     ∙ ap (λ z. coefficient (times k [] f) e +ℚ z) (el e ∙ coefficient-++ (times k [] g) (times m x p) e)
     ∙ sym (+ℚ_assoc (coefficient (times k [] f) e) (coefficient (times k [] g) e) (coefficient (times m x p) e))
     ∙ ap (λ z. z +ℚ coefficient (times m x p) e)
@@ -117,25 +117,25 @@ factors l g s u c k a h e =
     turned u g s = sym (*ℚ_assoc u g s) ∙ *ℚ_comm (u *ℚ g) s ∙ ap (λ z. s *ℚ z) (*ℚ_comm u g)
 
 pub step_kept : (bs : List MarkedPolynomial) (b : MarkedPolynomial) (old new : Terms) (t : WholeTerm) (p : List WholeTerm) (l g s u : ℤ) (x : Exponents) →
-    IsFirstFor bs t.mono b → IsWholeMultiple l p b.poly → IsCommonTo l t.coef g s u → t.coef ≢ pos 0 → coefficient old t.mono ≡ whole t.coef →
-    plus x b.head ≡ t.mono →
+    IsFirstFor bs t.kept.value.mono b → IsWholeMultiple l p b.poly → IsCommonTo l t.kept.value.coef g s u → t.kept.value.coef ≢ pos 0 →
+    coefficient old t.kept.value.mono ≡ whole t.kept.value.coef → plus x b.head ≡ t.kept.value.mono →
     SamePolynomial new (times (whole s) [] old ++ times (whole (neg_ℤ u)) x (whole_terms p)) → KeepsReached bs old new
 step_kept bs b old new t p l g s u x first m common n there product same_new = record { at = kept }
   where
     kept : (f : Terms) → IsMultipleReached bs f old → IsMultipleReached bs f new
     kept f r =
         let k : Fraction = r.multiple.factor in
-        let a : Fraction = coefficient r.poly t.mono in
-        let c : whole t.coef ≡ k *ℚ a = sym there ∙ r.multiple.scaled t.mono in
+        let a : Fraction = coefficient r.poly t.kept.value.mono in
+        let c : whole t.kept.value.coef ≡ k *ℚ a = sym there ∙ r.multiple.scaled t.kept.value.mono in
         let next : Terms = r.poly ++ times (neg_ℚ a) x b.poly in
-        let nz : a ≢ zero_ℚ = λ z. nonzero_whole t.coef n (c ∙ ap (λ y. k *ℚ y) z ∙ *ℚ-zero k) in
+        let nz : a ≢ zero_ℚ = λ z. nonzero_whole t.kept.value.coef n (c ∙ ap (λ y. k *ℚ y) z ∙ *ℚ-zero k) in
         let step : IsStep (Contains bs) r.poly next = record {
-          at = t.mono;
+          at = t.kept.value.mono;
           member = b;
           rest = x;
           contained = member_contained bs first.place b first.at;
           there = nz;
-          divides = same_of t.mono (plus x b.head) (sym product);
+          divides = same_of t.kept.value.mono (plus x b.head) (sym product);
           equal = λ e. refl;
         } in
         record {
@@ -150,7 +150,7 @@ step_kept bs b old new t p l g s u x first m common n there product same_new = r
                 (times-coefficient (whole s) old e ∙ ap (λ z. whole s *ℚ z) (r.multiple.scaled e) ∙ sym (*ℚ_assoc (whole s) k (coefficient r.poly e)))
                 ∙ ap (λ z. (whole s *ℚ k) *ℚ coefficient r.poly e +ℚ z)
                 (raised_multiple (whole (neg_ℤ u)) (whole l) x b.poly (whole_terms p) m.scaled e
-                ∙ ap (λ z. z *ℚ coefficient (times one_ℚ x b.poly) e) (factors l g s u t.coef k a common c)
+                ∙ ap (λ z. z *ℚ coefficient (times one_ℚ x b.poly) e) (factors l g s u t.kept.value.coef k a common c)
                 ∙ *ℚ_assoc (whole s *ℚ k) (neg_ℚ a) (coefficient (times one_ℚ x b.poly) e)
                 ∙ ap (λ z. (whole s *ℚ k) *ℚ z) (sym (coefficient-factor (neg_ℚ a) x b.poly e)))
                 ∙ sym (*ℚ-+ℚ (whole s *ℚ k) (coefficient r.poly e) (coefficient (times (neg_ℚ a) x b.poly) e))
@@ -254,16 +254,16 @@ passed done rest left new t er en e =
     ∙ ap (λ (z : List WholeTerm). coefficient (whole_terms done ++ whole_terms z) e) (sym er)
 
 -- both lists times a number, and more in the second
-pub added : (k m : ℤ) (x : Exponents) (f g a b h l p : List WholeTerm) → a ≡ f → b ≡ g → whole_terms h ≡ times (whole k) [] (whole_terms a) →
+pub added : (k m : ℤ) (x : Exponents) (f g a b h l p : List WholeTerm) → a ≡ f → b ≡ g → SamePolynomial (whole_terms h) (times (whole k) [] (whole_terms a)) →
     SamePolynomial (whole_terms l) (times (whole k) [] (whole_terms b) ++ times (whole m) x (whole_terms p)) →
     SamePolynomial (whole_terms h ++ whole_terms l) (times (whole k) [] (whole_terms f ++ whole_terms g) ++ times (whole m) x (whole_terms p))
 added k m x f g a b h l p ea eb eh el = added_parts (whole k) (whole m) x (whole_terms f) (whole_terms g) (whole_terms h) (whole_terms l) (whole_terms p)
-    (eh ∙ ap (λ (z : List WholeTerm). times (whole k) [] (whole_terms z)) ea)
+    (subst (λ (z : List WholeTerm). SamePolynomial (whole_terms h) (times (whole k) [] (whole_terms z))) ea eh)
     (subst (λ (z : List WholeTerm). SamePolynomial (whole_terms l) (times (whole k) [] (whole_terms z) ++ times (whole m) x (whole_terms p))) eb el)
 
 -- a multiple by 1
-pub plain_times : (k : ℤ) (f : List WholeTerm) → k ≡ pos 1 → whole_terms f ≡ times (whole k) [] (whole_terms f)
-plain_times k f one = sym (times-plain (whole_terms f)) ∙ ap (λ (z : ℤ). times (whole z) [] (whole_terms f)) (sym one)
+pub plain_times : (k : ℤ) (f : List WholeTerm) → k ≡ pos 1 → SamePolynomial (whole_terms f) (times (whole k) [] (whole_terms f))
+plain_times k f one e = ap (λ (z : Terms). coefficient z e) (sym (times-plain (whole_terms f)) ∙ ap (λ (z : ℤ). times (whole z) [] (whole_terms f)) (sym one))
 
 -- a divisor of both lists
 pub divided_lists : (k : ℤ) (f g a b h l : List WholeTerm) → a ≡ f → b ≡ g → k ≢ pos 0 → whole_terms a ≡ times (whole k) [] (whole_terms h) →
@@ -299,19 +299,22 @@ member_there bs x y j b ex d e =
       divides = d.divides;
     }))
 
--- the step at the last term that waits
-pub reduce_kept : (bs : List MarkedPolynomial) (b : MarkedPolynomial) (done rest left : List WholeTerm) (new : Terms) (t : WholeTerm) (p : List WholeTerm)
-    (l g s u k : ℤ) (x h : Exponents) →
-    IsFirstFor bs t.mono b → IsWholeMultiple l p b.poly → IsCommonTo l t.coef g s u → t.coef ≢ pos 0 → rest ≡ left ++ t ∷ [] →
-    HasNone t.mono (whole_terms done) → HasNone t.mono (whole_terms left) → h ≡ b.head → plus x h ≡ t.mono → k ≡ neg_ℤ u →
+-- the step at the last term that waits, by its number and its monomial as they are read
+pub reduce_kept : (bs : List MarkedPolynomial) (b : MarkedPolynomial) (done rest left : List WholeTerm) (new : Terms) (t : WholeTerm) (y : Exponents) (c : ℤ)
+    (p : List WholeTerm) (l g s u k : ℤ) (x h : Exponents) →
+    y ≡ t.kept.value.mono → c ≡ t.kept.value.coef → IsFirstFor bs y b → IsWholeMultiple l p b.poly → IsCommonTo l c g s u → c ≢ pos 0 →
+    rest ≡ left ++ t ∷ [] → HasNone y (whole_terms done) → HasNone y (whole_terms left) → h ≡ b.head → plus x h ≡ y → k ≡ neg_ℤ u →
     SamePolynomial new (times (whole s) [] (whole_terms done ++ whole_terms rest) ++ times (whole k) x (whole_terms p)) →
     KeepsReached bs (whole_terms done ++ whole_terms rest) new
-reduce_kept bs b done rest left new t p l g s u k x h first m common n er hd hl eh product ek sum =
-    step_kept bs b (whole_terms done ++ whole_terms rest) new t p l g s u x first m common n
-    (ap (λ (z : List WholeTerm). coefficient (whole_terms done ++ whole_terms z) t.mono) er
-    ∙ ap (λ (z : Terms). coefficient (whole_terms done ++ z) t.mono) (values_push left t)
-    ∙ coefficient_last (whole_terms done) (whole_terms left) (term_value t) hd hl)
-    (ap (plus x) (sym eh) ∙ product)
+reduce_kept bs b done rest left new t y c p l g s u k x h ey ec first m common n er hd hl eh product ek sum =
+    let m_x : Exponents = t.kept.value.mono in
+    step_kept bs b (whole_terms done ++ whole_terms rest) new t p l g s u x (subst (λ (z : Exponents). IsFirstFor bs z b) ey first) m
+    (subst (λ (z : ℤ). IsCommonTo l z g s u) ec common) (subst (λ (z : ℤ). z ≢ pos 0) ec n)
+    (ap (λ (z : List WholeTerm). coefficient (whole_terms done ++ whole_terms z) m_x) er
+    ∙ ap (λ (z : Terms). coefficient (whole_terms done ++ z) m_x) (values_push left t)
+    ∙ coefficient_last (whole_terms done) (whole_terms left) (term_value t) (subst (λ (z : Exponents). HasNone z (whole_terms done)) ey hd)
+    (subst (λ (z : Exponents). HasNone z (whole_terms left)) ey hl))
+    (ap (plus x) (sym eh) ∙ product ∙ ey)
     (subst (λ (z : ℤ). SamePolynomial new (times (whole s) [] (whole_terms done ++ whole_terms rest) ++ times (whole z) x (whole_terms p))) ek sum)
 
 -- ---- the whole way

@@ -1,15 +1,15 @@
 -- Terms with whole coefficients, and what they stand for.
--- To cite: length-values, values_push, values_append, first_of_times, rest_of_times, scaled_value, divided_value, raised_value, scaled_more, scaled_all,
+-- To cite: length-values, values_push, values_append, first_of_times, rest_of_times, value_of, scaled_value, plain_value, divided_value, raised_value,
 -- divided_more,
 -- divided_all, last_value, none_more, none_all, differ_by, raised_term, multiple_more, multiple_all, quotient_more, quotients_all, quotient_value,
--- quotient_of.
+-- quotient_of, product_more, product_all.
 use Rattle.std.specs.Prelude.{◌≡◌, ℕ, zero, suc, ◌+◌, ◌-◌, ◌*◌, ◌<◌, ◌≤◌, Bool, true, false}
 use Rattle.std.specs.Prelude.{ℤ, pos, negsuc, ◌*ℤ◌, ◌<ℤ◌, List, [], ◌∷◌, ◌++◌, length, Contains, None}
 use Rattle.std.specs.List.{insert}
 use Rattle.std.specs.Int.RustNames.{unsigned_abs}
 use Rattle.std.proofs.Common.{arith, refl, sym, ap, ◌∙◌, subst, get_or, take, drop}
 use Rattle.std.proofs.lemmas.Int.{ints}
-use Rattle.std.proofs.lemmas.List.{take_all, take_more, map_push, drop_all, take-append-drop}
+use Rattle.std.proofs.lemmas.List.{length-take-le, take_all, take_more, map_push, drop_all, take-append-drop}
 use Rattle.gf_frac.specs.Fraction.{Fraction, whole, over, over-eq, ◌+ℚ◌, ◌*ℚ◌, reciprocal_ℚ}
 use Rattle.gf_frac.proofs.FractionLaws.{*ℚ_comm, *ℚ_assoc, +ℚ_comm, +ℚ_assoc, one-*ℚ, reciprocal_ℚ-*ℚ, over-*}
 use Rattle.gf_exponents_theory.specs.Exponents.{Exponents, same, plus}
@@ -64,34 +64,38 @@ pub rest_of_times : (c : Fraction) (x : Exponents) (f : List WholeTerm) (i : ℕ
 rest_of_times c x f i l = drop_all i (times c x (whole_terms f)) (omega (arith, l, length-times_values c x f))
 
 -- a multiple of a term
-pub scaled_value : (t : WholeTerm) (c k : ℤ) (x : Exponents) → c ≡ t.coef *ℤ k → x ≡ t.mono →
-    ◌≡◌ {A = Term} (record { coef = whole c; mono = x }) (times_term (whole k) [] (term_value t))
-scaled_value t c k x e m = λ q. record { coef = (ap whole e ∙ whole-* t.coef k ∙ *ℚ_comm (whole t.coef) (whole k)) q; mono = m q }
+-- a term, by its number and its monomial
+pub value_of : (r : WholeTerm) (c : ℤ) (x : Exponents) → r.kept.value.coef ≡ c → r.kept.value.mono ≡ x →
+    ◌≡◌ {A = Term} (term_value r) (record { coef = whole c; mono = x })
+value_of r c x ec ex = λ q. record { coef = ap whole ec q; mono = ex q }
 
-pub divided_value : (t : WholeTerm) (c k : ℤ) (x : Exponents) → t.coef ≡ k *ℤ c → x ≡ t.mono →
-    term_value t ≡ times_term (whole k) [] (record { coef = whole c; mono = x })
-divided_value t c k x e m = λ q. record { coef = (ap whole e ∙ whole-* k c) q; mono = sym m q }
+pub scaled_value : (t : WholeTerm) (c k : ℤ) → c ≡ t.kept.value.coef *ℤ k →
+    ◌≡◌ {A = Term} (record { coef = whole c; mono = t.kept.value.mono }) (times_term (whole k) [] (term_value t))
+scaled_value t c k e = λ q. record {
+  coef = (ap whole e ∙ whole-* t.kept.value.coef k ∙ *ℚ_comm (whole t.kept.value.coef) (whole k)) q;
+  mono = t.kept.value.mono;
+}
 
-pub raised_value : (t : WholeTerm) (c k : ℤ) (u x : Exponents) → c ≡ t.coef *ℤ k → x ≡ plus u t.mono →
-    ◌≡◌ {A = Term} (record { coef = whole c; mono = x }) (times_term (whole k) u (term_value t))
-raised_value t c k u x e m = λ q. record { coef = (ap whole e ∙ whole-* t.coef k ∙ *ℚ_comm (whole t.coef) (whole k)) q; mono = m q }
+-- a multiple by 1
+pub plain_value : (t : Term) (k : ℤ) → k ≡ pos 1 → t ≡ times_term (whole k) [] t
+plain_value t k one = λ q. record { coef = (sym (ap (λ (z : ℤ). whole z *ℚ t.coef) one ∙ one-*ℚ t.coef)) q; mono = t.mono }
 
-values_more : (f : List WholeTerm) (i : ℕ) (t : WholeTerm) → i < length f → t ≡ get_or f i t →
+pub divided_value : (t r : WholeTerm) (c k : ℤ) (x : Exponents) → t.kept.value.coef ≡ k *ℤ c → x ≡ t.kept.value.mono → r.kept.value.coef ≡ c →
+    r.kept.value.mono ≡ x → term_value t ≡ times_term (whole k) [] (term_value r)
+divided_value t r c k x e m ec ex =
+    λ q. record { coef = (ap whole e ∙ whole-* k c ∙ ap (λ (z : ℤ). whole k *ℚ whole z) (sym ec)) q; mono = (sym m ∙ sym ex) q }
+
+pub raised_value : (t r : WholeTerm) (c k : ℤ) (u x : Exponents) → c ≡ t.kept.value.coef *ℤ k → x ≡ plus u t.kept.value.mono → r.kept.value.coef ≡ c →
+    r.kept.value.mono ≡ x → term_value r ≡ times_term (whole k) u (term_value t)
+raised_value t r c k u x e m ec ex = λ q. record {
+  coef = (ap whole ec ∙ ap whole e ∙ whole-* t.kept.value.coef k ∙ *ℚ_comm (whole t.kept.value.coef) (whole k)) q;
+  mono = (ex ∙ m) q;
+}
+
+pub values_more : (f : List WholeTerm) (i : ℕ) (t : WholeTerm) → i < length f → t ≡ get_or f i t →
     whole_terms (take (i + 1) f) ≡ whole_terms (take i f) ++ term_value t ∷ []
 values_more f i t l is =
     ap whole_terms (take_more f i t l) ∙ values_push (take i f) (get_or f i t) ∙ ap (λ (z : WholeTerm). whole_terms (take i f) ++ term_value z ∷ []) (sym is)
-
-pub scaled_more : (k : Fraction) (f out new : List WholeTerm) (i : ℕ) (t r : WholeTerm) → i < length f → t ≡ get_or f i t →
-    term_value r ≡ times_term k [] (term_value t) → new ≡ out ++ r ∷ [] → whole_terms out ≡ times k [] (whole_terms (take i f)) →
-    whole_terms new ≡ times k [] (whole_terms (take (i + 1) f))
-scaled_more k f out new i t r l is e push inv =
-    ap whole_terms push ∙ values_push out r ∙ ap (λ (z : Terms). z ++ term_value r ∷ []) inv
-    ∙ ap (λ (z : Term). times k [] (whole_terms (take i f)) ++ z ∷ []) e
-    ∙ sym (ap (times k []) (values_more f i t l is) ∙ map_push (times_term k []) (whole_terms (take i f)) (term_value t))
-
-pub scaled_all : (k : Fraction) (f out : List WholeTerm) (i : ℕ) → length f ≤ i → whole_terms out ≡ times k [] (whole_terms (take i f)) →
-    whole_terms out ≡ times k [] (whole_terms f)
-scaled_all k f out i l e = e ∙ ap (λ (z : List WholeTerm). times k [] (whole_terms z)) (take_all i f l)
 
 pub divided_more : (k : Fraction) (f out new : List WholeTerm) (i : ℕ) (t r : WholeTerm) → i < length f → t ≡ get_or f i t →
     term_value t ≡ times_term k [] (term_value r) → new ≡ out ++ r ∷ [] → whole_terms (take i f) ≡ times k [] (whole_terms out) →
@@ -114,7 +118,7 @@ last_value f i t l is =
     sym (take_all (i + 1) f (omega (arith, l))) ∙ take_more f i t (omega (arith, l)) ∙ ap (λ (z : WholeTerm). take i f ++ z ∷ []) (sym is)
 
 -- no term up to a place has the monomial, nor that there
-pub none_more : (x : Exponents) (f : List WholeTerm) (i : ℕ) (t : WholeTerm) → i < length f → t ≡ get_or f i t → same x t.mono ≡ false →
+pub none_more : (x : Exponents) (f : List WholeTerm) (i : ℕ) (t : WholeTerm) → i < length f → t ≡ get_or f i t → same x t.kept.value.mono ≡ false →
     HasNone x (whole_terms (take i f)) → HasNone x (whole_terms (take (i + 1) f))
 none_more x f i t l is n h =
     subst (HasNone x) (sym (values_more f i t l is)) (Each-++ (λ (s : Term). same x s.mono ≡ false) (whole_terms (take i f)) (term_value t ∷ []) h (n, tt))
@@ -179,11 +183,11 @@ multiple_all k f out i n l inv =
 
 -- the quotient of one coefficient more
 pub quotient_more : (k : ℤ) (f : List WholeTerm) (out new : Terms) (i : ℕ) (t : WholeTerm) (x : Fraction) (m : Exponents) → (k ≡ pos 0 → ⊥) → i < length f →
-    t ≡ get_or f i t → whole t.coef ≡ whole k *ℚ x → m ≡ t.mono → new ≡ out ++ record { coef = x; mono = m } ∷ [] →
+    t ≡ get_or f i t → whole t.kept.value.coef ≡ whole k *ℚ x → m ≡ t.kept.value.mono → new ≡ out ++ record { coef = x; mono = m } ∷ [] →
     out ≡ times (reciprocal_ℚ (whole k)) [] (whole_terms (take i f)) → new ≡ times (reciprocal_ℚ (whole k)) [] (whole_terms (take (i + 1) f))
 quotient_more k f out new i t x m n l is ex em push inv =
     let s : Term = record { coef = x; mono = m } in
-    let back : x ≡ reciprocal_ℚ (whole k) *ℚ whole t.coef =
+    let back : x ≡ reciprocal_ℚ (whole k) *ℚ whole t.kept.value.coef =
     sym (one-*ℚ x) ∙ ap (λ z. z *ℚ x) (sym (reciprocal_ℚ-*ℚ (whole k) (nonzero_whole k n))) ∙ *ℚ_assoc (reciprocal_ℚ (whole k)) (whole k) x ∙ ap
     (λ z. reciprocal_ℚ (whole k) *ℚ z) (sym ex) in
     let e : s ≡ times_term (reciprocal_ℚ (whole k)) [] (term_value t) = λ q. record { coef = back q; mono = em q } in
@@ -225,7 +229,33 @@ quotient_of a b g p q n d x c en ed h e =
 
 -- one more that no mark divides
 pub irreducible_more : (bs : List MarkedPolynomial) (f : List WholeTerm) (i : ℕ) (t : WholeTerm) → i < length f → t ≡ get_or f i t →
-    (IsDivisible (Contains bs) t.mono → ⊥) → AreIrreducible bs None (whole_terms (take i f)) → AreIrreducible bs None (whole_terms (take (i + 1) f))
+    (IsDivisible (Contains bs) t.kept.value.mono → ⊥) → AreIrreducible bs None (whole_terms (take i f)) → AreIrreducible bs None (whole_terms (take (i + 1) f))
 irreducible_more bs f i t l is n h =
     subst (AreIrreducible bs None) (sym (values_more f i t l is))
     (Each-++ (λ (s : Term). IsBeside None s.mono → IsDivisible (Contains bs) s.mono → ⊥) (whole_terms (take i f)) (term_value t ∷ []) h ((λ _ d. n d), tt))
+
+-- ---- products of monomials
+
+-- one entry more of both
+plus_push : (u v : Exponents) (b c : ℕ) → length u ≡ length v → plus (u ++ b ∷ []) (v ++ c ∷ []) ≡ plus u v ++ (b + c) ∷ []
+plus_push [] [] b c l = refl
+plus_push [] (q ∷ v) b c l = absurd (omega (arith, l))
+plus_push (p ∷ u) [] b c l = absurd (omega (arith, l))
+plus_push (p ∷ u) (q ∷ v) b c l = ap (λ (z : Exponents). (p + q) ∷ z) (plus_push u v b c (omega (arith, l)))
+
+-- the entries up to a place, and that there
+pub product_more : (x y z : Exponents) (i : ℕ) → i < length x → length x ≡ length y → length x ≡ length z → get_or x i 0 ≡ get_or y i 0 + get_or z i 0 →
+    take i x ≡ plus (take i y) (take i z) → take (i + 1) x ≡ plus (take (i + 1) y) (take (i + 1) z)
+product_more x y z i l ly lz e h =
+    take_more x i 0 l ∙ ap (λ (w : Exponents). w ++ get_or x i 0 ∷ []) h ∙ ap (λ (k : ℕ). plus (take i y) (take i z) ++ k ∷ []) e
+    ∙ sym
+    (plus_push (take i y) (take i z) (get_or y i 0) (get_or z i 0)
+    (length-take-le i y (omega (arith, l, ly)) ∙ sym (length-take-le i z (omega (arith, l, lz)))))
+    ∙ ap (λ (w : Exponents). plus w (take i z ++ get_or z i 0 ∷ [])) (sym (take_more y i 0 (omega (arith, l, ly))))
+    ∙ ap (plus (take (i + 1) y)) (sym (take_more z i 0 (omega (arith, l, lz))))
+
+-- all of them
+pub product_all : (x y z : Exponents) (i : ℕ) → length x ≤ i → length x ≡ length y → length x ≡ length z → take i x ≡ plus (take i y) (take i z) →
+    x ≡ plus y z
+product_all x y z i l ey ez h =
+    sym (take_all i x l) ∙ h ∙ ap (λ (w : Exponents). plus w (take i z)) (take_all i y (omega (arith, l, ey))) ∙ ap (plus y) (take_all i z (omega (arith, l, ez)))

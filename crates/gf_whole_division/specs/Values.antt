@@ -11,7 +11,7 @@ use Rattle.gf_whole_division.specs.declared.terms.WholeTerm.{WholeTerm}
 
 -- the term that it stands for
 abbrev pub term_value : WholeTerm → Term
-term_value t = record { coef = whole t.coef; mono = t.mono }
+term_value t = record { coef = whole t.kept.value.coef; mono = t.kept.value.mono }
 
 -- the polynomial
 abbrev pub whole_terms : List WholeTerm → Terms

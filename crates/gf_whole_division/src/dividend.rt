@@ -14,6 +14,7 @@ use crate::terms::{Beyond, WholeTerm, differ};
 use gf_poly::Mono;
 use gf_whole::Whole;
 use std::alloc::Global;
+use std::mem;
 
 /// The terms that no member divides, and those that wait, in ascending order.
 #[derive(Drop)]
@@ -63,7 +64,7 @@ fn has_none(terms: &[WholeTerm], x: &Mono) -> bool
 {
     'terms: for i in 0..terms.len() {
         let t = &terms[i];
-        if !differ(x, &t.mono) {
+        if !differ(x, t.mono()) {
             return false;
         }
     }
@@ -77,7 +78,7 @@ fn content(terms: &[WholeTerm], with: Whole) -> Whole {
         if found.is_one() {
             return found;
         }
-        found = t.coef.divisor(&found);
+        found = t.coef().divisor(&found);
     }
     found
 }
@@ -131,9 +132,11 @@ impl WholeDividend {
             (times (whole by.now) [] (terms_of self.old) ++ times (whole m.now.factor) m.now.mono (whole_terms more.now))) }
     {
         if !by.is_one() {
-            self.done = scaled(alloc, &self.done, by)?;
+            let done = mem::replace(&mut self.done, Vec::new(alloc));
+            self.done = scaled(alloc, done, by)?;
         }
-        self.rest = combined(alloc, &self.rest, by, more, m, ranking)?;
+        let rest = mem::replace(&mut self.rest, Vec::new(alloc));
+        self.rest = combined(alloc, rest, by, more, m, ranking)?;
         Ok(())
     }
 
@@ -154,23 +157,24 @@ impl WholeDividend {
     {
         let last = self.rest.len() - 1;
         let t = &self.rest[last];
-        let found = divisor_of(&t.mono, by)?;
+        let (x, coef) = (t.mono(), t.coef());
+        let found = divisor_of(x, by)?;
         let Some(j) = found else {
             return self.pass();
         };
-        if t.coef.is_zero() {
+        if coef.is_zero() {
             return Err(Beyond);
         }
-        if !has_none(&self.done, &t.mono) {
+        if !has_none(&self.done, x) {
             return Err(Beyond);
         }
-        if !has_none(&self.rest[..last], &t.mono) {
+        if !has_none(&self.rest[..last], x) {
             return Err(Beyond);
         }
         let member = &by[j];
         let (lead, terms) = member.multiple();
-        let (_, factor, share) = lead.common(&t.coef);
-        let mono = t.mono.quotient(member.head());
+        let (_, factor, share) = lead.common(coef);
+        let mono = x.quotient(member.head());
         let rank = ranking.rank(&mono)?;
         let m = Multiplier {
             factor: share.neg(),
@@ -205,7 +209,7 @@ impl WholeDividend {
         ensures { OnOk result (IsMultipleOf (terms_of self.new) (terms_of self.old)) }
     {
         let words = match self.rest.last() {
-            Some(t) => t.coef.words(),
+            Some(t) => t.coef().words(),
             None => return Ok(()),
         };
         if words < self.words.saturating_add(2) {
@@ -213,7 +217,7 @@ impl WholeDividend {
         }
         self.divide(alloc)?;
         self.words = match self.rest.last() {
-            Some(t) => t.coef.words(),
+            Some(t) => t.coef().words(),
             None => 0,
         };
         Ok(())

@@ -49,7 +49,7 @@ fn multiple_of_denominators(terms: &[Term]) -> Result<Whole, Beyond>
 }
 
 /// The term times a multiple of its denominator.
-fn raised(t: &Term, by: &Whole, ranking: &Ranking) -> Result<WholeTerm, Beyond>
+fn raised(alloc: Global, t: &Term, by: &Whole, ranking: &Ranking) -> Result<WholeTerm, Beyond>
     ensures { IfOk result (λ r. term_value r ≡ times_term (whole by.now) [] t.now) }
 {
     let denominator = Whole::new(t.coef.denom());
@@ -58,7 +58,8 @@ fn raised(t: &Term, by: &Whole, ranking: &Ranking) -> Result<WholeTerm, Beyond>
     let coef = product(&numerator, &times)?;
     let mono = t.mono.copy();
     let rank = ranking.rank(&t.mono)?;
-    Ok(WholeTerm { coef, mono, rank })
+    let term = WholeTerm::new(alloc, coef, mono, rank)?;
+    Ok(term)
 }
 
 /// The place in an ascending list where a term with this rank belongs.
@@ -92,7 +93,7 @@ pub fn whole_multiple(
     let mut i = 0;
     'terms: while i < terms.len() {
         let t = &terms[i];
-        let multiple = raised(t, &by, ranking)?;
+        let multiple = raised(alloc, t, &by, ranking)?;
         let place = place_of(&out, &multiple.rank);
         out.insert(place, multiple)?;
         i += 1;

@@ -47,7 +47,7 @@ fn is_irreducible(terms: &[WholeTerm], by: &[WholeMember]) -> bool
 {
     'terms: for i in 0..terms.len() {
         let t = &terms[i];
-        if is_divisible(&t.mono, by) {
+        if is_divisible(t.mono(), by) {
             return false;
         }
     }
@@ -104,12 +104,12 @@ fn narrowed(alloc: Global, terms: &[WholeTerm]) -> Result<Poly, Beyond>
     if terms.is_empty() {
         return Ok(Poly::zero(alloc));
     }
-    let by = size(&terms[0].coef)?;
+    let by = size(terms[0].coef())?;
     let mut i = 0;
     'terms: while i < terms.len() {
         let t = &terms[i];
-        let coef = quotient(&t.coef, &by)?;
-        let mono = t.mono.copy();
+        let coef = quotient(t.coef(), &by)?;
+        let mono = t.mono().copy();
         out.push(Term { coef, mono })?;
         i += 1;
     }
@@ -214,8 +214,8 @@ fn pair(
         rank: ranking.rank(&of_c)?,
         mono: of_c,
     };
-    let first = combined(alloc, &[], &one, terms_b, &left, ranking)?;
-    combined(alloc, &first, &one, terms_c, &right, ranking)
+    let first = combined(alloc, Vec::new(alloc), &one, terms_b, &left, ranking)?;
+    combined(alloc, first, &one, terms_c, &right, ranking)
 }
 
 /// A remainder of the S-polynomial of two members, up to a factor, in 127 bits.

@@ -1,13 +1,11 @@
+use Rattle.std.proofs.Common.{refl}
+use Rattle.gf_whole_division.proofs.CombinationLaws.{scaled_total}
+use Rattle.std.proofs.lemmas.Result.{IfOk-weaker}
 use Rattle.gf_frac.specs.Fraction.{whole}
-use Rattle.gf_whole_division.proofs.ValueLaws.{scaled_more, scaled_all}
 use Rattle.gf_whole_division.proofs.combinations.scaled.Goals as goal
 
-pub terms-preserved : goal.terms-preserved
-terms-preserved c =
-    scaled_more
-    (whole c.args.by.now) c.args.terms.now c.terms.out.items c.push.new.self.items c.terms.i c.index-terms-i.result c.in_ok-multiple.multiple
-    c.terms-test.true
-    c.index-terms-i.is c.in_ok-multiple.ensures c.in_ok-push.ensures.items c.terms.invariant
-
 pub returns : goal.returns
-returns c = scaled_all (whole c.args.by.now) c.args.terms.now c.terms.out.items c.terms.i c.terms-test.false c.terms.invariant
+returns c =
+    IfOk-weaker c.joined.result _ _
+    (λ h. scaled_total (whole c.args.by.now) (record { above = c.in_ok-with_capacity.field-0; below = c.args.terms }) c.finish.new.self c.args.terms.items h.items
+    c.in_ok-with_capacity.ensures.items refl c.in_ok-finish.ensures) c.joined.ensures
