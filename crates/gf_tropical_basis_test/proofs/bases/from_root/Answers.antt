@@ -115,7 +115,7 @@ loop-walker-preserved c =
     let p : ArePassedAt c.args.root.variables c.in-Some.basis.items c.loop-walker.passed c.at_basis.new.passed =
     subst (λ m. ArePassedAt m c.in-Some.basis.items c.loop-walker.passed c.at_basis.new.passed) n c.in_ok-found.ensures.passed in (
       passed_more c.args.root.variables (maximal_rows c.args.fan.now) (walk_at c.args.root c.args.region.now c.args.pairs) c.loop-walker.walker c.advance.new.self
-    c.in-Some.basis c.requires.own s o c.loop-walker.invariant.0,
+          c.in-Some.basis c.requires.own s o c.loop-walker.invariant.0,
       free_more c.args.root.variables (polys c.args.root.items) c.in-Some.basis.items c.loop-walker.passed c.at_basis.new.passed c.requires.own.fan.ideal b p
           c.loop-walker.invariant.1,
     )
