@@ -1,4 +1,5 @@
--- Vectors that passed at a basis. To cite: among, one_more, of_none, passed_none, passed_on, still_known, found_passes, passed_more, known_in_cut, passed_by_cut.
+-- Vectors that passed at a basis. To cite: among, one_more, of_none, passed_none, passed_on, still_known, found_passes, passed_more, known_in_cut,
+-- passed_by_cut.
 use Rattle.std.proofs.Common.{◌≡◌, ◌∙◌, ◌⊎◌, if◌then◌else◌, ℕ, Bool, true, false, List, [], ◌∷◌, ◌++◌, ℤ, All, Contains, length, refl, sym, ap, subst, inl, inr}
 use Rattle.std.specs.Bool.{Decides}
 use Rattle.std.specs.List.{list_any}
@@ -79,8 +80,10 @@ found_passes n bs c faces f v vs e a k q known h =
 pub passed_more : (n : ℕ) (bs : List MarkedPolynomial) (c : RowsAndRays) (faces : List Face) (f : Face) (v : List ℤ) (b : Bool) (old now next : List (List ℤ)) →
     c.ambient ≡ n → AreFaces c faces → Contains faces f → v ≡ vector_of c f → b ≡ false → TellsMonomial n bs v b →
     ((u : List ℤ) → Contains next u → Contains now u ⊎ (u ≡ v)) → ArePassedIn n bs (rows_of c) old now → ArePassedIn n bs (rows_of c) old next
-passed_more n bs c faces f v b old now next e a k q t tells more p u m = elim (more u m) [ inl o ↦ p u o | inr s ↦ inr (subst (HasPassedIn n bs (rows_of c))
-    (sym s) here) ]
+passed_more n bs c faces f v b old now next e a k q t tells more p u m = elim (more u m) [
+  | inl o ↦ p u o
+  | inr s ↦ inr (subst (HasPassedIn n bs (rows_of c)) (sym s) here)
+]
   where
     here : HasPassedIn n bs (rows_of c) v
     here =

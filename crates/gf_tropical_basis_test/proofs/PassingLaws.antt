@@ -1,5 +1,5 @@
 -- Vectors that passed at one basis of an ideal pass at each other one. To cite: free_none, known_everywhere, free_more, step_basis.
-use Rattle.std.proofs.Common.{◌≡◌, ◌++◌, ◌∷◌, [], ℕ, List, ℤ, length, Contains, arith, refl, subst, inl, inr}
+use Rattle.std.proofs.Common.{[], ℕ, List, ℤ, arith, refl, subst, inl, inr}
 use Rattle.gf_exponents_theory.specs.Orders.{lighter}
 use Rattle.gf_poly.specs.Polynomial.{Terms}
 use Rattle.gf_poly.specs.Marking.{MarkedPolynomial, MarkedPolynomials, polys}

@@ -50,7 +50,15 @@ fn at_cones(
     let places = fan.maximal();
     'places: for i in 0..places.len() {
         let maximal = maximal_cone(fan, i);
-        let found = at_cone(alloc, basis, cone.normals(), maximal, pairs, &mut seen, passed)?;
+        let found = at_cone(
+            alloc,
+            basis,
+            cone.normals(),
+            maximal,
+            pairs,
+            &mut seen,
+            passed,
+        )?;
         if let Some(v) = found {
             return Ok(Some(v));
         }

@@ -18,7 +18,8 @@ use Rattle.gf_tropical_basis_test.proofs.bases.from_root.Goals as goal
 
 pub loop-walker-init : goal.loop-walker-init
 loop-walker-init c = (
-  rw c.in_ok-walker.ensures (passed_none c.args.root.variables (maximal_rows c.args.fan.now) (walk_at c.args.root c.args.region.now c.args.pairs) c.requires.own),
+  rw c.in_ok-walker.ensures (passed_none c.args.root.variables (maximal_rows c.args.fan.now)
+      (walk_at c.args.root c.args.region.now c.args.pairs) c.requires.own),
   rw c.new-passed.ensures (free_none c.args.root.variables (polys c.args.root.items)),
 )
 
@@ -114,8 +115,8 @@ loop-walker-preserved c =
     c.args.root.variables (maximal_rows c.args.fan.now) c.loop-walker.walker c.advance.new.self c.in-Some.basis c.requires.own c.loop-walker.invariant.0 s in
     let p : ArePassedAt c.args.root.variables c.in-Some.basis.items c.loop-walker.passed c.at_basis.new.passed =
     subst (λ m. ArePassedAt m c.in-Some.basis.items c.loop-walker.passed c.at_basis.new.passed) n c.in_ok-found.ensures.passed in (
-      passed_more c.args.root.variables (maximal_rows c.args.fan.now) (walk_at c.args.root c.args.region.now c.args.pairs) c.loop-walker.walker c.advance.new.self
-    c.in-Some.basis c.requires.own s o c.loop-walker.invariant.0,
+      passed_more c.args.root.variables (maximal_rows c.args.fan.now) (walk_at c.args.root c.args.region.now c.args.pairs) c.loop-walker.walker
+          c.advance.new.self c.in-Some.basis c.requires.own s o c.loop-walker.invariant.0,
       free_more c.args.root.variables (polys c.args.root.items) c.in-Some.basis.items c.loop-walker.passed c.at_basis.new.passed c.requires.own.fan.ideal b p
           c.loop-walker.invariant.1,
     )

@@ -1,4 +1,3 @@
-use Rattle.std.proofs.Common.{◌≡◌, List, ℤ, Contains, sym, subst}
 use Rattle.gf_initial_monomials.proofs.PassingLaws.{of_none}
 use Rattle.gf_initial_monomials.proofs.passed.Passed.make_room.Goals as goal
 
