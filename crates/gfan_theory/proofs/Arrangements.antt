@@ -1,8 +1,8 @@
 -- Each marked set has an arrangement: its members, ascending by their marks, those with the same mark in their order.
 -- To cite: arrangement, arranged_set. The rest are steps.
-use Rattle.std.proofs.Common.{◌≡◌, ℕ, zero, suc, ◌+◌, ◌<◌, ◌≤◌, Bool, true, false, cond, not, ◌&&◌, List, [], ◌∷◌, length, filter, get_or, arith, refl, sym, ap}
+use Rattle.std.proofs.Common.{◌≡◌, ℕ, zero, suc, ◌+◌, ◌<◌, Bool, true, false, cond, not, List, [], ◌∷◌, length, filter, get_or, arith, refl, sym, ap}
 use Rattle.std.proofs.Common.{◌∙◌}
-use Rattle.std.proofs.Common.{subst, inl, inr, IsPermutation, IsSortedBy}
+use Rattle.std.proofs.Common.{subst, IsPermutation, IsSortedBy}
 use Rattle.std.specs.Cmp.{IsStrictWeakOrder}
 use Rattle.std.specs.List.Sorted.{ties, IsStableBy}
 use Rattle.std.specs.Ordering.{is_lt}

@@ -1,6 +1,6 @@
 -- Homogenizations of polynomials of total degrees below 2^31 stay within the limit of exponents.
 -- To cite: homogenizations_fit.
-use Rattle.std.proofs.Common.{List, Contains, arith}
+use Rattle.std.proofs.Common.{Contains, arith}
 use Rattle.gf_int_theory.proofs.ListLaws.{all_by}
 use Rattle.gf_small.specs.Homogenization.{IsHomogenizedWithinLimit}
 use Rattle.gf_text.specs.declared.written.Written.{Written}

@@ -2,7 +2,6 @@
 -- To cite: tests_of_linear_sets_fit, membership_in_linear_ideals_fits. The rest are steps.
 use Rattle.std.proofs.Common.{map, Contains, Err, arith, refl}
 use Rattle.std.proofs.lemmas.List.Sorted.{Contains-permutation, IsPermutation-sym}
-use Rattle.gf_int_theory.proofs.ListLaws.{all_by}
 use Rattle.gf_poly.specs.declared.error.PolyError.TheVariants as errors
 use Rattle.gf_poly.specs.Polynomial.{Terms}
 use Rattle.gf_poly.specs.Marking.{MarkedPolynomial, MarkedPolynomials, IsArranged}
@@ -14,9 +13,6 @@ use Rattle.gf_reduced.proofs.RefusalLaws.{test_only_memory}
 use Rattle.gf_binomials_theory.specs.Binomials.{IsBinomial, AreMarkedBinomials}
 use Rattle.gf_binomials_theory.proofs.BinomialLaws.{reduction_fits}
 use Rattle.gf_binomial_calls_theory.proofs.CheckLaws.{forms_binomial}
-use Rattle.gf_small.specs.Homogenization.{IsHomogenizedWithinLimit}
-use Rattle.gf_text.specs.declared.written.Written.{Written}
-use Rattle.gf_text.specs.declared.written.Written.TheVariants as written
 use Rattle.gfan_theory.specs.Linear.{IsLinear, IsLinearSet}
 use Rattle.gfan_theory.specs.Tests.{TestsOfLinearSetsFit, MembershipInLinearIdealsFits}
 use Rattle.gfan_theory.proofs.LinearRuns.{IsOfDegree, AreLinearMarked, closed-degree, step_short}
