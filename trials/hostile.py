@@ -133,7 +133,8 @@ def untabled():
     known = {(command.name, option.word) for command in COMMANDS for option in command.options()} | {(command.name, "") for command in COMMANDS}
     for line in (TOP / "docs" / "commands" / "README.md").read_text().splitlines():
         found = re.match(r"\| `(_[a-z]+)((?: K| FILE)?)`((?: `[^`]+`)*) \|", line)
-        if found:
+        # (a word that is no command is refused in one of its rows)
+        if found and (TOP / "docs" / "commands" / f"{found.group(1)}.md").exists():
             for word in ["", *found.group(2).split(), *re.findall(r"`(-{1,2}[a-z0-9]+)", found.group(3))]:
                 if (found.group(1), word) not in known:
                     yield f"{found.group(1)} {word}".strip()
