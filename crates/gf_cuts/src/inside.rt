@@ -4,6 +4,7 @@ ghost use Rattle.gf_rays.specs.Cones.{RowsAndRays, rows_of};
 ghost use Rattle.gf_patterns_theory.specs.Cuts.{IsHeldBy};
 ghost use Rattle.gf_levels_theory.specs.Generators.{AreOuter};
 
+use crate::sharing::Sharing;
 use gf_rays::Rays;
 use gf_vec::{IntVec, is_one_of, same_vectors};
 use std::alloc::{AllocError, Global};
@@ -42,12 +43,15 @@ fn is_inside(c: &Rays, d: &Rays) -> bool
     same_vectors(c.lineality(), d.lineality()) && are_some(c.rays(), d.rays())
 }
 
-/// Whether the cone lies inside one of these, as their rays show.
-fn is_inside_some(cone: &Rays, cones: &[Rays]) -> bool
+/// Whether the cone lies inside one of those at these places, as their rays show.
+fn is_inside_some(cone: &Rays, cones: &[Rays], places: &[usize]) -> bool
     requires { All (λ (d : RowsAndRays). d.ambient ≡ cone.now.ambient) cones.now }
     ensures { IsTrue result → (d : RowsAndRays) × (Contains cones.now d × IsHeldBy cone.now.ambient (rows_of cone.now) (rows_of d)) }
 {
-    for d in cones {
+    for place in places {
+        let Some(d) = cones.get(*place) else {
+            continue;
+        };
         if is_inside(cone, d) {
             return true;
         }
@@ -62,8 +66,10 @@ fn outer_once(alloc: Global, n: u32, cones: Vec<Rays>) -> Result<Vec<Rays>, Allo
     ensures outer { IfOk result (λ out. AreOuter n (map rows_of cones.items) (map rows_of out.items)) }
 {
     let mut kept = Vec::new(alloc);
+    let mut sharing = Sharing::none(alloc, cones.len())?;
     for cone in cones {
-        if !is_inside_some(&cone, &kept) {
+        if !is_inside_some(&cone, &kept, sharing.near(&cone)) {
+            sharing.add(kept.len(), &cone)?;
             kept.push(cone)?;
         }
     }

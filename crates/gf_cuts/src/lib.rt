@@ -12,6 +12,7 @@ mod inside;
 mod levels;
 mod marks;
 mod parts;
+mod sharing;
 mod thinning;
 mod ties;
 

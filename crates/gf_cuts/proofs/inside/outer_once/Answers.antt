@@ -2,8 +2,8 @@ use Rattle.std.proofs.Common.{IsTrue, rules}
 use Rattle.gf_cuts.proofs.OuterLaws.{outer_left, outer_kept, taken, taken_ambient, kept_ambient, held_as}
 use Rattle.gf_cuts.proofs.inside.outer_once.Goals as goal
 
-pub loop-cone-preserved-in-Continue-1 : goal.loop-cone-preserved-in-Continue-1
-loop-cone-preserved-in-Continue-1 c =
+pub loop-cone-preserved-in-Continue-branch-3 : goal.loop-cone-preserved-in-Continue-branch-3
+loop-cone-preserved-in-Continue-branch-3 c =
     let v = c.loop-cone.yielded in
     let rest = c.loop-cone.cone-iterator.rest.items in
     let new = c.next.new.self.rest.items in
