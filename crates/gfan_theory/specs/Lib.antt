@@ -8,4 +8,5 @@ pub mod Everyday  -- everyday inputs that meet the premise of completeness
 pub mod Linear  -- ideals that differences of variables generate
 pub mod Continued  -- their lists, from a marked basis or after one
 pub mod Summaries  -- the ideals with a number
+pub mod Tested  -- tests of marked sets
 pub mod SmallSets  -- polynomials with small exponents in few variables
