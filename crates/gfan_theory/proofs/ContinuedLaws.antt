@@ -1,5 +1,5 @@
 -- What `_bases --after` may do stays within its limits for ideals of variables and differences of variables, also with `-g` and `--within`.
--- To cite: continuations, continuations_within. The rest are steps.
+-- To cite: reduced_memory, continuations, continuations_within. The rest are steps.
 use Rattle.std.proofs.Common.{◌≡◌, ℕ, ◌≤◌, Bool, true, false, List, length, None, Contains, arith, refl, sym, ap, ◌∙◌, subst}
 use Rattle.gf_exponents_theory.specs.Orders.{gains}
 use Rattle.gf_exponents_theory.specs.SixOrders.{MonomialOrder}
@@ -43,7 +43,7 @@ use Rattle.gfan_theory.proofs.DifferenceLimits.{rows_small, regions_of_differenc
 use Rattle.gfan_theory.proofs.GivenLimits.{reduced_runs, tails_memory, basis_differences, given_everywhere}
 
 -- reductions of such polynomials by such members
-reduced_memory : (bs : List MarkedPolynomial) (fs : List Terms) (d : PolyError) → AreLinearMarked bs → AreMarkedBinomials (Contains bs) → AreBinomials fs →
+pub reduced_memory : (bs : List MarkedPolynomial) (fs : List Terms) (d : PolyError) → AreLinearMarked bs → AreMarkedBinomials (Contains bs) → AreBinomials fs →
     ((f : Terms) → Contains fs f → IsLinear f) → IsSomeReductionRefusal bs fs d → d ≡ errors.Memory
 reduced_memory bs fs (errors.Overflow o) m two b l h = absurd (refusals_tell_no_overflow.reduction bs h.polynomial o two (b h.polynomial h.contained) h.cause)
 reduced_memory bs fs (errors.Exponent o) m two b l h =

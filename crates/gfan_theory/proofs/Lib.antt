@@ -18,6 +18,7 @@ pub mod LinearChecks  -- the checks of marked sets of such polynomials, and thei
 pub mod GivenLimits  -- their lists, from a marked basis
 pub mod ContinuedLaws  -- their lists, after a basis
 pub mod SummaryLimits  -- summaries of such ideals
+pub mod TestLimits  -- tests of marked sets of such polynomials
 pub mod SessionLaws  -- sessions that start at one of their bases
 pub mod CoefficientSums  -- the sum of the coefficients, on an ideal
 pub mod SaturationRuns  -- runs on linear polynomials and the inverse of a variable

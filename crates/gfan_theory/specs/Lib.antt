@@ -8,6 +8,7 @@ pub mod Everyday  -- everyday inputs that meet the premise of completeness
 pub mod Linear  -- ideals that differences of variables generate
 pub mod Continued  -- their lists, from a marked basis or after one
 pub mod Summaries  -- the ideals with a number
+pub mod Tested  -- tests of marked sets
 pub mod SmallSets  -- polynomials with small exponents in few variables
 pub mod SmallCones  -- cones with few small rows
 pub mod LinearFans  -- fans of the cones of bases of variables and differences of variables

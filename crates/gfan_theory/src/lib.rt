@@ -14,6 +14,7 @@ ghost use Rattle.gfan_theory.specs.Linear.{LinearRunsStayWithinLimits, LinearRul
 ghost use Rattle.gfan_theory.specs.Linear.{LinearIdealsStayWithinLimits, LinearWeightsStayWithinLimits, LinearSessionsStayWithinLimits};
 ghost use Rattle.gfan_theory.specs.Continued.{GivenListsStayWithinLimits, ContinuationsStayWithinLimits, ContinuationsWithinStayWithinLimits};
 ghost use Rattle.gfan_theory.specs.Summaries.{SummariesStayWithinLimits};
+ghost use Rattle.gfan_theory.specs.Tested.{LinearTestsStayWithinLimits};
 ghost use Rattle.gfan_theory.specs.SmallSets.{StatisticsOfSmallSetsFit, SpacesOfSmallSetsFit};
 ghost use Rattle.gfan_theory.specs.Everyday.{RegionsOfBinomialsStayWithinLimits, CertificatesOfVariablesStayWithinLimits};
 ghost use Rattle.gfan_theory.specs.Everyday.{SaturationsOfVariablesStayWithinLimits};
@@ -98,6 +99,12 @@ pub fn linear_ideals_stay_within_limits()
 /// of `_weightvector` is met if such a set is a reduced Gröbner basis for its marking.
 pub fn linear_weights_stay_within_limits()
     ensures { LinearWeightsStayWithinLimits }
+{}
+
+/// The premises of completeness of `_ismarkedgroebnerbasis` and `_doesidealcontain` are met by marked sets of variables and differences of variables, in at
+/// most four variables; that of the latter if the set is a Gröbner basis for its marking, and the other polynomials are of this kind too.
+pub fn linear_tests_stay_within_limits()
+    ensures { LinearTestsStayWithinLimits }
 {}
 
 /// The premises of completeness of `_bases -g`, with certificates too, and of `_bases -g --within` are met by a marked set of variables and differences of
