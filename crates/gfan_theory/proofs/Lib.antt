@@ -36,6 +36,5 @@ pub mod LinearCones  -- cones of bases of variables and differences of variables
 pub mod LinearFans  -- fans of their cones
 pub mod PlaneFiles  -- fan files of the plane
 pub mod TropicalLimits  -- tropical fans of polynomials with few terms
-pub mod SetTestLimits  -- tests of marked sets, and membership
 pub mod HomogenizationLimits  -- homogenizations
 pub mod DimensionLaws  -- the dimension of a cone by its implied equations, and by its rays

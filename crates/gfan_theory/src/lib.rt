@@ -23,7 +23,6 @@ ghost use Rattle.gfan_theory.specs.LinearFans.{FansOfLinearSetsFit};
 ghost use Rattle.gfan_theory.specs.PlaneFans.{MigrationsOfPlaneFansFit, RefinementsOfPlaneFansFit};
 ghost use Rattle.gfan_theory.specs.TropicalFans.{TropicalFansFit};
 ghost use Rattle.gfan_theory.specs.Dimensions.{DimensionsAgree};
-ghost use Rattle.gfan_theory.specs.Tests.{TestsOfLinearSetsFit, MembershipInLinearIdealsFits};
 ghost use Rattle.gfan_theory.specs.Homogenizations.{HomogenizationsFit};
 
 use gf_tropical::small_polynomials_stay_within_limits;
@@ -181,13 +180,6 @@ pub fn tropical_fans_fit()
 {
     small_polynomials_stay_within_limits();
 }
-
-/// The premises of completeness of `_ismarkedgroebnerbasis` and `_doesidealcontain` are met by marked sets of variables and differences of variables in at most
-/// three variables.
-pub fn tests_of_linear_sets_fit()
-    ensures tests { TestsOfLinearSetsFit }
-    ensures membership { MembershipInLinearIdealsFits }
-{}
 
 /// The premise of completeness of `_homogenize` is met by polynomials of total degrees below 2^31, in any number of variables.
 pub fn homogenizations_fit()
