@@ -14,7 +14,7 @@ ghost use Rattle.gf_buchberger.specs.Jobs.{HaveRingVariables, IsSuited, IsBasisJ
 ghost use Rattle.gf_buchberger.specs.Runs.{MembersHaveVariables};
 
 use crate::generators::entered;
-use crate::guides::{guide_of, ranking_of};
+use crate::guides::{guide_of, is_by_degree, ranking_of};
 use crate::members::Members;
 use crate::queue::Strategy;
 use crate::runs::{Numbers, Run, Stop, settle_all};
@@ -72,6 +72,9 @@ fn spent(alloc: Global, n: u32, run: Run) -> BasisError
     requires { MembersHaveVariables n run.members.items }
     ensures { IsSpentAnswer n run result }
 {
+    if run.is_silent() {
+        return BasisError::Memory;
+    }
     match run.table.unsettled(alloc) {
         Ok(unsettled) => BasisError::PairBudget {
             basis: set_of(n, run.members),
@@ -110,7 +113,7 @@ fn interreduced(
     match autoreduce_by(alloc, set, guide) {
         Ok(basis) => Ok(basis),
         Err(refusal) => match numbers {
-            Numbers::Narrow => Err(refusal),
+            Numbers::Narrow | Numbers::Mixed => Err(refusal),
             Numbers::Wide(first) => match wide_autoreduce(alloc, set, guide, first) {
                 Ok(basis) => Ok(basis),
                 Err(_) => Err(refusal),
@@ -143,7 +146,7 @@ pub fn run_by(
     };
     let ranking = match &numbers {
         Numbers::Narrow => None,
-        Numbers::Wide(_) => ranking_of(alloc, job.n, job.order),
+        Numbers::Mixed | Numbers::Wide(_) => ranking_of(alloc, job.n, job.order),
     };
     let start = match entered(alloc, job.set, job.order, strategy, numbers, guide, ranking) {
         Ok(start) => start,
@@ -153,6 +156,7 @@ pub fn run_by(
         Ok(run) => run,
         Err(stop) => return Err(stopped(alloc, job.n, stop)),
     };
+    let is_silent = run.is_silent();
     let Run {
         members,
         mut guide,
@@ -162,8 +166,44 @@ pub fn run_by(
     let members = set_of(job.n, members);
     match interreduced(alloc, &members, &mut guide, &numbers) {
         Ok(basis) => Ok(basis),
-        Err(refusal) => Err(refused(refusal)),
+        Err(refusal) => {
+            if is_silent {
+                return Err(BasisError::Memory);
+            }
+            Err(refused(refusal))
+        }
     }
+}
+
+impl BasisError {
+    /// Whether there is no memory; it is told of a run in mixed numbers too that has to be made again in fractions alone.
+    fn is_of_memory(&self) -> bool {
+        matches!(self, BasisError::Memory)
+    }
+}
+
+/// The basis by a run that takes the pairs by degree and goes over to whole numbers once coefficients are long. Where that one then isn't answered, such
+/// a run that takes them by sugar is tried if the order compares degrees first (by others there is a walk, which takes less time), and last one in
+/// fractions of 128 bits alone, whose refusal is told.
+fn by_runs(alloc: Global, job: &Job) -> Result<MarkedSet, BasisError>
+    requires { IsBasisJob job.now.order.now job.now.n job.now.set.now }
+    ensures ok { IfOk result (IsArrangedBasis job.now.order.now job.now.n job.now.set.now) }
+    ensures err { IfErr result (IsBasisRefusal job.now.order.now job.now.n job.now.set.now job.now.pairs) }
+    ensures by_rule { IfErr result (IsRuledRefusal Degree job.now.order.now job.now.set.now job.now.pairs) }
+{
+    let refusal = match run_by(alloc, job, Strategy::Degree, Numbers::Mixed) {
+        Ok(found) => return Ok(found),
+        Err(refusal) => refusal,
+    };
+    if !refusal.is_of_memory() {
+        return Err(refusal);
+    }
+    if is_by_degree(job.n, job.order) {
+        if let Ok(found) = run_by(alloc, job, Strategy::Sugar, Numbers::Mixed) {
+            return Ok(found);
+        }
+    }
+    run_by(alloc, job, Strategy::Degree, Numbers::Narrow)
 }
 
 /// The reduced Gröbner basis for the order of the ideal of these polynomials in `n` variables: marked at the greatest
@@ -212,5 +252,5 @@ pub fn basis(
         order,
         pairs,
     };
-    run_by(alloc, &job, Strategy::Degree, Numbers::Narrow)
+    by_runs(alloc, &job)
 }

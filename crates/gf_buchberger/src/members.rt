@@ -7,9 +7,6 @@ use gf_whole_division::{Beyond, Ranking, WholeMember};
 use std::alloc::{AllocError, Global};
 use std::marker::Model;
 
-/// The greatest numerator or denominator, by size, of a coefficient that isn't long.
-const SHORT: u128 = 1 << 10;
-
 /// Whole multiples of members, and the order of terms by which they reduce.
 #[derive(Drop)]
 pub struct Multiples {
@@ -44,10 +41,10 @@ fn multiples_of(alloc: Global, marked: &[Marked], ranking: Ranking) -> Result<Mu
     Ok(Multiples { members, ranking })
 }
 
-/// Whether a coefficient is long.
-fn is_long(member: &Marked) -> bool {
+/// Whether the numerator or the denominator of a coefficient exceeds this number in size.
+fn is_long(member: &Marked, short: u128) -> bool {
     'terms: for t in member.poly().terms() {
-        if t.coef.numer().unsigned_abs() > SHORT || t.coef.denom().unsigned_abs() > SHORT {
+        if t.coef.numer().unsigned_abs() > short || t.coef.denom().unsigned_abs() > short {
             return true;
         }
     }
@@ -60,6 +57,7 @@ pub struct Members {
     marked: Vec<Marked>,
     multiples: Option<Multiples>,
     ranking: Option<Ranking>,
+    short: u128,
 }
 
 impl Model for Members {
@@ -74,15 +72,22 @@ impl Model for Members {
 }
 
 impl Members {
-    /// No members. Whole multiples are formed where there is an order of terms to reduce by them.
-    pub fn new(alloc: Global, ranking: Option<Ranking>) -> Members
+    /// No members. Whole multiples are formed where there is an order of terms to reduce by them, once the numerator or the denominator of a
+    /// coefficient exceeds `short` in size.
+    pub fn new(alloc: Global, ranking: Option<Ranking>, short: u128) -> Members
         ensures { result.items ≡ [] }
     {
         Members {
             marked: Vec::new(alloc),
             multiples: None,
             ranking,
+            short,
         }
+    }
+
+    /// Whether whole multiples were formed, or tried, or there is no order of terms to reduce by them.
+    pub fn have_begun(&self) -> bool {
+        self.ranking.is_none()
     }
 
     /// The members.
@@ -169,7 +174,7 @@ impl Members {
         match self.multiples.take() {
             Some(multiples) => self.push_both(alloc, multiples, member),
             None => {
-                let is_long = is_long(&member);
+                let is_long = is_long(&member, self.short);
                 self.marked.push(member)?;
                 self.begin(alloc, is_long);
                 Ok(())

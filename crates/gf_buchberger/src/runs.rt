@@ -37,14 +37,30 @@ pub struct Run {
     pub guide: Guide,
 }
 
+/// As `SHORT`, of a run in narrow numbers.
+const MIXED_SHORT: u128 = 1 << 10;
+
 /// By which numbers polynomials are reduced.
 #[derive(Drop)]
 pub enum Numbers {
     /// By fractions of 128 bits.
     Narrow,
+    /// Once coefficients are long by whole numbers of 512 bits, and else by fractions of 128 bits. From then on no refusal is told but `Memory`, since
+    /// in fractions alone another operation may be refused first.
+    Mixed,
     /// Once coefficients are long by whole numbers of 512 bits; else by fractions of 128 bits, and by those of 512 bits where they overflow, with the
     /// order in which terms are reduced then.
     Wide(Precedence),
+}
+
+impl Numbers {
+    /// The greatest numerator or denominator, by size, of a coefficient that isn't long.
+    fn short(&self) -> u128 {
+        match self {
+            Numbers::Mixed => MIXED_SHORT,
+            Numbers::Narrow | Numbers::Wide(_) => 1 << 10,
+        }
+    }
 }
 
 /// Why not all pairs are settled.
@@ -163,7 +179,7 @@ impl Run {
         ensures strategy { result.strategy ≡ strategy }
     {
         Run {
-            members: Members::new(alloc, ranking),
+            members: Members::new(alloc, ranking, numbers.short()),
             table: PairTable::new(alloc),
             queue: Queue::new(alloc),
             strategy,
@@ -172,6 +188,11 @@ impl Run {
             numbers,
             guide,
         }
+    }
+
+    /// Whether the run has gone over to whole numbers, and tells no refusal that another run tells.
+    pub fn is_silent(&self) -> bool {
+        matches!(self.numbers, Numbers::Mixed) && self.members.have_begun()
     }
 
     /// Adds a member; its pairs wait, unless they are covered.
@@ -375,7 +396,7 @@ impl Run {
         ensures { IfSome result (IsLeftOfPair order.now (state_of self.now) i j) }
     {
         match &self.numbers {
-            Numbers::Narrow => None,
+            Numbers::Narrow | Numbers::Mixed => None,
             Numbers::Wide(first) => match self.wide_left(alloc, order, i, j, first) {
                 Ok(left) => Some(left),
                 Err(_) => None,
@@ -417,6 +438,7 @@ impl Run {
             Ok(left) => Ok(left),
             Err(refusal) => match self.left_in_wide_run(alloc, order, i, j) {
                 Some(left) => Ok(left),
+                None if self.is_silent() => Err(PolyError::Memory),
                 None => Err(refusal),
             },
         }

@@ -1,7 +1,7 @@
 -- Terms with whole coefficients, and what they stand for.
 -- To cite: length-values, values_push, values_append, first_of_times, rest_of_times, value_of, scaled_value, plain_value, divided_value, raised_value,
 -- divided_more,
--- divided_all, last_value, none_more, none_all, differ_by, raised_term, multiple_more, multiple_all, quotient_more, quotients_all, quotient_value,
+-- divided_all, last_value, none_more, none_all, differ_by_degree, raised_term, multiple_more, multiple_all, quotient_more, quotients_all, quotient_value,
 -- quotient_of, product_more, product_all.
 use Rattle.std.specs.Prelude.{◌≡◌, ℕ, zero, suc, ◌+◌, ◌-◌, ◌*◌, ◌<◌, ◌≤◌, Bool, true, false}
 use Rattle.std.specs.Prelude.{ℤ, pos, negsuc, ◌*ℤ◌, ◌<ℤ◌, List, [], ◌∷◌, ◌++◌, length, Contains, None}
@@ -12,8 +12,8 @@ use Rattle.std.proofs.lemmas.Int.{ints}
 use Rattle.std.proofs.lemmas.List.{length-take-le, take_all, take_more, map_push, drop_all, take-append-drop}
 use Rattle.gf_frac.specs.Fraction.{Fraction, whole, over, over-eq, ◌+ℚ◌, ◌*ℚ◌, reciprocal_ℚ}
 use Rattle.gf_frac.proofs.FractionLaws.{*ℚ_comm, *ℚ_assoc, +ℚ_comm, +ℚ_assoc, one-*ℚ, reciprocal_ℚ-*ℚ, over-*}
-use Rattle.gf_exponents_theory.specs.Exponents.{Exponents, same, plus}
-use Rattle.gf_exponents_theory.proofs.ExponentsLaws.{same_lists, entries_same}
+use Rattle.gf_exponents_theory.specs.Exponents.{Exponents, same, plus, degree}
+use Rattle.gf_exponents_theory.proofs.WeightLaws.{degree-same}
 use Rattle.gf_poly.specs.declared.Term.{Term}
 use Rattle.gf_poly.specs.Polynomial.{Terms, coefficient, SamePolynomial, times, times_term}
 use Rattle.gf_poly.proofs.CoefficientLaws.{head_at}
@@ -126,12 +126,12 @@ none_more x f i t l is n h =
 pub none_all : (x : Exponents) (f : List WholeTerm) (i : ℕ) → length f ≤ i → HasNone x (whole_terms (take i f)) → HasNone x (whole_terms f)
 none_all x f i l h = subst (λ (z : List WholeTerm). HasNone x (whole_terms z)) (take_all i f l) h
 
--- monomials in the same variables that aren't one list
-pub differ_by : (x y : Exponents) → length x ≡ length y → (x ≡ y → ⊥) → same x y ≡ false
-differ_by x y l n = decided (same x y) refl
+-- monomials of two degrees
+pub differ_by_degree : (x y : Exponents) → (degree x ≡ degree y → ⊥) → same x y ≡ false
+differ_by_degree x y n = decided (same x y) refl
   where
     decided : (b : Bool) → same x y ≡ b → b ≡ false
-    decided true h = absurd (n (same_lists x y l (entries_same x y h)))
+    decided true h = absurd (n (degree-same x y h))
     decided false h = refl
 
 -- ---- a whole multiple of a polynomial with fractions

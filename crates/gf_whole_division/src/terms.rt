@@ -188,15 +188,15 @@ pub fn is_product(x: &Mono, y: &Mono, z: &Mono) -> bool
     true
 }
 
-/// Whether the monomials differ, and have the same variables.
+/// Whether the monomials differ; of those of one degree that have the same variables it is found out.
 pub fn differ(x: &Mono, y: &Mono) -> bool
     ensures { IsTrue result → same x.now y.now ≡ false }
 {
-    if x.exponents().len() != y.exponents().len() {
-        return false;
-    }
     if x.degree() != y.degree() {
         return true;
+    }
+    if x.exponents().len() != y.exponents().len() {
+        return false;
     }
     y.exponents() != x.exponents()
 }
