@@ -3,7 +3,6 @@
 use Rattle.std.proofs.Common.{List, [], ◌∷◌, map, Contains, Err, refl, subst}
 use Rattle.std.proofs.lemmas.List.Sorted.{Contains-permutation, IsPermutation-sym}
 use Rattle.gf_int_theory.proofs.ListLaws.{Contains-here}
-use Rattle.gf_poly.specs.declared.error.PolyError.{PolyError}
 use Rattle.gf_poly.specs.declared.error.PolyError.TheVariants as errors
 use Rattle.gf_poly.specs.Polynomial.{Terms}
 use Rattle.gf_poly.specs.Marking.{MarkedPolynomial, MarkedPolynomials, IsArranged}
