@@ -1,4 +1,4 @@
-//! The reduced Gröbner basis, by one run.
+//! The reduced Gröbner basis, by one run, and by others where that one isn't answered in whole numbers.
 
 ghost use Rattle.std.specs.Prelude.{◌≡◌, IfOk, IfErr};
 ghost use Rattle.gf_order.specs.Comparisons.{HasEntries};
@@ -18,6 +18,7 @@ use crate::guides::{guide_of, is_by_degree, ranking_of};
 use crate::members::Members;
 use crate::queue::Strategy;
 use crate::runs::{Numbers, Run, Stop, settle_all};
+use crate::wide_run::by_sugar;
 use gf_division::{Guide, autoreduce_by};
 use gf_frac::Overflow;
 use gf_order::Order;
@@ -182,9 +183,9 @@ impl BasisError {
     }
 }
 
-/// The basis by a run that takes the pairs by degree and goes over to whole numbers once coefficients are long. Where that one then isn't answered, such
-/// a run that takes them by sugar is tried if the order compares degrees first (by others there is a walk, which takes less time), and last one in
-/// fractions of 128 bits alone, whose refusal is told.
+/// The basis by a run that takes the pairs by degree and goes over to whole numbers once coefficients are long. Where that one then isn't answered, a
+/// run in wide numbers that takes them by sugar is tried if the order compares degrees first (by others there is a walk, which takes less time), and
+/// last one in fractions of 128 bits alone, whose refusal is told.
 fn by_runs(alloc: Global, job: &Job) -> Result<MarkedSet, BasisError>
     requires { IsBasisJob job.now.order.now job.now.n job.now.set.now }
     ensures ok { IfOk result (IsArrangedBasis job.now.order.now job.now.n job.now.set.now) }
@@ -199,7 +200,7 @@ fn by_runs(alloc: Global, job: &Job) -> Result<MarkedSet, BasisError>
         return Err(refusal);
     }
     if is_by_degree(job.n, job.order) {
-        if let Ok(found) = run_by(alloc, job, Strategy::Sugar, Numbers::Mixed) {
+        if let Ok(found) = by_sugar(alloc, job) {
             return Ok(found);
         }
     }
@@ -207,11 +208,13 @@ fn by_runs(alloc: Global, job: &Job) -> Result<MarkedSet, BasisError>
 }
 
 /// The reduced Gröbner basis for the order of the ideal of these polynomials in `n` variables: marked at the greatest
-/// monomials, monic, ascending by the exponents of the marked monomials. It is worked out by one run of Buchberger's
-/// algorithm.
+/// monomials, monic, ascending by the exponents of the marked monomials. It is worked out by a run of Buchberger's
+/// algorithm that reduces in fractions of 128 bits, and once a coefficient of a member exceeds 2^10 in size in whole numbers of 512 bits.
+/// Where that isn't answered then, another such run takes the pairs by sugar, if the order compares degrees first; and last comes one in
+/// fractions of 128 bits alone. Each may settle `pairs` pairs.
 ///
 /// Zero polynomials are passed over. The others enter one after another, each as a remainder by those before, made
-/// monic; then at most `pairs` pairs are settled, first those whose least common multiple has the least degree, of these
+/// monic; then at most `pairs` pairs are settled, in the first run and the last one first those whose least common multiple has the least degree, of these
 /// those where it is least by the order; one that a criterion sets aside counts as settled. A covered pair, which is settled once pairs below
 /// it are, isn't among them.
 ///
@@ -227,7 +230,7 @@ fn by_runs(alloc: Global, job: &Job) -> Result<MarkedSet, BasisError>
 /// once. So where no operation that a run may have leaves its range, and no list of one has more than `pairs` pairs, only
 /// memory may be wanting.
 ///
-/// More is promised of the run that is made, which follows a rule (`IsRuled`): the generators enter in turn; of the pairs that wait the one of least
+/// More is promised of the run that tells a refusal, the one in fractions alone, which follows a rule (`IsRuled`): the generators enter in turn; of the pairs that wait the one of least
 /// key is taken; what is left of a polynomial is its normal form, by the first member whose mark divides a term. The operands are those of an operation
 /// of this run, and where all of its operations fit and `pairs` pairs suffice, only memory may be wanting.
 pub fn basis(

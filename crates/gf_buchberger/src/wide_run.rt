@@ -17,7 +17,7 @@ use gf_poly::{MarkedSet, Poly};
 use std::alloc::Global;
 
 /// The basis by a run in wide numbers that takes the pairs by their sugar, or its refusal.
-fn by_sugar(alloc: Global, job: &Job) -> Result<MarkedSet, BasisError>
+pub fn by_sugar(alloc: Global, job: &Job) -> Result<MarkedSet, BasisError>
     requires { IsBasisJob job.now.order.now job.now.n job.now.set.now }
     ensures ok { IfOk result (IsArrangedBasis job.now.order.now job.now.n job.now.set.now) }
     ensures err { IfErr result (IsBasisRefusal job.now.order.now job.now.n job.now.set.now job.now.pairs) }
