@@ -28,7 +28,8 @@ use Rattle.gfan_common.specs.CheckedSets.{of_check, IsSomeReductionRefusal}
 use Rattle.gfan_lists.specs.declared.bases.ListOptions.{ListOptions}
 use Rattle.gfan_lists.specs.Bases.{IsWithinLimit}
 use Rattle.gfan_lists.specs.BasesWriting.{StartsIn}
-use Rattle.gfan_lists.specs.After.{IsBasisTaken, IsUnlisted, IsAfterWithin}
+use Rattle.gfan_lists.specs.After.{IsBasisTaken, IsUnlisted}
+use Rattle.gfan_lists.specs.ListCommand.{IsWithinIn}
 use Rattle.gfan_lists.proofs.AfterLaws.{taken_once, listed_refutes}
 use Rattle.gfan_theory.specs.Linear.{IsLinear, AreLinearDifferences, IsLinearSet}
 use Rattle.gfan_theory.specs.Continued.{ContinuationsStayWithinLimits}
@@ -81,7 +82,7 @@ module _ (o : ListOptions) (ring : List (List ℕ)) (ws : List Written) (s b : M
   listed c root r a f (IsUnlisted.in_generators x h e) =
       e ∙ ap (λ z. of_check (of_poly z)) (reduced_memory c.items fs x (members c (node c a)) (two c (node c a)) d.binomials d.forms.linear h)
 
-  within : IsAfterWithin false false o (all_positive n) (ring, (ws, None)) s
+  within : IsWithinIn false false true o (all_positive n) ([], ((ring, s), (ring, (ws, None))))
   within = record {
     start = record {
       weight = t.weight;
@@ -94,16 +95,17 @@ module _ (o : ListOptions) (ring : List (List ℕ)) (ws : List Written) (s b : M
       listed = listed;
       tree = search_within (ideal_by n fs) o.pairs d small (All-nil _) room;
     };
-    few = λ c front list a all. subst (λ m. IsWithinLimit m list) (sym unlimited) tt;
+    tree = search_within (ideal_by n fs) o.pairs d small (All-nil _) room;
+    few = λ front list a all. subst (λ m. IsWithinLimit m list) (sym unlimited) tt;
     certificates = λ c x g. certified n fs x some small d g;
   }
 
-  after : (k : Region) → k ≡ all_positive n → IsAfterWithin false false o k (ring, (ws, None)) s
-  after k e = subst (λ (z : Region). IsAfterWithin false false o z (ring, (ws, None)) s) (sym e) within
+  after : (k : Region) → k ≡ all_positive n → IsWithinIn false false true o k ([], ((ring, s), (ring, (ws, None))))
+  after k e = subst (λ (z : Region). IsWithinIn false false true o z ([], ((ring, s), (ring, (ws, None))))) (sym e) within
 
 pub continuations : ContinuationsStayWithinLimits
 continuations o ring ws s b unlimited some small v d room q l t j = record {
   region = λ c. absurd (let no : false ≡ true = c in cc);
   names = refl;
-  after = after o ring ws s b unlimited some small v d room q l t j;
+  list = after o ring ws s b unlimited some small v d room q l t j;
 }

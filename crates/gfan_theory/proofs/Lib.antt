@@ -19,3 +19,4 @@ pub mod CoefficientSums  -- the sum of the coefficients, on an ideal
 pub mod SaturationRuns  -- runs on linear polynomials and the inverse of a variable
 pub mod SaturationLimits  -- saturations of differences of variables
 pub mod SpaceLimits  -- homogeneity spaces of polynomials with small exponents, in at most three variables
+pub mod InputLaws  -- what meets these premises

@@ -1,5 +1,5 @@
 -- Lists that continue after a basis: what `_bases --after` may do stays within its limits. Law: proofs/ContinuedLaws.antt.
-use Rattle.std.specs.Prelude.{◌≡◌, ℕ, ◌≤◌, false, List, [], length, None}
+use Rattle.std.specs.Prelude.{◌≡◌, ℕ, ◌≤◌, true, false, List, [], length, None}
 use Rattle.gf_poly.specs.Marking.{MarkedPolynomials}
 use Rattle.gf_buchberger.specs.Jobs.{HaveRingVariables}
 use Rattle.gf_buchberger.specs.Pairs.{pairs_below}
@@ -9,7 +9,8 @@ use Rattle.gf_tree.specs.Ideals.{ideal_by}
 use Rattle.gf_text.specs.declared.written.Written.{Written}
 use Rattle.gfan_common.specs.Forms.{generators_of}
 use Rattle.gfan_lists.specs.declared.bases.ListOptions.{ListOptions}
-use Rattle.gfan_lists.specs.After.{IsBasisTaken, IsWithinAfter}
+use Rattle.gfan_lists.specs.After.{IsBasisTaken}
+use Rattle.gfan_lists.specs.ListCommand.{IsListWithin}
 use Rattle.gfan_theory.specs.Linear.{AreLinearDifferences, IsLinearSet}
 
 -- The ideal of variables and differences of variables, in at most three variables, with certificates or without and without a limit: where the marked set of
@@ -19,4 +20,4 @@ abbrev pub ContinuationsStayWithinLimits : Type 0
 ContinuationsStayWithinLimits = (o : ListOptions) (ring : List (List ℕ)) (ws : List Written) (s b : MarkedPolynomials) → o.limit ≡ None →
     1 ≤ length ring → length ring ≤ 3 → HaveRingVariables (length ring) (generators_of ws) → AreLinearDifferences (length ring) (generators_of ws) →
     pairs_below (length ring) ≤ o.pairs → s.variables ≡ length ring → IsLinearSet s → IsBasisTaken (all_positive (length ring)) s b →
-    IsNodeIn (ideal_by (length ring) (generators_of ws)) b → IsWithinAfter false false o [] ring (ring, (ws, None)) s
+    IsNodeIn (ideal_by (length ring) (generators_of ws)) b → IsListWithin false false true o ([], ((ring, s), (ring, (ws, None))))

@@ -8,3 +8,4 @@ pub mod Everyday  -- everyday inputs that meet the premise of completeness
 pub mod Linear  -- ideals that differences of variables generate
 pub mod Continued  -- their lists, after a basis
 pub mod SmallSets  -- polynomials with small exponents in few variables
+pub mod Inputs  -- the premises of completeness of `_bases`, of each input that says given polynomials
