@@ -1,6 +1,6 @@
 -- What a job is handed, from the texts of its sources as the code lists them.
--- To cite: texts_length, list_as, list_told, two_as, one_as, none_as, writes_once, not_asked, not_held, held_alone, not_handed. The rest are steps.
-use Rattle.std.specs.Prelude.{◌≡◌, ◌⊎◌, ℕ, Bool, true, false, List, [], ◌∷◌, length, get_or, Vec, Option, None, Some, is_some}
+-- To cite: texts_length, list_as, two_as, one_as, none_as, writes_once, not_asked, not_held, held_alone, not_handed. The rest are steps.
+use Rattle.std.specs.Prelude.{◌≡◌, ◌⊎◌, ℕ, Bool, List, [], ◌∷◌, length, get_or, Vec, is_some}
 use Rattle.std.specs.Global.{Global}
 use Rattle.std.proofs.Common.{arith, refl, sym, ap, ◌∙◌, subst, inl, inr}
 use Rattle.gf_front.specs.declared.command_line.Job.{Job}
@@ -23,11 +23,8 @@ use Rattle.gfan_fans.specs.CommonRefinement.{refinement_command}
 use Rattle.gfan_fans.specs.BasisTest.{intersection_command}
 use Rattle.gfan_lists.specs.Generated.{generated_command}
 use Rattle.gfan.specs.Commands.{plain_command, list_options, command_of, ReadsInputAlone}
-use Rattle.gfan.specs.Run.{IsOfLoaded}
-use Rattle.gfan_common.specs.declared.refused.Refused.{Refused}
-use Rattle.gfan_common.specs.Refused.{IsOfSource}
 use Rattle.gfan_lists.specs.declared.bases.ListOptions.{ListOptions}
-use Rattle.gfan_lists.specs.ListCommand.{list_sources, list_texts, list_command}
+use Rattle.gfan_lists.specs.ListCommand.{list_sources, list_command}
 use Rattle.gfan_lists.proofs.TextsLaws.{one_alone, two_alone}
 use Rattle.gfan_sets.proofs.ExactLaws.{leading_once}
 use Rattle.gfan_sets.proofs.WeightVectorLaws.{weight_once}
@@ -56,17 +53,6 @@ list_as P o from_basis is_cut is_behind u ts us f c b e t h =
     (subst (λ (x : ListOptions). P (list_command o.from_basis (is_some o.within) (is_some o.after) sources x) us) e
     (subst (λ x. P (list_command o.from_basis (is_some o.within) x sources u) us) b
     (subst (λ x. P (list_command o.from_basis x is_behind sources u) us) c (subst (λ x. P (list_command x is_cut is_behind sources u) us) f (h sources)))))
-
-pub list_told : (within after region basis : Option (List ℕ)) (input : List ℕ) (texts : List (List ℕ)) (e : Refused) → is_some region ≡ is_some within →
-    is_some basis ≡ is_some after → list_texts region basis input ≡ texts → IsOfSource input e → IsOfLoaded (list_sources within after) texts e
-list_told None None None None input texts e p q t h = subst (λ ts. IsOfLoaded (list_sources None None) ts e) t h
-list_told None (Some a) None (Some b) input texts e p q t h = subst (λ ts. IsOfLoaded (list_sources None (Some a)) ts e) t h
-list_told (Some w) None (Some r) None input texts e p q t h = subst (λ ts. IsOfLoaded (list_sources (Some w) None) ts e) t h
-list_told (Some w) (Some a) (Some r) (Some b) input texts e p q t h = subst (λ ts. IsOfLoaded (list_sources (Some w) (Some a)) ts e) t h
-list_told None after (Some r) basis input texts e p q t h = absurd (let no : true ≡ false = p in cc)
-list_told (Some w) after None basis input texts e p q t h = absurd (let no : false ≡ true = p in cc)
-list_told within None region (Some b) input texts e p q t h = absurd (let no : true ≡ false = q in cc)
-list_told within (Some a) region None input texts e p q t h = absurd (let no : false ≡ true = q in cc)
 
 -- a job on two files has two
 pub two_as : (P : Command → List (List ℕ) → Type 0) (job : Job) (o : FanCommonRefinementOptions) (ts : List (Vec ℕ Global)) (x y : Vec ℕ Global) (a b : List ℕ)

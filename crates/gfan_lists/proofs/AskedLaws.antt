@@ -10,7 +10,8 @@ use Rattle.gfan_lists.specs.declared.list.Asked.TheVariants as asks
 use Rattle.gfan_lists.specs.Asked.{is_from_basis, given_by, names_asked}
 
 -- the input begins with the text of its ring
-ring_first : (source : List ℕ) (asked : Asked) → (reading_given (is_from_basis asked)).IsRead (source ∷ []) (given_by asked) → IsRingOf source (names_asked asked)
+ring_first : (source : List ℕ) (asked : Asked) → (reading_given (is_from_basis asked)).IsRead (source ∷ []) (given_by asked) →
+    IsRingOf source (names_asked asked)
 ring_first source (asks.Generators ring set) read = (read.read.behind, read.read.one)
 ring_first source (asks.Basis ring set) read = (read.read.behind, read.read.one)
 

@@ -161,8 +161,9 @@ module _ (from_basis is_cut : Bool) (k : Region) (v : Given from_basis) (pairs :
   unstarted_unlisted true s r h most l = start_unlisted from_basis is_cut k v s.1 pairs r h most l
 
   module _ (input : IsGivenKept from_basis v) where
-    unstarted_same : (is_behind : Bool) (s : Behind is_behind) (r d : Refusal) → IsBehindKept is_behind s → AreSameNames is_behind s (names_given from_basis v) →
-        IsOfTest r → IsUnstarted from_basis is_cut is_behind pairs k v s r → IsUnstarted from_basis is_cut is_behind pairs k v s d → TellsSame r d ⊎ IsOfNumbers d
+    unstarted_same : (is_behind : Bool) (s : Behind is_behind) (r d : Refusal) → IsBehindKept is_behind s →
+        AreSameNames is_behind s (names_given from_basis v) → IsOfTest r → IsUnstarted from_basis is_cut is_behind pairs k v s r →
+        IsUnstarted from_basis is_cut is_behind pairs k v s d → TellsSame r d ⊎ IsOfNumbers d
     unstarted_same false s r d kept e t h g = unrooted_same from_basis is_cut v k pairs r d input t h g
     unstarted_same true s r d kept e t h g =
         start_same from_basis is_cut k v s.1 (kept.0 ∙ ap length e) (set_variables (length s.0) s.1 kept) input pairs r d t h g

@@ -1,5 +1,6 @@
 -- What `_bases` does with its texts: how it is read, refused, written and stopped.
--- To cite: cut_same, found_same, found_kept, read_texts, file_refused, found_refused, input_refused; unbegun_stopped, unbegun_told, memory_stopped; formed_list,
+-- To cite: cut_same, found_same, found_kept, read_texts, file_refused, found_refused, input_refused; unbegun_stopped, unbegun_told, memory_stopped;
+-- formed_list,
 -- start_stopped, list_done, list_stopped. The rest are steps.
 use Rattle.std.specs.Prelude.{◌≡◌, ◌⊎◌, ℕ, Bool, true, false, List, [], ◌∷◌, length, Option, Some, None, is_some, ℤ}
 use Rattle.std.specs.Borrow.{Bor}
@@ -183,7 +184,8 @@ module _ (from_basis is_cut is_behind : Bool) (sources : List Origin) (o : ListO
       (IsListCause.early (IsEarlyCause.at_start k i e h)) (IsEarlyCause.at_start k i e h)
   start_stopped held n r (inr m) = memory_stopped (list_command from_basis is_cut is_behind sources o) texts held n r m
 
-  module _ (g : IsBasisGiven from_basis v.1.1) (front : List MarkedPolynomials) (t : IsFront is_behind v.1.0 k front) (held holds : Option (List ℕ)) (n m : ℕ) where
+  module _ (g : IsBasisGiven from_basis v.1.1) (front : List MarkedPolynomials) (t : IsFront is_behind v.1.0 k front) (held holds : Option (List ℕ))
+      (n m : ℕ) where
     -- it is written
     pub list_done : IsListWrittenBehind front o (names_given from_basis v.1.1) k (generators_given from_basis v.1.1) held holds → m ≡ n →
         IsDoneOn (list_command from_basis is_cut is_behind sources o) texts (output_seen held n) (output_seen holds m)

@@ -20,7 +20,8 @@ use Rattle.gfan_common.specs.Causes.{of_tree, of_weight_error}
 use Rattle.gfan_lists.specs.Bases.{IsWithinLimit, IsGoingCauseBehind, AreItemTextsIn, IsTextBehind, list_text}
 use Rattle.gfan_lists.specs.Within.{of_region}
 use Rattle.gfan_lists.specs.After.{names_given, generators_given}
-use Rattle.gfan_lists.specs.ListCommand.{Behind, IsFront, ListValue, reading_list, checks_list, IsListAnswer, IsUnstarted, IsEarlyCause, IsListCause, IsListPast}
+use Rattle.gfan_lists.specs.ListCommand.{Behind, IsFront, ListValue, reading_list, checks_list, IsListAnswer, IsUnstarted, IsEarlyCause, IsListCause}
+use Rattle.gfan_lists.specs.ListCommand.{IsListPast}
 use Rattle.gfan_lists.specs.ListCommand.{AreTextsPast, list_command}
 use Rattle.gfan_lists.proofs.OneListLaws.{one_list_in}
 use Rattle.gfan_lists.proofs.PartsLaws.{behind_once}

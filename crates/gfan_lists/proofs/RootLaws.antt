@@ -22,7 +22,8 @@ use Rattle.gfan_lists.specs.After.{Given, names_given, IsBasisGiven, IsUnrooted}
 use Rattle.gfan_lists.specs.ListCommand.{IsReducedWithin, IsRootWithin}
 use Rattle.gfan_common.proofs.CauseLaws.{basis_work, basis_not_listed, basis_untested, basis_numbers, basis_named_by, named_tree, tree_no_limit, tree_numbers}
 use Rattle.gfan_common.proofs.CauseLaws.{tree_untested, tree_work}
-use Rattle.gfan_common.proofs.CheckedSetLaws.{check_not_listed, check_work, named_check, named_numbers, paired_once, paired_refutes, poly_numbers, poly_untested}
+use Rattle.gfan_common.proofs.CheckedSetLaws.{check_not_listed, check_work, named_check, named_numbers, paired_once, paired_refutes, poly_numbers}
+use Rattle.gfan_common.proofs.CheckedSetLaws.{poly_untested}
 use Rattle.gfan_common.proofs.ReadSetLaws.{IsSetKept, set_variables}
 
 -- ---- a set that isn't taken, or not reduced
@@ -94,7 +95,8 @@ IsGivenKept true v = IsSetKept (length v.0) v.1
 kept_variables : (v : Given true) → IsGivenKept true v → HaveVariables v.1.variables v.1.items
 kept_variables v kept = set_variables (length v.0) v.1 kept
 
-pub unrooted_work : (from_basis is_cut : Bool) (v : Given from_basis) (k : Region) (pairs : ℕ) (r : Refusal) → IsUnrooted from_basis is_cut v k pairs r → IsOfWork r
+pub unrooted_work : (from_basis is_cut : Bool) (v : Given from_basis) (k : Region) (pairs : ℕ) (r : Refusal) → IsUnrooted from_basis is_cut v k pairs r →
+    IsOfWork r
 unrooted_work false false v k pairs r h = subst IsOfWork (sym h.2) (basis_work h.0)
 unrooted_work false true v k pairs r h = subst IsOfWork (sym h.2) (basis_work h.0)
 unrooted_work true false v k pairs r (IsGivenRootRefusal.at_basis h) = reducing_work v.1 r h

@@ -167,8 +167,8 @@ module _ (from_basis is_cut : Bool) (k : Region) (v : Given from_basis) (s : Mar
         unlisted_refutes c b root r o a t f (last_node (length (names_given from_basis v)) k (generators_given from_basis v) root b front list f all) u
     start_refutes pairs b front list r o (IsStartRefused.on_the_way c root e a m f l h p) t g all = tree_untested e (subst IsOfTest p o)
 
-    pub start_same : (pairs : ℕ) (r d : Refusal) → IsOfTest r → IsStartRefused from_basis is_cut pairs k v s r → IsStartRefused from_basis is_cut pairs k v s d →
-        TellsSame r d ⊎ IsOfNumbers d
+    pub start_same : (pairs : ℕ) (r d : Refusal) → IsOfTest r → IsStartRefused from_basis is_cut pairs k v s r →
+        IsStartRefused from_basis is_cut pairs k v s d → TellsSame r d ⊎ IsOfNumbers d
     start_same pairs r d o (IsStartRefused.at_basis e h p) (IsStartRefused.at_basis x g l) =
         subst (λ z. TellsSame r z ⊎ IsOfNumbers z) (sym l) (subst (λ z. TellsSame z (of_check x) ⊎ IsOfNumbers (of_check x)) (sym p)
         (beside_once k.rows s e x kept (subst IsOfTest p o) h g))

@@ -109,13 +109,15 @@ checks_list from_basis false false v = []
 -- for the region, the basis that is given and the bases before the list, this holds of the region and these bases
 abbrev pub IsOfList : (from_basis is_cut is_behind : Bool) → ListValue from_basis is_behind → (Region → List MarkedPolynomials → Type 0) → Type 0
 IsOfList from_basis is_cut is_behind v Holds =
-    (k : Region) × IsRegionCut is_cut (length (names_given from_basis v.1.1)) v.0 k × AreSameNames is_behind v.1.0 (names_given from_basis v.1.1) × IsBasisGiven from_basis v.1.1
+    (k : Region) × IsRegionCut is_cut (length (names_given from_basis v.1.1)) v.0 k × AreSameNames is_behind v.1.0 (names_given from_basis v.1.1) ×
+    IsBasisGiven from_basis v.1.1
     × ((front : List MarkedPolynomials) × IsFront is_behind v.1.0 k front × Holds k front)
 
 -- the text is the output
 abbrev pub IsListAnswer : (from_basis is_cut is_behind : Bool) → ListOptions → ListValue from_basis is_behind → List ℕ → Type 0
 IsListAnswer from_basis is_cut is_behind o v text =
-    IsOfList from_basis is_cut is_behind v (λ k front. IsTextBehind front o.certified o.limit (names_given from_basis v.1.1) k (generators_given from_basis v.1.1) text)
+    IsOfList from_basis is_cut is_behind v (λ k front. IsTextBehind front o.certified o.limit (names_given from_basis v.1.1) k
+    (generators_given from_basis v.1.1) text)
 
 -- the text is all that is written if nothing stops the list: the output, or as much of it as the limit allows
 abbrev pub IsListWhole : (from_basis is_cut is_behind : Bool) → ListOptions → ListValue from_basis is_behind → List ℕ → Type 0
@@ -139,16 +141,16 @@ IsUnstarted from_basis is_cut true pairs k v s r = IsStartRefused from_basis is_
 -- region; or the list isn't started in the region
 pub data IsEarlyCause (from_basis is_cut is_behind : Bool) (o : ListOptions) (v : ListValue from_basis is_behind) (r : Refusal) : Type 0 where
   at_region : is_cut ≡ true → IsNoRegion (length (names_given from_basis v.1.1)) v.0 r → IsEarlyCause from_basis is_cut is_behind o v r
-  at_names : (k : Region) → is_cut ≡ true → IsRegionOf (length (names_given from_basis v.1.1)) v.0 k → IsOtherNames is_behind v.1.0 (names_given from_basis v.1.1) r →
-      IsEarlyCause from_basis is_cut is_behind o v r
+  at_names : (k : Region) → is_cut ≡ true → IsRegionOf (length (names_given from_basis v.1.1)) v.0 k →
+      IsOtherNames is_behind v.1.0 (names_given from_basis v.1.1) r → IsEarlyCause from_basis is_cut is_behind o v r
   at_start : (k : Region) → IsRegionCut is_cut (length (names_given from_basis v.1.1)) v.0 k → AreSameNames is_behind v.1.0 (names_given from_basis v.1.1) →
       IsUnstarted from_basis is_cut is_behind o.pairs k v.1.1 v.1.0 r → IsEarlyCause from_basis is_cut is_behind o v r
 
 -- it is refused before anything is written; or the list is refused from there on
 pub data IsListCause (from_basis is_cut is_behind : Bool) (o : ListOptions) (v : ListValue from_basis is_behind) (r : Refusal) : Type 0 where
   early : IsEarlyCause from_basis is_cut is_behind o v r → IsListCause from_basis is_cut is_behind o v r
-  going : (k : Region) (front : List MarkedPolynomials) → IsRegionCut is_cut (length (names_given from_basis v.1.1)) v.0 k → AreSameNames is_behind v.1.0 (names_given from_basis v.1.1) →
-      IsBasisGiven from_basis v.1.1 → IsFront is_behind v.1.0 k front →
+  going : (k : Region) (front : List MarkedPolynomials) → IsRegionCut is_cut (length (names_given from_basis v.1.1)) v.0 k →
+      AreSameNames is_behind v.1.0 (names_given from_basis v.1.1) → IsBasisGiven from_basis v.1.1 → IsFront is_behind v.1.0 k front →
       IsGoingCauseBehind front o (length (names_given from_basis v.1.1)) k (generators_given from_basis v.1.1) r → IsListCause from_basis is_cut is_behind o v r
 
 -- ---- within limits

@@ -144,7 +144,8 @@ write_waves-requires-clause-row g c κs within =
     let w = c.in-Ok.ensures.ok in (
       w.0,
       generators_asked asked,
-      subst (λ (names : List (List ℕ)). GoesOnBehind w.0 (length names) c.in_ok-region.region (generators_asked asked) c.args.job.now.options.pairs c.in-Ok.waves)
+      subst (λ (names : List (List ℕ)). GoesOnBehind w.0 (length names) c.in_ok-region.region (generators_asked asked)
+          c.args.job.now.options.pairs c.in-Ok.waves)
           (sym c.ring-2.ensures) w.2,
     )
 

@@ -33,7 +33,8 @@ pub returns-in-Generators-clause-err : goal.returns-in-Generators-clause-err
 returns-in-Generators-clause-err c =
     subst (λ (a : Asked). IfErr c.root_of_set.result (IsUnrooted (is_from_basis a) c.args.is_cut (given_by a) c.args.region.now c.args.pairs))
     (sym c.in-Generators.is)
-    (subst (λ (ws : List Written). IfErr c.root_of_set.result (IsUnrooted false c.args.is_cut (c.in-Generators.ring, (ws, None)) c.args.region.now c.args.pairs))
+    (subst (λ (ws : List Written). IfErr c.root_of_set.result (IsUnrooted false c.args.is_cut (c.in-Generators.ring, (ws, None)) c.args.region.now
+    c.args.pairs))
     c.deref.ensures.value c.root_of_set.ensures.err)
 
 pub returns-in-Basis-clause-basis : goal.returns-in-Basis-clause-basis
@@ -48,5 +49,6 @@ returns-in-Basis-clause-ok c =
 
 pub returns-in-Basis-clause-err : goal.returns-in-Basis-clause-err
 returns-in-Basis-clause-err c =
-    subst (λ (a : Asked). IfErr c.root_of_basis.result (IsUnrooted (is_from_basis a) c.args.is_cut (given_by a) c.args.region.now c.args.pairs)) (sym c.in-Basis.is)
+    subst (λ (a : Asked). IfErr c.root_of_basis.result (IsUnrooted (is_from_basis a) c.args.is_cut (given_by a) c.args.region.now c.args.pairs))
+    (sym c.in-Basis.is)
     (on_err c.root_of_basis.result _ _ (λ r h. h c.in-Basis.ring) c.root_of_basis.ensures.err)

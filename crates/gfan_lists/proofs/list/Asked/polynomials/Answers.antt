@@ -19,7 +19,8 @@ returns-in-Generators-clause-variables c =
     let set = c.in-Generators.set in
     let inside = generators_have (length ring) set.items (subst IsAskedInRing c.in-Generators.is c.requires) in
     subst (λ (a : Asked). IfOk c.polynomials.result (λ fs. All (HasVariables (length (names_asked a))) fs.items)) (sym c.in-Generators.is)
-    (IfOk-weaker c.polynomials.result _ _ (λ fs e. subst (λ (gs : List Terms). All (HasVariables (length ring)) gs) (sym (e ∙ ap generators_of c.deref.ensures.value)) inside) c.polynomials.ensures)
+    (IfOk-weaker c.polynomials.result _ _ (λ fs e. subst (λ (gs : List Terms). All (HasVariables (length ring)) gs)
+    (sym (e ∙ ap generators_of c.deref.ensures.value)) inside) c.polynomials.ensures)
 
 pub returns-in-Basis-clause-value : goal.returns-in-Basis-clause-value
 returns-in-Basis-clause-value c =
