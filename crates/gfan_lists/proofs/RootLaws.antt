@@ -68,7 +68,7 @@ module _ (s : MarkedPolynomials) (v : HaveVariables s.variables s.items) where
   reducing_once r d t h (IsReducingRefusal.at_tails u f g a k p) = inr (subst IsOfNumbers (sym p) (poly_numbers f))
   reducing_once r d t (IsReducingRefusal.at_tails u f g a h q) k = absurd (poly_untested f (subst IsOfTest q t))
 
-  reducing_within : (r : Refusal) → IsReducedWithin s → IsReducingRefusal s r → r ≡ refusals.Memory
+  pub reducing_within : (r : Refusal) → IsReducedWithin s → IsReducingRefusal s r → r ≡ refusals.Memory
   reducing_within r w (IsReducingRefusal.at_check e h q) = q ∙ ap of_check (basis_only_memory {A = Unit {0}} 0 s (Err e) v h w.checks w.basis)
   reducing_within r w (IsReducingRefusal.at_tails t d g a h q) = q ∙ ap (λ x. of_check (of_poly x)) (w.tails t d a h)
 

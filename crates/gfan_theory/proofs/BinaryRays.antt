@@ -6,6 +6,7 @@ use Rattle.std.proofs.Common.{
   zero,
   suc,
   ◌+◌,
+  ◌*◌,
   ◌<◌,
   ◌≤◌,
   ◌^◌,
@@ -317,12 +318,16 @@ no_wide_step p q (x ∷ xs) (y ∷ ys) e more u v l f = elim f [
   | inr k ↦ no_wide_step p q xs ys e more (up_tail p x xs u) (up_tail q y ys v) l k.1
 ]
 
-pub no_wide_sums : (c : ℕ) (sum : List ℤ) (rays : List (List ℤ)) (e : WideVector) → UpTo c sum → ((x : List ℤ) → Contains rays x → UpTo 1 x) →
-    c + length rays < 2 ^ 127 → IsFirstWide e (adding_steps sum rays) → ⊥
-no_wide_sums c sum [] e u each l f = f
-no_wide_sums c sum (x ∷ xs) e u each l f =
-    let k = no_wide_step c 1 sum x e (adding_steps (vector_sum sum x) xs) u (each x (Contains-here x xs)) (omega (arith, l)) f in
-    no_wide_sums (c + 1) (vector_sum sum x) xs e (up_sum c 1 sum x u (each x (Contains-here x xs))) (λ y i. each y (in_tail x xs y i)) (omega (arith, l)) k
+one_more : (c b k : ℕ) → c + suc k * b ≡ c + b + k * b
+one_more c b k = omega arith
+
+pub no_wide_sums : (b c : ℕ) (sum : List ℤ) (rays : List (List ℤ)) (e : WideVector) → UpTo c sum → ((x : List ℤ) → Contains rays x → UpTo b x) →
+    c + length rays * b < 2 ^ 127 → IsFirstWide e (adding_steps sum rays) → ⊥
+no_wide_sums b c sum [] e u each l f = f
+no_wide_sums b c sum (x ∷ xs) e u each l f =
+    let q = one_more c b (length xs) in
+    let k = no_wide_step c b sum x e (adding_steps (vector_sum sum x) xs) u (each x (Contains-here x xs)) (omega (arith, l, q)) f in
+    no_wide_sums b (c + b) (vector_sum sum x) xs e (up_sum c b sum x u (each x (Contains-here x xs))) (λ y i. each y (in_tail x xs y i)) (omega (arith, l, q)) k
 
 pub sum_up_of : (n : ℕ) (rays : List (List ℤ)) → ((x : List ℤ) → Contains rays x → UpTo 1 x) →
     UpTo (length rays) (combined n (replicate (length rays) (pos 1)) rays)

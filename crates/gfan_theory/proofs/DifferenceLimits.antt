@@ -1,5 +1,5 @@
--- Regions and certificates of few rows that are differences of two entries, in at most three variables, stay within their limits.
--- To cite: rows_small, regions_of_differences_fit, certificates_of_differences_fit. The rest are steps.
+-- Regions and certificates of at most three rows that are differences of two entries, in at most four variables, stay within their limits.
+-- To cite: rows_small, regions_of_differences_fit, certificates_of_differences_fit, weight_up. The rest are steps.
 use Rattle.std.proofs.Common.{
   ◌≡◌,
   ◌⊎◌,
@@ -7,7 +7,6 @@ use Rattle.std.proofs.Common.{
   zero,
   suc,
   ◌+◌,
-  ◌-◌,
   ◌<◌,
   ◌≤◌,
   ◌^◌,
@@ -34,7 +33,6 @@ use Rattle.std.proofs.Common.{
   inr,
   All,
   Contains,
-  Err,
 }
 use Rattle.std.specs.Prelude.{not}
 use Rattle.std.specs.Ordering.{int_eq}
@@ -52,22 +50,20 @@ use Rattle.gf_poly.specs.Marking.{MarkedPolynomial}
 use Rattle.gf_gordan.specs.Alternative.{AreRows}
 use Rattle.gf_gordan.specs.Sizes.{HaveEntriesUpTo}
 use Rattle.gf_gordan.specs.declared.error.ConeOverflow.{ConeOverflow}
-use Rattle.gf_gordan.specs.declared.error.GordanError.TheVariants as gordan_errors
 use Rattle.gf_gordan.proofs.SizeLaws.{UpTo, up_zeros}
-use Rattle.gf_gordan.proofs.ThreeColumns.{not_refused}
 use Rattle.gf_duality_theory.specs.Rays.{IsRays}
 use Rattle.gf_duality_theory.specs.Faces.{sum_of}
 use Rattle.gf_rays.specs.Reached.{IsRaysStep}
 use Rattle.gf_rays.specs.Sums.{adding_steps}
 use Rattle.gf_rays.specs.Parts.{zeros_of}
-use Rattle.gf_rays.specs.Limits.{turned_bound, reached_bound, IsPointed}
+use Rattle.gf_rays.specs.Limits.{IsPointed}
 use Rattle.gf_rays.proofs.PartLaws.{zeros_part}
-use Rattle.gf_rays.proofs.ReachedSizes.{mono, next_step, small_systems_stay_within_limits}
+use Rattle.gf_rays.proofs.ReachedSizes.{entry_up}
 use Rattle.gf_facets_theory.specs.Systems.{unit, units}
 use Rattle.gf_facets_theory.specs.Regions.{Region}
 use Rattle.gf_facets_theory.specs.Normals.{AreNormals}
 use Rattle.gf_facets_theory.proofs.UnitLaws.{length-unit, dot-unit, unit_of, unit_there}
-use Rattle.gf_weights.specs.Weights.{AreCutRows}
+use Rattle.gf_weights.specs.Weights.{AreCutRows, IsWeightIn}
 use Rattle.gf_weights.specs.Roots.{IsRegionRefusal}
 use Rattle.gf_weights.specs.Refusals.{IsCertificateCauseIn}
 use Rattle.gf_weights.specs.declared.error.WeightError.{WeightError}
@@ -76,6 +72,8 @@ use Rattle.gf_weights.specs.declared.region.RegionError.{RegionError}
 use Rattle.gf_weights.specs.declared.region.RegionError.TheVariants as region_errors
 use Rattle.gf_weights.proofs.RegionLaws.{solved, unrefuted}
 use Rattle.gfan_theory.specs.Differences.{IsDifferenceRow, AreDifferenceRows, RegionsOfDifferencesFit, CertificatesOfDifferencesFit}
+use Rattle.gfan_theory.proofs.FourColumns.{no_system_step}
+use Rattle.gfan_theory.proofs.RowSteps.{sizes_of, no_rays_step}
 use Rattle.gfan_theory.proofs.BinaryRays.{IsOrderRow, HaveUnits, doubled, AreBits, rays_bits, few_rays, bits_up, no_wide_sums, sum_up_of}
 
 -- ---- unit vectors
@@ -111,33 +109,13 @@ rows_small n rows b h differ = all_by (All (λ x. unsigned_abs x ≤ b)) rows (�
 
 -- ---- bounds
 
-few_doubled : (n : ℕ) → n ≤ 3 → doubled n ≤ 8
+few_doubled : (n : ℕ) → n ≤ 4 → doubled n ≤ 16
 few_doubled zero l = omega arith
 few_doubled (suc zero) l = omega arith
 few_doubled (suc (suc zero)) l = omega arith
 few_doubled (suc (suc (suc zero))) l = omega arith
-few_doubled (suc (suc (suc (suc n)))) l = absurd (omega arith)
-
-reached_some : (n k : ℕ) → 1 ≤ n → 1 ≤ reached_bound n 1 k
-reached_some n zero h = omega arith
-reached_some n (suc k) h = let p = reached_some n k h in let q = next_step n 1 (reached_bound n 1 k) h (omega arith) p in omega (arith, p, q)
-
-reached_rises : (n : ℕ) → 1 ≤ n → (k : ℕ) → reached_bound n 1 k ≤ reached_bound n 1 (suc k)
-reached_rises n h k = next_step n 1 (reached_bound n 1 k) h (omega arith) (reached_some n k h)
-
-reached_room : (n : ℕ) → 1 ≤ n → n ≤ 3 → reached_bound n 1 5 < 2 ^ 127
-reached_room zero h l = absurd (omega arith)
-reached_room (suc zero) h l = omega arith
-reached_room (suc (suc zero)) h l = omega arith
-reached_room (suc (suc (suc zero))) h l = omega arith
-reached_room (suc (suc (suc (suc n)))) h l = absurd (omega arith)
-
-turned_room : (n : ℕ) → n ≤ 3 → turned_bound 1 n < 2 ^ 127
-turned_room zero l = omega arith
-turned_room (suc zero) l = omega arith
-turned_room (suc (suc zero)) l = omega arith
-turned_room (suc (suc (suc zero))) l = omega arith
-turned_room (suc (suc (suc (suc n)))) l = absurd (omega arith)
+few_doubled (suc (suc (suc (suc zero)))) l = omega arith
+few_doubled (suc (suc (suc (suc (suc n))))) l = absurd (omega arith)
 
 length_units : (n k : ℕ) → length (units n k) ≡ k
 length_units n zero = refl
@@ -145,7 +123,7 @@ length_units n (suc k) = length-append (units n k) (unit n k ∷ []) ∙ (let p 
 
 -- ---- the rows, with the unit vectors
 
-module _ (n : ℕ) (rows : List (List ℤ)) (some : 1 ≤ n) (small : n ≤ 3) (few : length rows ≤ 2) (differ : AreDifferenceRows n rows) where
+module _ (n : ℕ) (rows : List (List ℤ)) (some : 1 ≤ n) (small : n ≤ 4) (few : length rows ≤ 3) (differ : AreDifferenceRows n rows) where
   order : (t : List ℤ) → Contains (rows ++ units n n) t → IsOrderRow n t
   order t k = elim (Contains-append_cases rows (units n n) t k) [
     | inl i ↦ IsOrderRow.difference (differ t i)
@@ -182,12 +160,12 @@ module _ (n : ℕ) (rows : List (List ℤ)) (some : 1 ≤ n) (small : n ≤ 3) (
 
   no_step : (s : ConeOverflow) → IsRaysStep n (rows ++ units n n) [] s → ⊥
   no_step s k =
-      let long : length (rows ++ units n n) ≤ 5 = (let p = length-append rows (units n n) in let q = length_units n n in omega (arith, p, q, few, small)) in
-      let up : reached_bound n 1 (length (rows ++ units n n) - 0) ≤ reached_bound n 1 5 =
-      mono (reached_bound n 1) (reached_rises n some) (length (rows ++ units n n) - 0) 5 (omega (arith, long)) in
-      let room = reached_room n some small in
-      small_systems_stay_within_limits n 1 0 (rows ++ units n n) some (omega arith) all_wide (all_small 1 (omega arith)) pointed
-      (λ i h m. absurd (omega (arith, h))) (omega (arith, up, room)) (turned_room n small) s k
+      let long : length (rows ++ units n n) ≤ 7 = (let p = length-append rows (units n n) in let q = length_units n n in omega (arith, p, q, few, small)) in
+      no_rays_step n (rows ++ units n n) s small long (record {
+        long = wide;
+        small = record { each = λ t c. entry_up 1 t (All-contains (All (λ x. unsigned_abs x ≤ 1)) (rows ++ units n n) t (all_small 1 (omega arith)) c) };
+        sizes = sizes_of n rows few differ;
+      }) pointed k
 
   module _ (rays : List (List ℤ)) (h : IsRays n (rows ++ units n n) [] [] rays) where
     bits : (x : List ℤ) → Contains rays x → AreBits x
@@ -196,26 +174,26 @@ module _ (n : ℕ) (rows : List (List ℤ)) (some : 1 ≤ n) (small : n ≤ 3) (
     up : (x : List ℤ) → Contains rays x → UpTo 1 x
     up x c = bits_up x (bits x c)
 
-    eight : length rays ≤ 8
-    eight = let p = few_rays n rays bits (λ x c. All-contains (λ t. length t ≡ n) rays x h.rays_width c) h.ascending in let q = few_doubled n small in
+    sixteen : length rays ≤ 16
+    sixteen = let p = few_rays n rays bits (λ x c. All-contains (λ t. length t ≡ n) rays x h.rays_width c) h.ascending in let q = few_doubled n small in
         omega (arith, p, q)
 
     no_sum : (w : WideVector) → IsFirstWide w (adding_steps (zeros n) rays) → ⊥
-    no_sum w f = no_wide_sums 0 (zeros n) rays w (up_zeros 0 n) up (let p = eight in omega (arith, p)) f
+    no_sum w f = no_wide_sums 1 0 (zeros n) rays w (up_zeros 0 n) up (let p = sixteen in omega (arith, p)) f
 
     no_part : (a : List ℤ) (w : WideVector) → IsFirstWide w (adding_steps (zeros n) (zeros_of a rays)) → ⊥
     no_part a w f =
         let p : length (zeros_of a rays) ≤ length rays =
         (let q = length-filter_both (λ (r : List ℤ). int_eq (dot a r) (pos 0)) (λ (r : List ℤ). not (int_eq (dot a r) (pos 0))) (λ r. refl) rays in
         omega (arith, q)) in
-        no_wide_sums 0 (zeros n) (zeros_of a rays) w (up_zeros 0 n) (λ x c. up x ((zeros_part a rays).each x c).0) (let q = eight in omega (arith, p, q)) f
+        no_wide_sums 1 0 (zeros n) (zeros_of a rays) w (up_zeros 0 n) (λ x c. up x ((zeros_part a rays).each x c).0) (let q = sixteen in omega (arith, p, q)) f
 
-    low_root : (i : ℕ) → unsigned_abs (get_or (sum_of n rays) i (pos 0)) ≤ 8
-    low_root i = let p = (sum_up_of n rays up).at i in let q = eight in omega (arith, p, q)
+    pub low_root : (i : ℕ) → unsigned_abs (get_or (sum_of n rays) i (pos 0)) ≤ 16
+    low_root i = let p = (sum_up_of n rays up).at i in let q = sixteen in omega (arith, p, q)
 
 -- ---- regions
 
-not_past : (x : ℤ) → unsigned_abs x ≤ 8 → pos (2 ^ 63) ≤ℤ x → ⊥
+not_past : (x : ℤ) → unsigned_abs x ≤ 16 → pos (2 ^ 63) ≤ℤ x → ⊥
 not_past x l h = omega (arith, ints, l, h)
 
 pub regions_of_differences_fit : RegionsOfDifferencesFit
@@ -228,23 +206,23 @@ regions_of_differences_fit n rows v some small few differ inside = at
     at (region_errors.Empty ms) h = absurd (unrefuted n rows ms widths (solved n rows v v inside) h)
     at (region_errors.WideRoot i x) h =
         let r = h.1 in
-        absurd (not_past (get_or r.0 i (pos 0)) (subst (λ (z : List ℤ). unsigned_abs (get_or z i (pos 0)) ≤ 8) (sym r.1.sum)
+        absurd (not_past (get_or r.0 i (pos 0)) (subst (λ (z : List ℤ). unsigned_abs (get_or z i (pos 0)) ≤ 16) (sym r.1.sum)
         (low_root n rows some small few differ r.1.rays r.1.are_rays i)) r.2.past)
     at (region_errors.Cone s) (inl h) =
-        absurd (let m = not_refused (Err (gordan_errors.Cone s)) (length (rows ++ units n n) + 0) n (rows ++ units n n) []
-        (all_wide n rows some small few differ) (All-nil _) h small (all_small n rows some small few differ 500 (omega arith)) (All-nil _) in cc)
+        absurd (no_system_step (length (rows ++ units n n) + 0) n (rows ++ units n n) [] s small (all_wide n rows some small few differ) (All-nil _)
+        (all_small n rows some small few differ 10 (omega arith)) (All-nil _) h)
     at (region_errors.Cone s) (inr h) = absurd (no_step n rows some small few differ s h.1)
     at (region_errors.Wide w) h = absurd (no_sum n rows some small few differ h.1.0 h.1.1 w h.1.2)
     at region_errors.Memory h = refl
 
 -- ---- certificates
 
-module _ (n : ℕ) (k : Region) (bs : List MarkedPolynomial) (some : 1 ≤ n) (small : n ≤ 3) (beside : AreDifferenceRows n k.rows)
-    (of_normals : (normals : List (List ℤ)) → AreNormals bs normals → (length normals + length k.rows ≤ 2) × AreDifferenceRows n normals) where
+module _ (n : ℕ) (k : Region) (bs : List MarkedPolynomial) (some : 1 ≤ n) (small : n ≤ 4) (beside : AreDifferenceRows n k.rows)
+    (of_normals : (normals : List (List ℤ)) → AreNormals bs normals → (length normals + length k.rows ≤ 3) × AreDifferenceRows n normals) where
   both : (normals : List (List ℤ)) → AreNormals bs normals → AreDifferenceRows n (normals ++ k.rows)
   both normals a t c = elim (Contains-append_cases normals k.rows t c) [ inl i ↦ (of_normals normals a).1 t i | inr i ↦ beside t i ]
 
-  short : (normals : List (List ℤ)) → AreNormals bs normals → length (normals ++ k.rows) ≤ 2
+  short : (normals : List (List ℤ)) → AreNormals bs normals → length (normals ++ k.rows) ≤ 3
   short normals a = let p = length-append normals k.rows in let q = (of_normals normals a).0 in omega (arith, p, q)
 
   flat : (rows : List (List ℤ)) (c : AreCutRows n k bs rows) → rows ≡ (c.normals ++ k.rows) ++ units n n
@@ -264,6 +242,16 @@ module _ (n : ℕ) (k : Region) (bs : List MarkedPolynomial) (some : 1 ≤ n) (s
       absurd (no_part n (c.normals ++ k.rows) some small (short c.normals c.are_normals) (both c.normals c.are_normals) g.0
       (subst (λ (z : List (List ℤ)). IsRays n z [] [] g.0) (flat g.1.rows c) g.1.are_rays) h.0 w g.2)
   certificates_at weight_errors.Memory h = refl
+
+  -- the printed weight is small
+  pub weight_up : (w : List ℤ) → IsWeightIn n k bs w → UpTo 16 w
+  weight_up w h = record {
+    at = λ i.
+        let c = h.cut.are_rows in
+        subst (λ (z : List ℤ). unsigned_abs (get_or z i (pos 0)) ≤ 16) (sym h.sum)
+        (low_root n (c.normals ++ k.rows) some small (short c.normals c.are_normals) (both c.normals c.are_normals) h.rays
+        (subst (λ (z : List (List ℤ)). IsRays n z [] [] h.rays) (flat h.cut.rows c) h.cut.are_rays) i);
+  }
 
 pub certificates_of_differences_fit : CertificatesOfDifferencesFit
 certificates_of_differences_fit n k bs some small beside of_normals = certificates_at n k bs some small beside of_normals

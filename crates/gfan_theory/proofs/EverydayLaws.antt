@@ -34,7 +34,7 @@ use Rattle.gfan_theory.proofs.VariableLaws.{plain_of_variables, short_of_variabl
 
 pub regions_of_binomials : RegionsOfBinomialsStayWithinLimits
 regions_of_binomials o n rows v f unlimited plain some small few differ inside ring g short = regions_within o n rows (f ∷ []) (record {
-  region = regions_of_differences_fit n rows v some small few differ inside;
+  region = regions_of_differences_fit n rows v some (omega (arith, small)) (omega (arith, few)) differ inside;
   root = λ k i. ruled_within strategies.Degree (MonomialOrder.weighted (gains k.root)) n f o.pairs ring g;
   going = going;
 })
@@ -55,7 +55,7 @@ certified : (n : ℕ) (k : Region) (f : Terms) (b : MarkedPolynomials) → n ≤
     AreCertificatesFittingIn b.variables k b.items
 certified n k f b small r few differ d g =
     subst (λ (m : ℕ). AreCertificatesFittingIn m k b.items) (sym g.variables)
-    (certificates_of_differences_fit n k b.items (let l = d.first_inside in omega (arith, l)) small differ (λ normals m.
+    (certificates_of_differences_fit n k b.items (let l = d.first_inside in omega (arith, l)) (omega (arith, small)) differ (λ normals m.
     let p = normals_differ n f d b.items node.basis.arranged.canonical forms short normals m in
     (let l = p.0 in omega (arith, l, few), p.1)))
   where
@@ -89,7 +89,7 @@ certificates_of_variables = record { everywhere = everywhere; regions = regions 
         IsInRegion n (record { rows = rows; root = v }) v → HaveRingVariables n (f ∷ []) → IsDifferenceOfVariables n f →
         AreRegionListsWithin o n rows (f ∷ [])
     regions o n rows v f unlimited small few differ inside ring d = regions_within o n rows (f ∷ []) (record {
-      region = regions_of_differences_fit n rows v (let l = d.first_inside in omega (arith, l)) small (omega (arith, few)) differ inside;
+      region = regions_of_differences_fit n rows v (let l = d.first_inside in omega (arith, l)) (omega (arith, small)) (omega (arith, few)) differ inside;
       root = λ k i. ruled_within strategies.Degree (MonomialOrder.weighted (gains k.root)) n f o.pairs ring (plain_of_variables n f d);
       going = λ k i. record {
         tree = small_search (ideal_within n (f ∷ []) k) f o.pairs refl (plain_of_variables n f d) small

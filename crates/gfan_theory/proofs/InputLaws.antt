@@ -1,23 +1,27 @@
 -- What meets the premises of completeness of `_bases` and `_bases --within`.
--- To cite: GoingLimits, ListLimits, RegionLimits, lists_within, regions_within. The rest are steps.
+-- To cite: GoingLimits, ListLimits, RegionLimits, GivenListLimits, GivenRegionLimits, lists_within, regions_within, given_lists_within,
+-- given_regions_within. The rest are steps.
 use Rattle.std.specs.Prelude.{◌≡◌, ℕ, true, false, List, [], ◌++◌, length, None, ℤ}
 use Rattle.std.proofs.Common.{sym, subst}
 use Rattle.gf_exponents_theory.specs.Orders.{gains}
 use Rattle.gf_exponents_theory.specs.SixOrders.{MonomialOrder}
 use Rattle.gf_poly.specs.Polynomial.{Terms}
-use Rattle.gf_poly.specs.Marking.{MarkedPolynomials}
+use Rattle.gf_poly.specs.Marking.{MarkedPolynomials, HaveVariables, polys}
 use Rattle.gf_buchberger.specs.declared.queue.Strategy.TheVariants as strategies
 use Rattle.gf_buchberger.specs.Ruled.{AreRuledRunsWithinLimits}
 use Rattle.gf_facets_theory.specs.Regions.{Region, all_positive}
 use Rattle.gf_tree.specs.Ideals.{ideal_within}
-use Rattle.gf_tree.specs.Refusals.{IsTreeWithinLimits}
+use Rattle.gf_tree.specs.Refusals.{IsTreeRefusal, IsTreeWithinLimits}
+use Rattle.gf_tree.proofs.RefusalLaws.{within_memory}
 use Rattle.gf_weights.specs.Roots.{IsRegionOf, IsRegionWithinLimits}
 use Rattle.gfan_common.specs.Forms.{generators_of}
 use Rattle.gfan_lists.specs.declared.bases.ListOptions.{ListOptions}
 use Rattle.gfan_lists.specs.BasesList.{AreAllBasesIn}
 use Rattle.gfan_lists.specs.Bases.{IsWithinLimit, AreCertifiedWithinIn}
-use Rattle.gfan_lists.specs.ListCommand.{IsWithinIn, IsListWithin}
-use Rattle.gfan_theory.specs.Inputs.{AreListsWithin, AreRegionListsWithin}
+use Rattle.gfan_lists.specs.GivenBasis.{IsReducedFrom}
+use Rattle.gfan_lists.specs.ListCommand.{IsReducedWithin, IsWithinIn, IsListWithin}
+use Rattle.gfan_lists.proofs.GivenBasisLaws.{way_in_tree}
+use Rattle.gfan_theory.specs.Inputs.{AreListsWithin, AreRegionListsWithin, AreGivenListsWithin, AreGivenRegionListsWithin}
 
 -- of the list in a region, from its first basis on
 pub record GoingLimits (o : ListOptions) (n : ℕ) (k : Region) (fs : List Terms) : Type 0 where
@@ -68,6 +72,55 @@ regions_within o n rows fs l ring ws q e =
         start = m.root k i;
         tree = (m.going k i).tree;
         few = none_first o (length ring) k (generators_of ws) (m.going k i);
+        certificates = (m.going k i).certificates;
+      };
+    }
+
+-- ---- from a marked Gröbner basis
+
+-- with the checks of the set, for all positive weights
+pub record GivenListLimits (o : ListOptions) (n : ℕ) (s : MarkedPolynomials) : Type 0 where
+  pub variables : HaveVariables s.variables s.items
+  pub same : s.variables ≡ n
+  pub reduced : IsReducedWithin s
+  pub going : GoingLimits o n (all_positive n) (polys s.items)
+
+-- and in the region of these vectors
+pub record GivenRegionLimits (o : ListOptions) (n : ℕ) (rows : List (List ℤ)) (s : MarkedPolynomials) : Type 0 where
+  pub region : IsRegionWithinLimits n rows
+  pub reduced : IsReducedWithin s
+  pub root : (k : Region) (u : MarkedPolynomials) → IsRegionOf n rows k → IsReducedFrom s u →
+      AreRuledRunsWithinLimits strategies.Degree (MonomialOrder.weighted (gains k.root)) (polys u.items) o.pairs
+  pub going : (k : Region) → IsRegionOf n rows k → GoingLimits o n k (polys s.items)
+
+pub given_lists_within : (o : ListOptions) (n : ℕ) (s : MarkedPolynomials) → GivenListLimits o n s → AreGivenListsWithin o n s
+given_lists_within o n s l ring q = at (subst (λ (m : ℕ). GivenListLimits o m s) (sym q) l)
+  where
+    at : GivenListLimits o (length ring) s → IsListWithin true false false o ([], (tt, (ring, s)))
+    at m = record {
+      region = λ c. absurd (let no : false ≡ true = c in cc);
+      names = tt;
+      list = λ k i. subst (λ (z : Region). IsWithinIn true false false o z ([], (tt, (ring, s)))) (sym i) (record {
+        start = (m.reduced, λ u e f w. within_memory (ideal_by (length ring) (polys s.items)) o.pairs e m.going.tree
+            (subst (λ (x : ℕ). IsTreeRefusal (ideal_by x (polys s.items)) o.pairs e) m.same (way_in_tree s u o.pairs e m.variables f w)));
+        tree = m.going.tree;
+        few = none_first o (length ring) (all_positive (length ring)) (polys s.items) m.going;
+        certificates = m.going.certificates;
+      });
+    }
+
+pub given_regions_within : (o : ListOptions) (n : ℕ) (rows : List (List ℤ)) (s : MarkedPolynomials) → GivenRegionLimits o n rows s →
+    AreGivenRegionListsWithin o n rows s
+given_regions_within o n rows s l ring q = at (subst (λ (m : ℕ). GivenRegionLimits o m rows s) (sym q) l)
+  where
+    at : GivenRegionLimits o (length ring) rows s → IsListWithin true true false o (rows, (tt, (ring, s)))
+    at m = record {
+      region = λ c. m.region;
+      names = tt;
+      list = λ k i. record {
+        start = (m.reduced, λ u f. m.root k u i f);
+        tree = (m.going k i).tree;
+        few = none_first o (length ring) k (polys s.items) (m.going k i);
         certificates = (m.going k i).certificates;
       };
     }

@@ -5,15 +5,19 @@ pub mod CertifiedLaws  -- what is printed after each basis
 pub mod BasisFileLaws  -- a basis that is printed behind its ring is read again
 pub mod JoinedLaws  -- a list that was cut and then continued
 pub mod BinaryRays  -- the rays of cones that compare entries have entries 0 and 1
+pub mod RowSteps  -- the vectors that are reached on the way to them
+pub mod FourColumns  -- systems with four columns
 pub mod DifferenceLimits  -- few such rows, in few variables, stay within their limits
 pub mod VariableLaws  -- the normals of the difference of two variables
 pub mod EverydayLaws  -- everyday inputs meet the premise of completeness
 pub mod LinearRuns  -- runs on variables and differences of variables
 pub mod LinearBases  -- the members of their bases are linear, and their flips within limits
-pub mod LinearNormals  -- their normals, in three variables two at most
-pub mod LinearLimits  -- searches over their bases, in at most three variables
+pub mod LinearNormals  -- their normals, in four variables three at most
+pub mod LinearLimits  -- searches over their bases, in at most four variables
 pub mod LinearChecks  -- the checks of marked sets of such polynomials, and their weights
+pub mod GivenLimits  -- their lists, from a marked basis
 pub mod ContinuedLaws  -- their lists, after a basis
+pub mod SummaryLimits  -- summaries of such ideals
 pub mod SessionLaws  -- sessions that start at one of their bases
 pub mod CoefficientSums  -- the sum of the coefficients, on an ideal
 pub mod SaturationRuns  -- runs on linear polynomials and the inverse of a variable

@@ -1,73 +1,53 @@
 -- The checks of a marked set of variables and differences of variables stay within their limits, and so does its printed weight.
--- To cite: linear_checks, set_differences, linear_weight, linear_weights. The rest are steps.
-use Rattle.std.proofs.Common.{
-  ◌≡◌,
-  ◌⊎◌,
-  ℕ,
-  ◌+◌,
-  ◌<◌,
-  ◌≤◌,
-  ◌^◌,
-  List,
-  [],
-  ◌∷◌,
-  ◌++◌,
-  length,
-  map,
-  All,
-  Contains,
-  Err,
-  ℤ,
-  unsigned_abs,
-  arith,
-  refl,
-  sym,
-  ap,
-  ◌∙◌,
-  subst,
-  inl,
-  inr,
-}
-use Rattle.std.proofs.lemmas.List.Elements.{All-nil, All-contains, Contains-append_cases}
-use Rattle.gf_exponents_theory.specs.Exponents.{Exponents, entry, plus, join, degree}
+-- To cite: forms_marked, linear_checks_beside, linear_checks, set_differences, linear_weight, linear_weights. The rest are steps.
+use Rattle.std.proofs.Common.{◌≡◌, ℕ, ◌+◌, ◌<◌, ◌≤◌, ◌^◌, List, [], ◌++◌, length, map, All, Contains, ℤ, unsigned_abs}
+use Rattle.std.proofs.Common.{arith, refl, sym, ap, ◌∙◌, subst, inl, inr}
+use Rattle.std.proofs.lemmas.List.Elements.{All-nil, All-contains, Contains-append_left, Contains-append_cases}
+use Rattle.gf_exponents_theory.specs.Exponents.{Exponents, plus, join, degree}
 use Rattle.gf_exponents_theory.proofs.WeightLaws.{degree-plus, degree-same}
 use Rattle.gf_int_theory.proofs.ListLaws.{all_by}
 use Rattle.gf_poly.specs.declared.error.PolyError.{PolyError}
 use Rattle.gf_poly.specs.declared.error.PolyError.TheVariants as errors
-use Rattle.gf_poly.specs.Polynomial.{Terms}
-use Rattle.gf_poly.specs.Marking.{MarkedPolynomial, MarkedPolynomials, HaveVariables, HasMarkedTerm, Each, polys, IsArranged}
-use Rattle.gf_ideal_theory.specs.Reduction.{IsMonicForm}
+use Rattle.gf_poly.specs.Marking.{MarkedPolynomial, MarkedPolynomials, HasMarkedTerm, polys, IsArranged}
 use Rattle.gf_ideal_theory.specs.Operands.{IsShiftOperation, IsSPolynomialExponents}
 use Rattle.gf_division.specs.SPolynomials.{AreMadeMonic}
 use Rattle.gf_ideal_theory.proofs.ListLaws.{each_contained}
 use Rattle.gf_ideal_theory.proofs.PieceLaws.{Contains-marked}
-use Rattle.gf_ideal_theory.proofs.StepLaws.{IsWithin, taken, monic-monomials}
+use Rattle.gf_ideal_theory.proofs.StepLaws.{taken, monic-monomials}
 use Rattle.gf_bases_theory.proofs.LawsHold.{only_ideals_count, marked_bases_are_reduced}
+use Rattle.gf_gordan.specs.Alternative.{AreRows}
+use Rattle.gf_gordan.specs.Sizes.{HaveEntriesUpTo}
+use Rattle.gf_gordan.proofs.SizeLaws.{UpTo}
+use Rattle.gf_ideal_theory.proofs.KeptForms.{term_there}
+use Rattle.gf_facets_theory.specs.Rows.{rows_of_polynomials}
+use Rattle.gf_facets_theory.specs.Systems.{units, system_of}
+use Rattle.gf_facets_theory.proofs.RowLaws.{IsTermRow, row-from}
+use Rattle.gf_facets_theory.proofs.SystemLaws.{canonical_all, marked_system_wide}
+use Rattle.gf_facets_theory.proofs.UnitLaws.{unit_of, units_wide}
 use Rattle.gf_facets_theory.specs.Regions.{all_positive}
-use Rattle.gf_facets_theory.specs.MarkedBases.{IsBasisInRegion, IsMarkedReducedBasis}
+use Rattle.gf_facets_theory.specs.MarkedBases.{AreCanonical, IsBasisInRegion, IsMarkedReducedBasis}
 use Rattle.gf_reduced.specs.Forms.{monic_of, monic_set, IsFormRefusal}
 use Rattle.gf_reduced.specs.Markings.{IsMarkedGroebnerBasis}
 use Rattle.gf_reduced.specs.Terms.{AreReduced}
-use Rattle.gf_reduced.specs.Refusals.{IsPairCause, IsPairsRefusal, AreChecksWithinLimits}
+use Rattle.gf_reduced.specs.Refusals.{IsPairCause, IsPairsRefusal, AreChecksWithinLimits, AreChecksWithinLimitsBeside}
 use Rattle.gf_reduced.proofs.FormLaws.{is_form, form_of}
 use Rattle.gf_reduced.proofs.GroebnerLaws.{polys_variables}
 use Rattle.gf_reduced.proofs.ReducedLaws.{reduced_of}
 use Rattle.gf_weights.specs.Refusals.{IsWeightWithinLimits, AreCertificatesFittingIn}
-use Rattle.gf_weights.specs.declared.error.WeightError.{WeightError}
 use Rattle.gf_weights.specs.declared.error.WeightError.TheVariants as weight_errors
 use Rattle.gf_duality_theory.proofs.ListLaws.{none_in}
-use Rattle.gf_binomial_calls_theory.specs.Sets.{IsBinomialSet}
 use Rattle.gf_binomial_calls_theory.proofs.CheckLaws.{head_there, member_fits, polys_binomial, forms_binomial, pairs_fit}
-use Rattle.gf_binomial_calls_theory.proofs.SystemLimits.{marking_within}
-use Rattle.gfan_sets.specs.WeightVector.{IsWeighedWithin}
+use Rattle.gfan_theory.specs.Differences.{AreDifferenceRows}
 use Rattle.gfan_theory.specs.Linear.{IsLinear, AreLinearDifferences, IsLinearSet, LinearWeightsStayWithinLimits}
 use Rattle.gfan_theory.proofs.LinearRuns.{IsOfDegree, AreLinearMarked, closed-degree, entry_low, join_low, shift_short, step_short, s_polynomial_degree}
 use Rattle.gfan_theory.proofs.LinearNormals.{linear_normals}
-use Rattle.gfan_theory.proofs.DifferenceLimits.{certificates_of_differences_fit}
+use Rattle.gfan_theory.proofs.FourColumns.{no_system_step}
+use Rattle.gfan_theory.proofs.LinearLimits.{all_up, differences_up, unit_up}
+use Rattle.gfan_theory.proofs.DifferenceLimits.{rows_small, certificates_of_differences_fit}
 
 module _ (s : MarkedPolynomials) (l : IsLinearSet s) where
   -- the monic forms
-  forms_marked : AreLinearMarked (map monic_of s.items)
+  pub forms_marked : AreLinearMarked (map monic_of s.items)
   forms_marked = record { heads = heads; within = within }
     where
       heads : (d : MarkedPolynomial) → Contains (map monic_of s.items) d → degree d.head ≡ 1
@@ -118,13 +98,59 @@ module _ (s : MarkedPolynomials) (l : IsLinearSet s) where
       absurd (let w = r.1 in omega (arith, k, w))
   pairs_memory errors.Memory q = refl
 
-  pub linear_checks : s.variables ≤ 3 → AreChecksWithinLimits s
-  linear_checks small = record {
-    system = marking_within s.variables s.items l.binomials.variables (each_contained HasMarkedTerm s.items l.binomials.marked) small
-        (λ b c x h i. let p = entry_low x i in let q = l.linear b c x h in omega (arith, p, q));
+  -- the rows of the marking, those of a region that compare two entries, and the unit vectors
+  abbrev system : List (List ℤ) → List (List ℤ)
+  system rows = rows_of_polynomials s.items ++ (rows ++ units s.variables s.variables)
+
+  canonical : AreCanonical s.variables s.items
+  canonical = canonical_all s.variables s.items l.binomials.variables (each_contained HasMarkedTerm s.items l.binomials.marked)
+
+  row_up : (r : List ℤ) → Contains (rows_of_polynomials s.items) r → UpTo 10 r
+  row_up r k = at (row-from s.items r k)
+    where
+      at : ((d : MarkedPolynomial) × Contains s.items d × IsTermRow d.head d.poly r) → UpTo 10 r
+      at d =
+          let t = d.2.term in
+          let w = canonical d.0 d.1 in
+          subst (UpTo 10) (sym d.2.row) (differences_up 10 d.0.head t.mono
+          (λ i. let p = entry_low d.0.head i in let q = l.linear d.0 d.1 d.0.head (head_there s l.binomials d.0 d.1) in omega (arith, p, q))
+          (λ i. let p = entry_low t.mono i in
+          let q = l.linear d.0 d.1 t.mono (term_there s.variables d.0.poly t w.variables w.descending d.2.inside) in omega (arith, p, q)))
+
+  system_low : (rows : List (List ℤ)) → AreDifferenceRows s.variables rows → HaveEntriesUpTo 10 (system rows)
+  system_low rows differ = all_by (All (λ x. unsigned_abs x ≤ 10)) (system rows)
+      (λ t k. elim (Contains-append_cases (rows_of_polynomials s.items) (rows ++ units s.variables s.variables) t k) [
+        | inl r ↦ all_up 10 t (row_up t r)
+        | inr i ↦ elim (Contains-append_cases rows (units s.variables s.variables) t i) [
+          | inl r ↦ All-contains (All (λ x. unsigned_abs x ≤ 10)) rows t (rows_small s.variables rows 10 (omega arith) differ) r
+          | inr u ↦ let p = unit_of s.variables s.variables t u in all_up 10 t (subst (UpTo 10) (sym p.2) (unit_up 10 s.variables p.0 (omega arith)))
+        ]
+      ])
+
+  system_wide : (rows : List (List ℤ)) → AreDifferenceRows s.variables rows → AreRows s.variables (system rows)
+  system_wide rows differ = all_by (λ t. length t ≡ s.variables) (system rows)
+      (λ t k. elim (Contains-append_cases (rows_of_polynomials s.items) (rows ++ units s.variables s.variables) t k) [
+        | inl r ↦ All-contains (λ t. length t ≡ s.variables) (system_of s.variables s.items) t
+            (marked_system_wide s.variables s.items l.binomials.variables (each_contained HasMarkedTerm s.items l.binomials.marked))
+            (Contains-append_left (rows_of_polynomials s.items) (units s.variables s.variables) t r)
+        | inr i ↦ elim (Contains-append_cases rows (units s.variables s.variables) t i) [
+          | inl r ↦ (differ t r).width
+          | inr u ↦ units_wide s.variables s.variables t u
+        ]
+      ])
+
+  -- the checks beside rows of a region that compare two entries
+  pub linear_checks_beside : (rows : List (List ℤ)) → AreDifferenceRows s.variables rows → s.variables ≤ 4 → AreChecksWithinLimitsBeside rows s
+  linear_checks_beside rows differ small = record {
+    system = λ o k. no_system_step (length (system rows)) s.variables (system rows) [] o small (system_wide rows differ) (All-nil _) (system_low rows differ)
+        (All-nil _) k;
     forms = forms_memory;
     pairs = pairs_memory;
   }
+
+  pub linear_checks : s.variables ≤ 4 → AreChecksWithinLimits s
+  linear_checks small =
+      let c = linear_checks_beside [] (λ t k. absurd (none_in t k)) small in record { system = c.system; forms = c.forms; pairs = c.pairs }
 
   -- its polynomials
   pub set_differences : AreLinearDifferences s.variables (polys s.items)
@@ -148,7 +174,7 @@ module _ (s : MarkedPolynomials) (l : IsLinearSet s) where
         only_ideals_count.same s.variables (polys t.items) (polys s.items) t.items (record { inside = r.basis.ideal.back; back = r.basis.ideal.inside }) here in
         (marked_bases_are_reduced.everywhere s.variables (polys s.items) t.items set_differences.forms.variables).1 own
 
-    pub linear_weight : 1 ≤ s.variables → s.variables ≤ 3 → IsWeightWithinLimits t.variables t.items
+    pub linear_weight : 1 ≤ s.variables → s.variables ≤ 4 → IsWeightWithinLimits t.variables t.items
     linear_weight some small = subst (λ (m : ℕ). IsWeightWithinLimits m t.items) (sym a.variables) fits
       where
         all : AreCertificatesFittingIn s.variables (all_positive s.variables) t.items

@@ -1,41 +1,8 @@
--- The normals of a reduced basis of an ideal that differences of variables generate are differences of two entries, and in three variables there are at most
--- two. To cite: linear_normals. The rest are steps.
-use Rattle.std.proofs.Common.{
-  ◌≡◌,
-  ◌≢◌,
-  ◌⊎◌,
-  ℕ,
-  zero,
-  suc,
-  ◌+◌,
-  ◌<◌,
-  ◌≤◌,
-  true,
-  false,
-  List,
-  [],
-  ◌∷◌,
-  length,
-  get_or,
-  Some,
-  None,
-  Option,
-  ℤ,
-  pos,
-  ◌-ℤ◌,
-  Contains,
-  arith,
-  refl,
-  sym,
-  ap,
-  ap₂,
-  ◌∙◌,
-  subst,
-  inl,
-  inr,
-}
+-- The normals of a reduced basis of an ideal that differences of variables generate are differences of two entries, and in four variables there are at most
+-- three. To cite: linear_normals. The rest are steps.
+use Rattle.std.proofs.Common.{◌≡◌, ◌≢◌, ◌⊎◌, ℕ, ◌<◌, ◌≤◌, true, false, List, [], ◌∷◌, length, get_or, Some, None, Option, ℤ, pos}
+use Rattle.std.proofs.Common.{◌-ℤ◌, Contains, arith, sym, ap₂, ◌∙◌, subst, inl, inr}
 use Rattle.std.proofs.lemmas.Bool.{cases_lt}
-use Rattle.gf_frac.specs.Fraction.{zero_ℚ, one_ℚ}
 use Rattle.gf_int_theory.proofs.ListLaws.{Contains-here}
 use Rattle.gf_vec.specs.Vector.{dot}
 use Rattle.gf_vec.specs.Primitive.{IsPrimitivePart}
@@ -51,16 +18,16 @@ use Rattle.gf_ideal_theory.proofs.MarkWeights.{mark-there}
 use Rattle.gf_ideal_theory.proofs.MembershipLaws.{variables_of_member}
 use Rattle.gf_ideal_theory.proofs.UniquenessLaws.{apart_same}
 use Rattle.gf_exponents_theory.specs.Orders.{gains, lighter}
-use Rattle.gf_facets_theory.specs.Rows.{differences, IsNormal}
+use Rattle.gf_facets_theory.specs.Rows.{IsNormal}
 use Rattle.gf_facets_theory.specs.Systems.{unit}
 use Rattle.gf_facets_theory.specs.LexPositive.{IsBefore}
 use Rattle.gf_facets_theory.specs.Normals.{AreNormals}
 use Rattle.gf_facets_theory.specs.Regions.{Region}
-use Rattle.gf_facets_theory.specs.MarkedBases.{AreCanonical, IsBasisInRegion}
+use Rattle.gf_facets_theory.specs.MarkedBases.{IsBasisInRegion}
 use Rattle.gf_facets_theory.proofs.NormalLaws.{IsNormalOf, normal_of, normal-length}
 use Rattle.gf_facets_theory.proofs.UnitLaws.{dot-unit}
 use Rattle.gf_facets_theory.proofs.VectorOrder.{before_strict}
-use Rattle.gf_binomials_theory.specs.Binomials.{indicator, IsMarkedBinomial, AreMarkedBinomials}
+use Rattle.gf_binomials_theory.specs.Binomials.{AreMarkedBinomials}
 use Rattle.gf_binomials_theory.proofs.MonomialLaws.{IsTheMonomial, IsFirst, one_of_two}
 use Rattle.gf_binomial_bases_theory.proofs.LawsHold.{bases_of_binomials}
 use Rattle.gfan_theory.specs.Differences.{IsDifferenceRow, AreDifferenceRows}
@@ -92,8 +59,25 @@ place_same x y d e s = elim (same_or_not (place_of x) (place_of y)) [
       omega (arith, z, t, p))
 ]
 
-four_places : (n p q r s : ℕ) → n ≤ 3 → p < n → q < n → r < n → s < n → p ≢ q → p ≢ r → p ≢ s → q ≢ r → q ≢ s → r ≢ s → ⊥
-four_places n p q r s l a b c d e f g h i j = omega arith
+-- places that are apart
+record AreApart (p q r s : ℕ) : Type 0 where
+  pub first_second : p ≢ q
+  pub first_third : p ≢ r
+  pub first_fourth : p ≢ s
+  pub second_third : q ≢ r
+  pub second_fourth : q ≢ s
+  pub third_fourth : r ≢ s
+
+-- three numbers below four that are none of these, and one more
+four_of_three : (c p q r s : ℕ) → c ≤ 3 → p ≤ 3 → q ≤ 3 → r ≤ 3 → s ≤ 3 → AreApart p q r s → p ≢ c → q ≢ c → r ≢ c → s ≢ c → ⊥
+four_of_three c p q r s lc lp lq lr ls a np nq nr ns =
+    let d1 = a.first_second in
+    let d2 = a.first_third in
+    let d3 = a.first_fourth in
+    let d4 = a.second_third in
+    let d5 = a.second_fourth in
+    let d6 = a.third_fourth in
+    omega (arith, lc, lp, lq, lr, ls, d1, d2, d3, d4, d5, d6, np, nq, nr, ns)
 
 -- ---- normals
 
@@ -217,28 +201,43 @@ module _ (n : ℕ) (fs : List Terms) (k : Region) (bs : List MarkedPolynomial) (
       let u : true ≡ false = sym (same_flip r.at r.member.head t) ∙ r.unmarked in
       absurd (cc)
 
-  few : (ns : List (List ℤ)) → AreNormals bs ns → n ≤ 3 → length ns ≤ 2
+  -- normals at different places of a list have marks at different places
+  apart_marks : (a c : List ℤ) → IsBefore a c → IsNormal bs a → IsNormal bs c → (r : IsLinearNormal a) (s : IsLinearNormal c) →
+      place_of r.member.head ≢ place_of s.member.head
+  apart_marks a c l h i r s q = before_strict.irreflexive a (subst (IsBefore a) (sym (one_normal a c h i r s q)) l)
+
+  few : (ns : List (List ℤ)) → AreNormals bs ns → n ≤ 4 → length ns ≤ 3
   few [] m l = omega arith
   few (a ∷ []) m l = omega arith
   few (a ∷ (c ∷ [])) m l = omega arith
-  few (a ∷ (c ∷ (e ∷ ns))) m l =
-      absurd (four_places n (place_of r.member.head) (place_of s.member.head) (place_of t.member.head) (place_of r.at) l r.high_inside s.high_inside
-      t.high_inside r.low_inside
-      (λ q. before_strict.irreflexive a (subst (IsBefore a) (sym (one_normal a c first second r s q)) (m.rises.0 c (Contains-here c (e ∷ ns)))))
-      (λ q. before_strict.irreflexive a (subst (IsBefore a) (sym (one_normal a e first third r t q)) (m.rises.0 e (in_tail c (e ∷ ns) e (Contains-here e ns)))))
-      (λ q. no_mark a r r.member r.contained (sym q))
-      (λ q. before_strict.irreflexive c (subst (IsBefore c) (sym (one_normal c e second third s t q)) (m.rises.1.0 e (Contains-here e ns))))
-      (λ q. no_mark a r s.member s.contained (sym q))
-      (λ q. no_mark a r t.member t.contained (sym q)))
+  few (a ∷ (c ∷ (e ∷ []))) m l = omega arith
+  few (a ∷ (c ∷ (e ∷ (g ∷ ns)))) m l =
+      absurd (four_of_three (place_of r.at) (place_of r.member.head) (place_of s.member.head) (place_of t.member.head) (place_of u.member.head)
+      (let p = r.low_inside in omega (arith, p, l)) (let p = r.high_inside in omega (arith, p, l)) (let p = s.high_inside in omega (arith, p, l))
+      (let p = t.high_inside in omega (arith, p, l)) (let p = u.high_inside in omega (arith, p, l))
+      (record {
+        first_second = apart_marks a c (m.rises.0 c (Contains-here c (e ∷ (g ∷ ns)))) first second r s;
+        first_third = apart_marks a e (m.rises.0 e (in_tail c (e ∷ (g ∷ ns)) e (Contains-here e (g ∷ ns)))) first third r t;
+        first_fourth = apart_marks a g (m.rises.0 g (in_tail c (e ∷ (g ∷ ns)) g (in_tail e (g ∷ ns) g (Contains-here g ns)))) first fourth r u;
+        second_third = apart_marks c e (m.rises.1.0 e (Contains-here e (g ∷ ns))) second third s t;
+        second_fourth = apart_marks c g (m.rises.1.0 g (in_tail e (g ∷ ns) g (Contains-here g ns))) second fourth s u;
+        third_fourth = apart_marks e g (m.rises.1.1.0 g (Contains-here g ns)) third fourth t u;
+      })
+      (λ q. no_mark a r r.member r.contained (sym q)) (λ q. no_mark a r s.member s.contained (sym q)) (λ q. no_mark a r t.member t.contained (sym q))
+      (λ q. no_mark a r u.member u.contained (sym q)))
     where
       first : IsNormal bs a
-      first = m.only a (Contains-here a (c ∷ (e ∷ ns)))
+      first = m.only a (Contains-here a (c ∷ (e ∷ (g ∷ ns))))
 
       second : IsNormal bs c
-      second = m.only c (in_tail a (c ∷ (e ∷ ns)) c (Contains-here c (e ∷ ns)))
+      second = m.only c (in_tail a (c ∷ (e ∷ (g ∷ ns))) c (Contains-here c (e ∷ (g ∷ ns))))
 
       third : IsNormal bs e
-      third = m.only e (in_tail a (c ∷ (e ∷ ns)) e (in_tail c (e ∷ ns) e (Contains-here e ns)))
+      third = m.only e (in_tail a (c ∷ (e ∷ (g ∷ ns))) e (in_tail c (e ∷ (g ∷ ns)) e (Contains-here e (g ∷ ns))))
+
+      fourth : IsNormal bs g
+      fourth =
+          m.only g (in_tail a (c ∷ (e ∷ (g ∷ ns))) g (in_tail c (e ∷ (g ∷ ns)) g (in_tail e (g ∷ ns) g (Contains-here g ns))))
 
       r : IsLinearNormal a
       r = normal_at a first
@@ -248,6 +247,9 @@ module _ (n : ℕ) (fs : List Terms) (k : Region) (bs : List MarkedPolynomial) (
 
       t : IsLinearNormal e
       t = normal_at e third
+
+      u : IsLinearNormal g
+      u = normal_at g fourth
 
   differ : (a : List ℤ) → IsNormal bs a → IsDifferenceRow n a
   differ a h =
@@ -261,5 +263,5 @@ module _ (n : ℕ) (fs : List Terms) (k : Region) (bs : List MarkedPolynomial) (
         difference = λ v l. r.value v;
       }
 
-  pub linear_normals : (ns : List (List ℤ)) → AreNormals bs ns → n ≤ 3 → (length ns ≤ 2) × AreDifferenceRows n ns
+  pub linear_normals : (ns : List (List ℤ)) → AreNormals bs ns → n ≤ 4 → (length ns ≤ 3) × AreDifferenceRows n ns
   linear_normals ns m l = (few ns m l, λ row c. differ row (m.only row c))

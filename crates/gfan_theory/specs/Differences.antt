@@ -1,5 +1,5 @@
 -- Rows that compare two entries of a vector, and cones that such rows cut out of the non-negative vectors.
--- Laws: proofs/BinaryRays.antt, proofs/DifferenceLimits.antt.
+-- Laws: proofs/BinaryRays.antt, proofs/RowSteps.antt, proofs/DifferenceLimits.antt.
 use Rattle.std.specs.Prelude.{◌≡◌, ℕ, ◌+◌, ◌<◌, ◌≤◌, List, length, slice_index_or, ℤ, pos, ◌-ℤ◌, Contains}
 use Rattle.gf_vec.specs.Vector.{dot}
 use Rattle.gf_poly.specs.Marking.{MarkedPolynomial}
@@ -21,13 +21,13 @@ pub record IsDifferenceRow (n : ℕ) (row : List ℤ) : Type 0 where
 abbrev pub AreDifferenceRows : ℕ → List (List ℤ) → Type 0
 AreDifferenceRows n rows = (row : List ℤ) → Contains rows row → IsDifferenceRow n row
 
--- In at most three variables, at most two such rows that some positive vector makes positive cut out a region, and nothing that is worked out for
+-- In at most four variables, at most three such rows that some positive vector makes positive cut out a region, and nothing that is worked out for
 -- its root leaves its limits.
 abbrev pub RegionsOfDifferencesFit : Type 0
-RegionsOfDifferencesFit = (n : ℕ) (rows : List (List ℤ)) (v : List ℤ) → 1 ≤ n → n ≤ 3 → length rows ≤ 2 → AreDifferenceRows n rows →
+RegionsOfDifferencesFit = (n : ℕ) (rows : List (List ℤ)) (v : List ℤ) → 1 ≤ n → n ≤ 4 → length rows ≤ 3 → AreDifferenceRows n rows →
     IsInRegion n (record { rows = rows; root = v }) v → IsRegionWithinLimits n rows
 
--- So it is with the certificates of a marked list whose normals, with the rows of the region, are at most two such rows.
+-- So it is with the certificates of a marked list whose normals, with the rows of the region, are at most three such rows.
 abbrev pub CertificatesOfDifferencesFit : Type 0
-CertificatesOfDifferencesFit = (n : ℕ) (k : Region) (bs : List MarkedPolynomial) → 1 ≤ n → n ≤ 3 → AreDifferenceRows n k.rows →
-    ((normals : List (List ℤ)) → AreNormals bs normals → (length normals + length k.rows ≤ 2) × AreDifferenceRows n normals) → AreCertificatesFittingIn n k bs
+CertificatesOfDifferencesFit = (n : ℕ) (k : Region) (bs : List MarkedPolynomial) → 1 ≤ n → n ≤ 4 → AreDifferenceRows n k.rows →
+    ((normals : List (List ℤ)) → AreNormals bs normals → (length normals + length k.rows ≤ 3) × AreDifferenceRows n normals) → AreCertificatesFittingIn n k bs

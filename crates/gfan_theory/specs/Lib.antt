@@ -6,6 +6,7 @@ pub mod Joined  -- a list that was cut and then continued
 pub mod Differences  -- rows that compare two entries of a vector
 pub mod Everyday  -- everyday inputs that meet the premise of completeness
 pub mod Linear  -- ideals that differences of variables generate
-pub mod Continued  -- their lists, after a basis
+pub mod Continued  -- their lists, from a marked basis or after one
+pub mod Summaries  -- the ideals with a number
 pub mod SmallSets  -- polynomials with small exponents in few variables
 pub mod Inputs  -- the premises of completeness of `_bases`, of each input that says given polynomials

@@ -54,18 +54,20 @@ abbrev pub LinearRuledRunsStayWithinLimits : Type 0
 LinearRuledRunsStayWithinLimits = (strategy : Strategy) (order : MonomialOrder) (n : ℕ) (fs : List Terms) (budget : ℕ) → IsAdmissible order n (replicate n 1) →
     HaveRingVariables n fs → AreLinearDifferences n fs → pairs_below n ≤ budget → AreRuledRunsWithinLimits strategy order fs budget
 
--- So it is with the flips of their ideal, in each region; with the search over its bases, in at most three variables and for rows of the region up to 500;
--- and with all that `_bases` may do without a limit: for all positive weights, with certificates or without; and without certificates in the region of at
--- most two rows that are differences of two entries.
+-- So it is with the flips of their ideal, in each region; with the search over its bases, in at most three variables and for rows of the region up to 500,
+-- and in four variables for rows up to 10; and with all that `_bases` may do without a limit in at most four variables: for all positive weights, with
+-- certificates or without; and without certificates in the region of at most three rows that are differences of two entries.
 pub record LinearIdealsStayWithinLimits : Type 0 where
   pub flips : (n : ℕ) (fs : List Terms) (k : Region) (bs : List MarkedPolynomial) (a : List ℤ) (budget : ℕ) → AreLinearDifferences n fs →
       IsBasisInRegion n fs k bs → IsFlippable n k bs a → pairs_below n ≤ budget → IsFlipWithinLimits n bs a budget
   pub searches : (F : Fan) (budget : ℕ) → AreLinearDifferences F.variables F.ideal → F.variables ≤ 3 → HaveEntriesUpTo 500 F.region.rows →
       pairs_below F.variables ≤ budget → IsTreeWithinLimits F budget
-  pub lists : (o : ListOptions) (n : ℕ) (fs : List Terms) → o.limit ≡ None → 1 ≤ n → n ≤ 3 → HaveRingVariables n fs →
+  pub searches_in_four : (F : Fan) (budget : ℕ) → AreLinearDifferences F.variables F.ideal → F.variables ≤ 4 → HaveEntriesUpTo 10 F.region.rows →
+      pairs_below F.variables ≤ budget → IsTreeWithinLimits F budget
+  pub lists : (o : ListOptions) (n : ℕ) (fs : List Terms) → o.limit ≡ None → 1 ≤ n → n ≤ 4 → HaveRingVariables n fs →
       AreLinearDifferences n fs → pairs_below n ≤ o.pairs → AreListsWithin o n fs
-  pub regions : (o : ListOptions) (n : ℕ) (rows : List (List ℤ)) (v : List ℤ) (fs : List Terms) → o.limit ≡ None → o.certified ≡ false → 1 ≤ n → n ≤ 3 →
-      length rows ≤ 2 → AreDifferenceRows n rows → IsInRegion n (record { rows = rows; root = v }) v → HaveRingVariables n fs →
+  pub regions : (o : ListOptions) (n : ℕ) (rows : List (List ℤ)) (v : List ℤ) (fs : List Terms) → o.limit ≡ None → o.certified ≡ false → 1 ≤ n → n ≤ 4 →
+      length rows ≤ 3 → AreDifferenceRows n rows → IsInRegion n (record { rows = rows; root = v }) v → HaveRingVariables n fs →
       AreLinearDifferences n fs → pairs_below n ≤ o.pairs → AreRegionListsWithin o n rows fs
 
 -- a marked set of variables and differences of two variables, marked at either term, as it is read
@@ -73,15 +75,15 @@ pub record IsLinearSet (s : MarkedPolynomials) : Type 0 where
   pub binomials : IsBinomialSet s
   pub linear : (b : MarkedPolynomial) → Contains s.items b → IsLinear b.poly
 
--- In at most three variables, nothing that may be done in the checks of such a set leaves its limits; nor, if it is a reduced Gröbner basis for its
+-- In at most four variables, nothing that may be done in the checks of such a set leaves its limits; nor, if it is a reduced Gröbner basis for its
 -- marking, anything that `_weightvector` may do.
 pub record LinearWeightsStayWithinLimits : Type 0 where
-  pub checks : (s : MarkedPolynomials) → IsLinearSet s → s.variables ≤ 3 → AreChecksWithinLimits s
-  pub weights : (s : MarkedPolynomials) → IsLinearSet s → 1 ≤ s.variables → s.variables ≤ 3 → IsMarkedGroebnerBasis s.variables s.items → AreReduced s.items →
+  pub checks : (s : MarkedPolynomials) → IsLinearSet s → s.variables ≤ 4 → AreChecksWithinLimits s
+  pub weights : (s : MarkedPolynomials) → IsLinearSet s → 1 ≤ s.variables → s.variables ≤ 4 → IsMarkedGroebnerBasis s.variables s.items → AreReduced s.items →
       IsWeighedWithin s
 
 -- Nor anything that a session of `_interactive` may do that starts at such a basis, with the budget of pairs of a list with as many members as there are
 -- variables.
 abbrev pub LinearSessionsStayWithinLimits : Type 0
-LinearSessionsStayWithinLimits = (pairs n : ℕ) (s : MarkedPolynomials) → IsLinearSet s → s.variables ≡ n → n ≤ 3 → IsMarkedGroebnerBasis s.variables s.items →
+LinearSessionsStayWithinLimits = (pairs n : ℕ) (s : MarkedPolynomials) → IsLinearSet s → s.variables ≡ n → n ≤ 4 → IsMarkedGroebnerBasis s.variables s.items →
     AreReduced s.items → pairs_below n ≤ pairs → IsWalkedWithin pairs n s

@@ -12,7 +12,8 @@ ghost use Rattle.gfan_theory.specs.Joined.{RunsAreJoined};
 ghost use Rattle.gfan_theory.specs.Differences.{RegionsOfDifferencesFit, CertificatesOfDifferencesFit};
 ghost use Rattle.gfan_theory.specs.Linear.{LinearRunsStayWithinLimits, LinearRuledRunsStayWithinLimits};
 ghost use Rattle.gfan_theory.specs.Linear.{LinearIdealsStayWithinLimits, LinearWeightsStayWithinLimits, LinearSessionsStayWithinLimits};
-ghost use Rattle.gfan_theory.specs.Continued.{ContinuationsStayWithinLimits};
+ghost use Rattle.gfan_theory.specs.Continued.{GivenListsStayWithinLimits, ContinuationsStayWithinLimits, ContinuationsWithinStayWithinLimits};
+ghost use Rattle.gfan_theory.specs.Summaries.{SummariesStayWithinLimits};
 ghost use Rattle.gfan_theory.specs.SmallSets.{StatisticsOfSmallSetsFit, SpacesOfSmallSetsFit};
 ghost use Rattle.gfan_theory.specs.Everyday.{RegionsOfBinomialsStayWithinLimits, CertificatesOfVariablesStayWithinLimits};
 ghost use Rattle.gfan_theory.specs.Everyday.{SaturationsOfVariablesStayWithinLimits};
@@ -55,8 +56,8 @@ pub fn runs_are_joined()
     ensures { RunsAreJoined }
 {}
 
-/// In at most three variables, at most two rows that are differences of two entries, such as (1,-1,0), cut out a region whose root is worked out within all
-/// limits, if some positive vector makes them positive; and the certificates of a marked list whose normals, with the rows of the region, are at most two
+/// In at most four variables, at most three rows that are differences of two entries, such as (1,-1,0), cut out a region whose root is worked out within all
+/// limits, if some positive vector makes them positive; and the certificates of a marked list whose normals, with the rows of the region, are at most three
 /// such rows, are worked out within all limits.
 pub fn differences_fit()
     ensures regions { RegionsOfDifferencesFit }
@@ -77,26 +78,40 @@ pub fn certificates_of_variables_stay_within_limits()
 
 /// The premises of completeness of `_buchberger`, of `_bases`, with certificates too, and of `_bases --within` are met by variables and differences of
 /// variables, as `a-b, b-c`: that of `_buchberger` in any number of variables, by each order but a weight that isn't positive before reverse lex, and the
-/// others in at most three. The budget of pairs is at least that of a list with as many members as there are variables.
+/// others in at most four. The budget of pairs is at least that of a list with as many members as there are variables.
 pub fn linear_ideals_stay_within_limits()
     ensures runs { LinearRunsStayWithinLimits }
     ensures ruled { LinearRuledRunsStayWithinLimits }
     ensures ideals { LinearIdealsStayWithinLimits }
 {}
 
-/// In at most three variables, the checks of a marked set of variables and differences of variables stay within their limits, and the premise of completeness
+/// In at most four variables, the checks of a marked set of variables and differences of variables stay within their limits, and the premise of completeness
 /// of `_weightvector` is met if such a set is a reduced Gröbner basis for its marking.
 pub fn linear_weights_stay_within_limits()
     ensures { LinearWeightsStayWithinLimits }
 {}
 
-/// The premise of completeness of `_bases --after`, with certificates too, is met by variables and differences of variables, as `a-b, b-c`, in at most three
-/// variables, if the marked set of the file is of such polynomials and stands for a basis of their ideal.
-pub fn continuations_stay_within_limits()
-    ensures { ContinuationsStayWithinLimits }
+/// The premises of completeness of `_bases -g`, with certificates too, and of `_bases -g --within` are met by a marked set of variables and differences of
+/// variables, in at most four variables, that is a Gröbner basis for its marking.
+pub fn given_lists_stay_within_limits()
+    ensures { GivenListsStayWithinLimits }
 {}
 
-/// The premise of completeness of `_interactive` is met by a marked set of variables and differences of variables, in at most three variables, that is a
+/// The premise of completeness of `_bases --after`, with certificates and with `-g` too, is met by variables and differences of variables, as `a-b, b-c`, in
+/// at most four variables, if the marked set of the file is of such polynomials and stands for a basis of their ideal; and that of `_bases --after --within`,
+/// with `-g` too, in the region of at most three rows that are differences of two entries, if it stands for a basis in the region.
+pub fn continuations_stay_within_limits()
+    ensures everywhere { ContinuationsStayWithinLimits }
+    ensures within { ContinuationsWithinStayWithinLimits }
+{}
+
+/// The premise of completeness of `_generated` is met by the number 0, and by each number whose generators are `a-b`, `b-c` and `c-d`, with a limit up to
+/// 10^12. The budget of pairs is at least that of a list with four members.
+pub fn summaries_stay_within_limits()
+    ensures { SummariesStayWithinLimits }
+{}
+
+/// The premise of completeness of `_interactive` is met by a marked set of variables and differences of variables, in at most four variables, that is a
 /// reduced Gröbner basis for its marking.
 pub fn linear_sessions_stay_within_limits()
     ensures { LinearSessionsStayWithinLimits }
