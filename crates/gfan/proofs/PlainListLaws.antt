@@ -40,7 +40,7 @@ use Rattle.gfan_common.specs.Causes.{of_tree}
 use Rattle.gfan_lists.specs.BasesWriting.{StartsIn}
 use Rattle.gfan_common.specs.CheckedSets.{of_check, IsSomeReductionRefusal}
 use Rattle.gfan_lists.specs.After.{IsBasisTaken, IsUnlisted, Given, names_given, generators_given, reading_given, IsUnrooted, IsStartRefused}
-use Rattle.gfan_lists.specs.Bases.{IsSearchRefusedBehind, IsGoingCauseBehind, IsListCause}
+use Rattle.gfan_lists.specs.Bases.{IsSearchRefusedBehind, IsGoingCauseBehind}
 use Rattle.gfan_lists.specs.GivenBasis.{IsReducedFrom, IsReducingRefusal, IsGivenRootRefusal}
 use Rattle.gf_exponents_theory.specs.Orders.{gains}
 use Rattle.gf_weights.specs.declared.region.RegionError.{RegionError}
