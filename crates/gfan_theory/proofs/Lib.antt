@@ -24,3 +24,18 @@ pub mod SaturationRuns  -- runs on linear polynomials and the inverse of a varia
 pub mod SaturationLimits  -- saturations of differences of variables
 pub mod SpaceLimits  -- homogeneity spaces of polynomials with small exponents, in at most three variables
 pub mod InputLaws  -- what meets these premises
+pub mod RayLines  -- the line of a ray
+pub mod SmallRays  -- rays of cones with small rows, in at most three variables
+pub mod PlaneRays  -- cones in the plane have at most two rays
+pub mod FewVectors  -- there are few vectors with small entries
+pub mod SmallFans  -- sums that are written of fans with small rows
+pub mod ConeRowLaws  -- the rows of a cone: no more, and no larger, than what is given
+pub mod ToldLimits  -- descriptions of cones with few small rows
+pub mod Arrangements  -- marked sets have arrangements
+pub mod LinearCones  -- cones of bases of variables and differences of variables
+pub mod LinearFans  -- fans of their cones
+pub mod PlaneFiles  -- fan files of the plane
+pub mod TropicalLimits  -- tropical fans of polynomials with few terms
+pub mod SetTestLimits  -- tests of marked sets, and membership
+pub mod HomogenizationLimits  -- homogenizations
+pub mod DimensionLaws  -- the dimension of a cone by its implied equations, and by its rays

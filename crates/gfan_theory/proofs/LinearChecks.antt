@@ -165,7 +165,7 @@ module _ (s : MarkedPolynomials) (l : IsLinearSet s) where
   -- ---- the weight
 
   module _ (basis : IsMarkedGroebnerBasis s.variables s.items) (terms : AreReduced s.items) (t : MarkedPolynomials) (a : IsArranged (monic_set s) t) where
-    node : IsBasisInRegion s.variables (polys s.items) (all_positive s.variables) t.items
+    pub node : IsBasisInRegion s.variables (polys s.items) (all_positive s.variables) t.items
     node =
         let r = reduced_of s t l.binomials.variables (each_contained HasMarkedTerm s.items l.binomials.marked) a terms basis in
         let here : IsMarkedReducedBasis s.variables (polys t.items) t.items = subst (λ (m : ℕ). IsMarkedReducedBasis m (polys t.items) t.items) a.variables

@@ -1,13 +1,13 @@
 -- The normals of a reduced basis of an ideal that differences of variables generate are differences of two entries, and in four variables there are at most
--- three. To cite: linear_normals. The rest are steps.
+-- three. To cite: few_in_three, one_at_most, linear_normals. The rest are steps.
 use Rattle.std.proofs.Common.{◌≡◌, ◌≢◌, ◌⊎◌, ℕ, ◌<◌, ◌≤◌, true, false, List, [], ◌∷◌, length, get_or, Some, None, Option, ℤ, pos}
-use Rattle.std.proofs.Common.{◌-ℤ◌, Contains, arith, sym, ap₂, ◌∙◌, subst, inl, inr}
+use Rattle.std.proofs.Common.{◌-ℤ◌, Contains, arith, sym, ap, ap₂, ◌∙◌, subst, inl, inr}
 use Rattle.std.proofs.lemmas.Bool.{cases_lt}
 use Rattle.gf_int_theory.proofs.ListLaws.{Contains-here}
 use Rattle.gf_vec.specs.Vector.{dot}
 use Rattle.gf_vec.specs.Primitive.{IsPrimitivePart}
 use Rattle.gf_vec.proofs.VectorLaws.{dot_comm}
-use Rattle.gf_duality_theory.proofs.ListLaws.{in_tail}
+use Rattle.gf_duality_theory.proofs.ListLaws.{none_in, in_tail, in_cons}
 use Rattle.gf_exponents_theory.specs.Exponents.{Exponents, entry, same, degree, IsInRing}
 use Rattle.gf_exponents_theory.proofs.ExponentsLaws.{same_flip, same_trans, entries_same}
 use Rattle.gf_poly.specs.Polynomial.{Terms}
@@ -78,6 +78,19 @@ four_of_three c p q r s lc lp lq lr ls a np nq nr ns =
     let d5 = a.second_fourth in
     let d6 = a.third_fourth in
     omega (arith, lc, lp, lq, lr, ls, d1, d2, d3, d4, d5, d6, np, nq, nr, ns)
+
+-- four places that differ aren't below 3
+four_places : (n p q r s : ℕ) → n ≤ 3 → p < n → q < n → r < n → s < n → p ≢ q → p ≢ r → p ≢ s → q ≢ r → q ≢ s → r ≢ s → ⊥
+four_places n p q r s l a b c d e f g h i j = omega arith
+
+-- the members of a list of one are one
+alone_in : (bs : List MarkedPolynomial) (x y : MarkedPolynomial) → length bs ≤ 1 → Contains bs x → Contains bs y → x ≡ y
+alone_in [] x y l c d = absurd (none_in x c)
+alone_in (b ∷ []) x y l c d = one x c ∙ sym (one y d)
+  where
+    one : (z : MarkedPolynomial) → Contains (b ∷ []) z → z ≡ b
+    one z k = elim (in_cons b [] z k) [ inl e ↦ e | inr m ↦ absurd (none_in z m) ]
+alone_in (b ∷ (d ∷ bs)) x y l c e = absurd (omega (arith, l))
 
 -- ---- normals
 
@@ -250,6 +263,56 @@ module _ (n : ℕ) (fs : List Terms) (k : Region) (bs : List MarkedPolynomial) (
 
       u : IsLinearNormal g
       u = normal_at g fourth
+
+  -- in three variables there are at most two
+  pub few_in_three : (ns : List (List ℤ)) → AreNormals bs ns → n ≤ 3 → length ns ≤ 2
+  few_in_three [] m l = omega arith
+  few_in_three (a ∷ []) m l = omega arith
+  few_in_three (a ∷ (c ∷ [])) m l = omega arith
+  few_in_three (a ∷ (c ∷ (e ∷ ns))) m l =
+      absurd (four_places n (place_of r.member.head) (place_of s.member.head) (place_of t.member.head) (place_of r.at) l r.high_inside s.high_inside
+      t.high_inside r.low_inside (apart_marks a c (m.rises.0 c (Contains-here c (e ∷ ns))) first second r s)
+      (apart_marks a e (m.rises.0 e (in_tail c (e ∷ ns) e (Contains-here e ns))) first third r t) (λ q. no_mark a r r.member r.contained (sym q))
+      (apart_marks c e (m.rises.1.0 e (Contains-here e ns)) second third s t) (λ q. no_mark a r s.member s.contained (sym q))
+      (λ q. no_mark a r t.member t.contained (sym q)))
+    where
+      first : IsNormal bs a
+      first = m.only a (Contains-here a (c ∷ (e ∷ ns)))
+
+      second : IsNormal bs c
+      second = m.only c (in_tail a (c ∷ (e ∷ ns)) c (Contains-here c (e ∷ ns)))
+
+      third : IsNormal bs e
+      third = m.only e (in_tail a (c ∷ (e ∷ ns)) e (in_tail c (e ∷ ns) e (Contains-here e ns)))
+
+      r : IsLinearNormal a
+      r = normal_at a first
+
+      s : IsLinearNormal c
+      s = normal_at c second
+
+      t : IsLinearNormal e
+      t = normal_at e third
+
+  -- of one member there is at most one
+  pub one_at_most : (ns : List (List ℤ)) → AreNormals bs ns → length bs ≤ 1 → length ns ≤ 1
+  one_at_most [] m l = omega arith
+  one_at_most (a ∷ []) m l = omega arith
+  one_at_most (a ∷ (c ∷ ns)) m l =
+      absurd (apart_marks a c (m.rises.0 c (Contains-here c ns)) first second r s (ap (λ (x : MarkedPolynomial). place_of x.head)
+      (alone_in bs r.member s.member l r.contained s.contained)))
+    where
+      first : IsNormal bs a
+      first = m.only a (Contains-here a (c ∷ ns))
+
+      second : IsNormal bs c
+      second = m.only c (in_tail a (c ∷ ns) c (Contains-here c ns))
+
+      r : IsLinearNormal a
+      r = normal_at a first
+
+      s : IsLinearNormal c
+      s = normal_at c second
 
   differ : (a : List ℤ) → IsNormal bs a → IsDifferenceRow n a
   differ a h =

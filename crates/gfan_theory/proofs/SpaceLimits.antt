@@ -8,8 +8,7 @@ use Rattle.std.proofs.lemmas.List.{get_or_default}
 use Rattle.std.proofs.lemmas.List.Elements.{All-nil, All-contains}
 use Rattle.gf_int_theory.proofs.ListLaws.{all_by}
 use Rattle.gf_exponents_theory.specs.Exponents.{Exponents, entry}
-use Rattle.gf_poly.specs.Marking.{MarkedPolynomial, MarkedPolynomials}
-use Rattle.gf_poly.specs.declared.Term.{Term}
+use Rattle.gf_poly.specs.Marking.{MarkedPolynomial}
 use Rattle.gf_poly.proofs.CoefficientLaws.{term_length}
 use Rattle.gf_gordan.specs.Alternative.{AreRows}
 use Rattle.gf_gordan.specs.Sizes.{HaveEntriesUpTo}
@@ -30,17 +29,15 @@ use Rattle.gf_rays.specs.Cones.{RowsAndRays, rows_of, AreRaysWithinLimits}
 use Rattle.gf_rays.specs.Sums.{adding_steps}
 use Rattle.gf_rays.specs.Limits.{has_room, IsSmallSystem}
 use Rattle.gf_rays.proofs.RoomLaws.{systems_with_room_stay_within_limits}
-use Rattle.gf_facets_theory.specs.Rows.{differences, rows_of_polynomials}
-use Rattle.gf_facets_theory.proofs.RowLaws.{IsTermRow, row-from, length-differences, get-differences}
-use Rattle.gf_fan.specs.FanLists.{FanLists}
-use Rattle.gf_fan.specs.FansOfCones.{IsFanOf, AreCommonRays}
+use Rattle.gf_facets_theory.specs.Rows.{rows_of_polynomials}
+use Rattle.gf_facets_theory.proofs.RowLaws.{row-from, length-differences, get-differences}
+use Rattle.gf_fan.specs.FansOfCones.{AreCommonRays}
 use Rattle.gf_fan.proofs.LimitLaws.{fans_with_room_stay_within_limits}
-use Rattle.gf_fan_files.specs.FanTexts.{IsWritingStep}
 use Rattle.gf_small.specs.HomogeneitySpace.{IsSpaceCause}
 use Rattle.gf_small.specs.Statistics.{members_of}
 use Rattle.gfan_fans.specs.FanTexts.{IsFanOfConesWithin}
 use Rattle.gfan_fans.specs.HomogeneitySpace.{nonzero_of, IsSpaceCone}
-use Rattle.gfan_theory.specs.SmallSets.{IsSmall, AreSmall, StatisticsOfSmallSetsFit, SpacesOfSmallSetsFit}
+use Rattle.gfan_theory.specs.SmallSets.{AreSmall, StatisticsOfSmallSetsFit, SpacesOfSmallSetsFit}
 
 -- an exponent of such a monomial, also past its end
 entry_up : (b : ℕ) (x : Exponents) (i : ℕ) → All (λ e. e ≤ b) x → entry x i ≤ b

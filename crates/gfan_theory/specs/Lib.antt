@@ -10,3 +10,10 @@ pub mod Continued  -- their lists, from a marked basis or after one
 pub mod Summaries  -- the ideals with a number
 pub mod SmallSets  -- polynomials with small exponents in few variables
 pub mod Inputs  -- the premises of completeness of `_bases`, of each input that says given polynomials
+pub mod SmallCones  -- cones with few small rows
+pub mod LinearFans  -- fans of the cones of bases of variables and differences of variables
+pub mod PlaneFans  -- fan files of the plane
+pub mod TropicalFans  -- polynomials with few terms and small exponents
+pub mod Tests  -- tests of marked sets, and membership
+pub mod Homogenizations  -- polynomials whose homogenizations stay within the limit of exponents
+pub mod Dimensions  -- the dimension of a cone, by its implied equations and by its rays

@@ -17,6 +17,15 @@ ghost use Rattle.gfan_theory.specs.Summaries.{SummariesStayWithinLimits};
 ghost use Rattle.gfan_theory.specs.SmallSets.{StatisticsOfSmallSetsFit, SpacesOfSmallSetsFit};
 ghost use Rattle.gfan_theory.specs.Everyday.{RegionsOfBinomialsStayWithinLimits, CertificatesOfVariablesStayWithinLimits};
 ghost use Rattle.gfan_theory.specs.Everyday.{SaturationsOfVariablesStayWithinLimits};
+ghost use Rattle.gfan_theory.specs.SmallCones.{ConesOfFewRowsFit, FewRowsHaveRoom, ConesOfLinearSetsFit};
+ghost use Rattle.gfan_theory.specs.LinearFans.{FansOfLinearSetsFit};
+ghost use Rattle.gfan_theory.specs.PlaneFans.{MigrationsOfPlaneFansFit, RefinementsOfPlaneFansFit};
+ghost use Rattle.gfan_theory.specs.TropicalFans.{TropicalFansFit};
+ghost use Rattle.gfan_theory.specs.Dimensions.{DimensionsAgree};
+ghost use Rattle.gfan_theory.specs.Tests.{TestsOfLinearSetsFit, MembershipInLinearIdealsFits};
+ghost use Rattle.gfan_theory.specs.Homogenizations.{HomogenizationsFit};
+
+use gf_tropical::small_polynomials_stay_within_limits;
 
 /// Each answer of `_bases` is the text of the list of all bases of an ideal in a region, or of the part of that list that follows a basis: the ideal
 /// and the ring are those of the input, the region is that of the file of `--within`, and the basis is that of the file of `--after`.
@@ -128,4 +137,58 @@ pub fn saturations_of_variables_stay_within_limits()
 pub fn spaces_of_small_sets_stay_within_limits()
     ensures statistics { StatisticsOfSmallSetsFit }
     ensures spaces { SpacesOfSmallSetsFit }
+{}
+
+/// The premise of completeness of `_groebnercone --vectorinput` is met by few inequalities and equations with small entries, in sections without certificates
+/// and as a fan, also in the non-negative orthant, and in sections with certificates by inequalities that some vector makes positive: in three variables by two
+/// rows with entries up to 1, in two variables by four rows with entries up to 1, three up to 4 or two up to 50, where an equation counts as two rows and the
+/// orthant as one for each variable.
+pub fn cones_of_few_rows_fit()
+    ensures cones { ConesOfFewRowsFit }
+    ensures room { FewRowsHaveRoom }
+{}
+
+/// The premise of completeness of `_groebnercone` is met by a reduced basis of variables and differences of variables, in at most three variables: in sections,
+/// also with certificates and in the non-negative orthant; and as a fan, in the non-negative orthant if there are at most two variables.
+pub fn cones_of_linear_sets_fit()
+    ensures { ConesOfLinearSetsFit }
+{}
+
+/// The premise of completeness of `_topolyhedralfan` is met by one reduced basis of variables and differences of variables in at most three variables, and by
+/// several whose cones meet in faces of both, in two variables, or in three if each has one member.
+pub fn fans_of_linear_sets_fit()
+    ensures { FansOfLinearSetsFit }
+{}
+
+/// The premises of completeness of `_migratefan` and `_fancommonrefinement` are met by fans in the plane whose rays and lineality vectors have no entries but
+/// 0, 1 and -1, however many cones they have.
+pub fn plane_fans_fit()
+    ensures migrations { MigrationsOfPlaneFansFit }
+    ensures refinements { RefinementsOfPlaneFansFit }
+{}
+
+/// The premises of completeness of `_tropicalhypersurface`, `_tropicalintersection` and `_minkowskisum` are met by polynomials in at most three variables with
+/// few terms and small exponents, as three terms in three variables with exponents up to 2.
+pub fn tropical_fans_fit()
+    ensures { TropicalFansFit }
+{
+    small_polynomials_stay_within_limits();
+}
+
+/// The premises of completeness of `_ismarkedgroebnerbasis` and `_doesidealcontain` are met by marked sets of variables and differences of variables in at most
+/// three variables.
+pub fn tests_of_linear_sets_fit()
+    ensures tests { TestsOfLinearSetsFit }
+    ensures membership { MembershipInLinearIdealsFits }
+{}
+
+/// The premise of completeness of `_homogenize` is met by polynomials of total degrees below 2^31, in any number of variables.
+pub fn homogenizations_fit()
+    ensures { HomogenizationsFit }
+{}
+
+/// The dimension that `_groebnercone` prints of a cone in sections, which is the number of variables less the number of implied equations, is the dimension of
+/// what its rays and lineality vectors span, which is the one that a fan file lists it with.
+pub fn dimensions_agree()
+    ensures { DimensionsAgree }
 {}
