@@ -1,4 +1,5 @@
--- The premises of completeness of `_bases` and `_bases --within`, of each input that says given polynomials, or with `-g` a given set. Laws: proofs/InputLaws.antt.
+-- The premises of completeness of `_bases` and `_bases --within`, of each input that says given polynomials, or with `-g` a given set. Laws:
+-- proofs/InputLaws.antt.
 use Rattle.std.specs.Prelude.{◌≡◌, ℕ, true, false, List, [], length, None, ℤ}
 use Rattle.gf_poly.specs.Polynomial.{Terms}
 use Rattle.gf_poly.specs.Marking.{MarkedPolynomials}
