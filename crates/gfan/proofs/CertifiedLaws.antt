@@ -20,7 +20,7 @@ use Rattle.gf_weights.proofs.WeightLaws.{weight_basis_in, witness_inside}
 use Rattle.gf_reverse_search.specs.Listing.{Among}
 use Rattle.gfan_lists.specs.BasesList.{IsGivenIn}
 use Rattle.gfan_lists.specs.Certificates.{IsCertificatesTextIn, IsItemTextIn}
-use Rattle.gfan_lists.specs.Bases.{AreItemTextsIn, IsTextOfBasesIn, IsTextOfBases}
+use Rattle.gfan_lists.specs.Bases.{AreItemTextsIn, IsTextBehind}
 use Rattle.gfan.specs.CertifiedBases.{HasCertificates, HasCertificatesIn, IsCertifiedList, IsCertifiedListIn}
 use Rattle.gfan_lists.proofs.BasesListLaws.{given_in_node}
 
@@ -70,7 +70,7 @@ items_show_in ring j fs (b ∷ bs) (t ∷ ts) v r g a =
     (item_shows_in ring j fs b t v r (g b (inl refl)) a.0, items_show_in ring j fs bs ts v r (λ c k. g c (inr k)) a.1)
 
 pub certified_list_in : (limit : Option ℕ) (ring : List (List ℕ)) (j : Region) (fs : List Terms) (text : List ℕ) → AreInVariables (length ring) fs →
-    IsRegion (length ring) j → IsTextOfBasesIn true limit ring j fs text → IsCertifiedListIn ring j fs text
+    IsRegion (length ring) j → IsTextBehind [] true limit ring j fs text → IsCertifiedListIn ring j fs text
 certified_list_in limit ring j fs text v r t = (t.list, t.are_all, (t.items, items_show_in ring j fs t.list t.items v r t.are_all.only t.are_items, t.is_text))
 
 -- where all positive weights are meant
@@ -95,7 +95,7 @@ items_show ring fs (b ∷ bs) (t ∷ ts) a = (
 )
 
 pub certified_list : (limit : Option ℕ) (ring : List (List ℕ)) (fs : List Terms) (text : List ℕ) → AreInVariables (length ring) fs →
-    IsTextOfBases true limit ring fs text → IsCertifiedList ring fs text
+    IsTextBehind [] true limit ring (all_positive (length ring)) fs text → IsCertifiedList ring fs text
 certified_list limit ring fs text v t = (
   t.list,
   t.are_all,

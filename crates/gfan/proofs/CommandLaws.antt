@@ -1,6 +1,6 @@
 -- The command of each job is lawful.
--- To cite: lawful, list_source, bases_not_once, one_source.
-use Rattle.std.specs.Prelude.{◌≡◌, ℕ, Bool, true, false, List, [], ◌∷◌, length, Option, None, Some}
+-- To cite: lawful, one_source.
+use Rattle.std.specs.Prelude.{◌≡◌, [], ◌∷◌, length, is_some}
 use Rattle.std.proofs.Common.{refl, subst}
 use Rattle.gf_front.specs.declared.command_line.Job.{Job}
 use Rattle.gf_front.specs.declared.command_line.Job.TheVariants as jobs
@@ -15,8 +15,6 @@ use Rattle.gf_frame.proofs.CommandLaws.{IsLawful}
 use Rattle.gf_frame.proofs.SoundLaws.{untested, sound_lawful}
 use Rattle.gfan_common.specs.Forms.{generators_of}
 use Rattle.gfan_sets.specs.Buchberger.{buchberger_command}
-use Rattle.gfan_lists.specs.Bases.{bases_command}
-use Rattle.gfan_lists.specs.GivenBasis.{given_bases_command}
 use Rattle.gfan_sets.specs.Marked.{marked_command}
 use Rattle.gfan_sets.specs.Containment.{containment_command}
 use Rattle.gfan_sets.specs.MarkPolynomialSet.{mark_polynomial_set_command}
@@ -30,9 +28,7 @@ use Rattle.gfan_fans.specs.declared.tropical.TropicalFan.{TropicalFan}
 use Rattle.gfan_fans.specs.declared.tropical.TropicalFan.TheVariants as fans
 use Rattle.gfan_fans.specs.Tropical.{tropical_command}
 use Rattle.gfan_fans.specs.MigrateFan.{migrate_fan_command}
-use Rattle.gfan_lists.specs.declared.bases.ListOptions.{ListOptions}
-use Rattle.gfan_lists.specs.Within.{bases_within_command, given_within_command}
-use Rattle.gfan.specs.Commands.{list_options, plain_command, list_command, within_command, bases_of, list_of, command_of, ReadsInputAlone}
+use Rattle.gfan.specs.Commands.{list_options, plain_command, command_of, ReadsInputAlone}
 use Rattle.gfan_common.proofs.CheckedSetLaws.{check_not_listed, test_cause_untested}
 use Rattle.gfan_sets.proofs.WeightVectorLaws.{weight_lawful, weight_source}
 use Rattle.gfan_fans.proofs.GroebnerConeLaws.{cone_lawful, cone_source}
@@ -44,9 +40,7 @@ use Rattle.gfan_sets.proofs.ToolLaws.{mark_polynomial_set_exact, initial_forms_e
 use Rattle.gfan_sets.proofs.ToolLaws.{homogenize_not_listed, homogenize_untested}
 use Rattle.gfan_common.proofs.CauseLaws.{gordan_not_listed, gordan_untested, basis_not_listed, basis_untested, memory_untested}
 use Rattle.gfan_sets.proofs.ExactLaws.{buchberger_exact, marked_exact, containment_exact, leading_lawful, leading_source, containment_tested}
-use Rattle.gfan_lists.proofs.ListExactLaws.{bases_exact, given_exact, list_untested, given_tested}
-use Rattle.gfan_lists.proofs.AfterCommandLaws.{after_lawful}
-use Rattle.gfan_lists.proofs.WithinLaws.{within_exact, within_tested, given_within_exact, given_within_tested}
+use Rattle.gfan_lists.proofs.ListCommandLaws.{list_lawful}
 use Rattle.gfan_fans.proofs.CommonRefinementLaws.{refinement_lawful}
 use Rattle.gfan_fans.proofs.MigrateFanLaws.{migrate_fan_exact, migrate_fan_tested, migration_not_listed}
 use Rattle.gfan_lists.proofs.SummaryLaws.{generated_lawful}
@@ -83,32 +77,13 @@ plain_lawful plains.MinkowskiSum = tropical_lawful fans.MinkowskiSum
 plain_lawful plains.MigrateFan = sound_lawful migrate_fan_command migrate_fan_exact migrate_fan_tested (λ h. h) (λ t. t)
     (λ source m w. migration_not_listed source m w)
 
-list_lawful : (from_basis : Bool) (o : ListOptions) → IsLawful (list_command from_basis o)
-list_lawful false o = sound_lawful (bases_command o) (bases_exact o)
-    (untested (bases_command o) (λ v r t h. list_untested o (length v.0) (generators_of v.1.0) r t h)) (λ h. h) (λ t. t) (λ a m w. tt)
-list_lawful true o = sound_lawful (given_bases_command o) (given_exact o) (given_tested o) (λ h. h) (λ t. t) (λ a m w. tt)
-
--- in a region, too
-within_lawful : (name : List ℕ) (from_basis : Bool) (o : ListOptions) → IsLawful (within_command name from_basis o)
-within_lawful name false o = sound_lawful (bases_within_command name o) (within_exact name o) (within_tested name o) (λ h. h) (λ t. t) (λ a m w. tt)
-within_lawful name true o = sound_lawful (given_within_command name o) (given_within_exact name o) (given_within_tested name o) (λ h. h) (λ t. t) (λ a m w. tt)
-
-bases_lawful : (within : Option (List ℕ)) (from_basis : Bool) (o : ListOptions) → IsLawful (bases_of within from_basis o)
-bases_lawful None from_basis o = list_lawful from_basis o
-bases_lawful (Some name) from_basis o = within_lawful name from_basis o
-
--- behind a basis, too
-listed_lawful : (after within : Option (List ℕ)) (from_basis : Bool) (o : ListOptions) → IsLawful (list_of after within from_basis o)
-listed_lawful None within from_basis o = bases_lawful within from_basis o
-listed_lawful (Some after) within from_basis o = after_lawful from_basis within after o
-
 pub lawful : (job : Job) → IsLawful (command_of job)
 lawful (jobs.Plain k) = plain_lawful k
 lawful (jobs.Buchberger o) =
     let c = buchberger_command o in
     sound_lawful c (buchberger_exact o) (untested c (λ v r t h. basis_untested h.0 (subst IsOfTest h.1 t))) (λ h. h) (λ t. t)
     (λ a m w. basis_not_listed w.0 m w.1)
-lawful (jobs.Bases o) = listed_lawful o.after o.within o.from_basis (list_options o)
+lawful (jobs.Bases o) = list_lawful o.from_basis (is_some o.within) (is_some o.after) o.within o.after (list_options o)
 lawful (jobs.LeadingTerms o) = leading_lawful o
 lawful (jobs.WeightVector o) = weight_lawful o
 lawful (jobs.GroebnerCone o) = cone_lawful o
@@ -127,22 +102,6 @@ plain_source : (k : PlainCommand) → (plain_command k).reads ≡ Origin.the_inp
 plain_source plains.Stats = refl
 plain_source _ = refl
 
-pub list_source : (from_basis : Bool) (o : ListOptions) → (list_command from_basis o).reads ≡ Origin.the_input ∷ []
-list_source false o = refl
-list_source true o = refl
-
--- a list is written as it goes
-pub bases_not_once : (within : Option (List ℕ)) (from_basis : Bool) (o : ListOptions) → WritesOnce (bases_of within from_basis o).writing → ⊥
-bases_not_once None false o w = w
-bases_not_once None true o w = w
-bases_not_once (Some name) false o w = w
-bases_not_once (Some name) true o w = w
-
--- behind a basis, too
-pub listed_not_once : (after within : Option (List ℕ)) (from_basis : Bool) (o : ListOptions) → WritesOnce (list_of after within from_basis o).writing → ⊥
-listed_not_once None within from_basis o w = bases_not_once within from_basis o w
-listed_not_once (Some after) within from_basis o w = w
-
 -- a job that writes once and isn't one on files, or that reads nothing, reads the input alone
 pub one_source : (job : Job) → WritesOnce (command_of job).writing → ((o : FanCommonRefinementOptions) → job ≡ jobs.FanCommonRefinement o → ⊥) →
     ((o : GeneratedOptions) → job ≡ jobs.Generated o → ⊥) → ReadsInputAlone job
@@ -150,7 +109,7 @@ one_source (jobs.FanCommonRefinement o) w n m = absurd (n o refl)
 one_source (jobs.Generated o) w n m = absurd (m o refl)
 one_source (jobs.Interactive o) w n m = absurd w
 one_source (jobs.Plain k) w n m = plain_source k
-one_source (jobs.Bases o) w n m = absurd (listed_not_once o.after o.within o.from_basis (list_options o) w)
+one_source (jobs.Bases o) w n m = absurd w
 one_source (jobs.LeadingTerms o) w n m = leading_source o
 one_source (jobs.WeightVector o) w n m = weight_source o
 one_source (jobs.TropicalIntersection o) w n m = intersection_source o

@@ -2,7 +2,7 @@
 -- To cite: words_named, unloaded_named, unnamed_loaded, told_loaded, one_told, turns_done, turns_refused, turns_told, takes_turns; limit_not_done, limit_told,
 -- of_no_source.
 -- The rest are steps.
-use Rattle.std.specs.Prelude.{◌≡◌, ◌⊎◌, ℕ, List, [], ◌∷◌, Option, None, Some, IfSome}
+use Rattle.std.specs.Prelude.{◌≡◌, ◌⊎◌, ℕ, List, [], ◌∷◌, Option, None, Some, IfSome, is_some}
 use Rattle.std.proofs.Common.{sym, ap, ◌∙◌, subst, inl, inr, ◌≡◌, List, ℕ, Option, None, Some}
 use Rattle.gf_outside.specs.Faults.{Rose}
 use Rattle.gf_front.specs.declared.command_line.Job.{Job}
@@ -24,10 +24,10 @@ use Rattle.gfan_common.specs.Refused.{IsUnnamed, IsNamedBy, IsRingOf, IsOfSource
 use Rattle.gfan.specs.Commands.{list_options, command_of, IsPastReach}
 use Rattle.gfan.specs.Run.{ReadWhole, IsRingOfInput, IsRingOfFile, IsOfSources, IsOfLoaded}
 use Rattle.gfan_common.proofs.PerformedLaws.{of_unnamed}
-use Rattle.gfan.proofs.PastLaws.{past_refused, past_unanswered}
+use Rattle.gfan_lists.proofs.PastLaws.{past_refused, past_unanswered}
+use Rattle.gfan_lists.specs.ListCommand.{list_sources}
 use Rattle.gfan.proofs.CommandLaws.{lawful}
 use Rattle.gfan_interactive.specs.Interactive.{IsConversed, IsNotConversed}
-use Rattle.gfan.proofs.SourceLaws.{from_alone}
 use Rattle.gfan_interactive.proofs.InteractiveLaws.{conversed_done, conversed_stopped}
 
 -- ---- the line of a refusal
@@ -159,8 +159,19 @@ takes_turns job options is = inr (subst (λ j. TakesTurns (command_of j).writing
 
 -- ---- past the limit of a list
 
+job_refused : (job : Job) (texts : List (List ℕ)) (most : ℕ) (d : Refusal) → IsPastReach job texts most → IsRefusedOn (command_of job) texts d →
+    (d ≡ refusals.ListLimit most) ⊎ (d ≡ refusals.Memory)
+job_refused (jobs.Bases o) texts most d p h =
+    past_refused o.from_basis (is_some o.within) (is_some o.after) (list_sources o.within o.after) (list_options o) texts most p d h
+job_refused _ texts most d p h = absurd p
+
+job_unanswered : (job : Job) (texts : List (List ℕ)) (most : ℕ) (text : List ℕ) → IsPastReach job texts most → IsAnswered (command_of job) texts text → ⊥
+job_unanswered (jobs.Bases o) texts most text p a =
+    past_unanswered o.from_basis (is_some o.within) (is_some o.after) (list_sources o.within o.after) (list_options o) texts most p text a
+job_unanswered _ texts most text p a = p
+
 past_alone : (job : Job) (texts : List (List ℕ)) (most : ℕ) → IsPastReach job texts most → TakesTurns (command_of job).writing → ⊥
-past_alone (jobs.Bases o) texts most p t = from_alone o.after o.within o.from_basis (list_options o) t
+past_alone (jobs.Bases o) texts most p t = t
 past_alone _ texts most p t = p
 
 answered_done : (c : Command) (writing : Writing c.Value) (texts : List (List ℕ)) (m q : Seen) (o s : OutputSeen) → (TakesTurns writing → ⊥) →
@@ -183,14 +194,14 @@ module _ (words : List (List ℕ)) (p q : Seen) (o s : OutputSeen) (job : Job) (
   not_done : IsDoneBy (command_of job) p q o s → ⊥
   not_done d =
       let a = answered_done (command_of job) (command_of job).writing d.texts d.then q o s (past_alone job texts most past) d.gone in
-      past_unanswered job texts most a.0 past (subst (λ us. IsAnswered (command_of job) us a.0) (same_texts d.texts d.then d.loaded) a.1)
+      job_unanswered job texts most a.0 past (subst (λ us. IsAnswered (command_of job) us a.0) (same_texts d.texts d.then d.loaded) a.1)
 
   pub limit_not_done : IsRunDone command_of words p q o s → ⊥
   limit_not_done d = not_done (done_as command_of lawful words p q o s job asked d)
 
   stopped : (d : Refusal) → (Rose o.faults s.faults → ⊥) → IsStoppedBy (command_of job) p q o s d → (d ≡ refusals.ListLimit most) ⊎ (d ≡ refusals.Memory)
   stopped d n (IsStoppedBy.in_loading u k e) = inr (unloaded_known (command_of job).reads p q texts d (lawful job).input given.known given.short u)
-  stopped d n (IsStoppedBy.in_work us l h left e) = past_refused job texts most d past (subst (λ z. IsRefusedOn (command_of job) z d) (same_texts us q l) h)
+  stopped d n (IsStoppedBy.in_work us l h left e) = job_refused job texts most d past (subst (λ z. IsRefusedOn (command_of job) z d) (same_texts us q l) h)
   stopped d n (IsStoppedBy.in_writing us text l w e rose part) = absurd (n rose)
   stopped d n (IsStoppedBy.in_turns us m l k) = not_cut (command_of job) (command_of job).writing us m q o s d (past_alone job texts most past) k
 

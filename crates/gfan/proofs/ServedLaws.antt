@@ -1,11 +1,12 @@
 -- What the answer of `_bases` for a source has: its list serves each weight and each term order, and its certificates hold.
 -- To cite: lists_serve, certificates_hold.
-use Rattle.std.specs.Prelude.{ℕ, List}
+use Rattle.std.specs.Prelude.{ℕ, List, [], length}
 use Rattle.std.proofs.Common.{subst}
 use Rattle.gf_poly.specs.Polynomial.{Terms}
 use Rattle.gf_poly.specs.Marking.{MarkedPolynomials}
 use Rattle.gf_ideal_theory.specs.Membership.{AreInVariables}
-use Rattle.gfan_lists.specs.Bases.{IsTextOfBases}
+use Rattle.gf_facets_theory.specs.Regions.{all_positive}
+use Rattle.gfan_lists.specs.Bases.{IsTextBehind}
 use Rattle.gfan_lists.specs.BasesList.{AreAllBases}
 use Rattle.gfan.specs.CertifiedBases.{CertificatesHold}
 use Rattle.gfan.specs.Served.{ServesWeights, WrittenListsServe}
@@ -44,7 +45,7 @@ certificates_hold = record {
         s.ring,
         s.ideal,
         s.read,
-        certified_list o.limit s.ring s.ideal text s.inside (subst (λ c. IsTextOfBases c o.limit s.ring s.ideal text)
+        certified_list o.limit s.ring s.ideal text s.inside (subst (λ c. IsTextBehind [] c o.limit s.ring (all_positive (length s.ring)) s.ideal text)
             certified s.is_list),
       );
 }

@@ -1,6 +1,6 @@
 -- The meaning of the certificates that `_bases` writes. Laws: proofs/CertifiedLaws.antt.
 -- Source: Fukuda, Jensen, Thomas, Computing Gröbner fans, 2 and 4.
-use Rattle.std.specs.Prelude.{◌≡◌, ◌↔◌, ℕ, Bool, true, List, ◌++◌, length, All, Contains, ℤ, pos, ◌<ℤ◌, Option}
+use Rattle.std.specs.Prelude.{◌≡◌, ◌↔◌, ℕ, Bool, true, List, [], ◌++◌, length, All, Contains, ℤ, pos, ◌<ℤ◌, Option}
 use Rattle.std.specs.List.{AllZip}
 use Rattle.gf_exponents_theory.specs.Orders.{gains}
 use Rattle.gf_poly.specs.Polynomial.{Terms}
@@ -16,7 +16,7 @@ use Rattle.gf_weights.specs.declared.certificates.FacetWitness.{FacetWitness}
 use Rattle.gf_weights.specs.Weights.{normals_of}
 use Rattle.gfan_lists.specs.BasesList.{AreAllBasesIn, AreAllBases}
 use Rattle.gfan_lists.specs.Certificates.{certificates_text}
-use Rattle.gfan_lists.specs.Bases.{list_text, IsTextOfBasesIn, IsTextOfBases}
+use Rattle.gfan_lists.specs.Bases.{list_text, IsTextBehind}
 use Rattle.gfan.specs.Commands.{list_job, IsAnswerTo}
 use Rattle.gfan.specs.ListSources.{HasPolynomials}
 
@@ -62,7 +62,7 @@ IsCertifiedList ring fs text = (list : List MarkedPolynomials) × AreAllBases (l
 -- output of `_bases --certificates` for each source
 pub record CertificatesHold : Type 0 where
   pub of_lists : (limit : Option ℕ) (ring : List (List ℕ)) (fs : List Terms) (text : List ℕ) → AreInVariables (length ring) fs →
-      IsTextOfBases true limit ring fs text → IsCertifiedList ring fs text
+      IsTextBehind [] true limit ring (all_positive (length ring)) fs text → IsCertifiedList ring fs text
   pub of_answers : (from_basis : Bool) (o : ListOptions) (workers : ℕ) (source text : List ℕ) → o.certified ≡ true →
       IsAnswerTo (list_job from_basis o workers) source text → (ring : List (List ℕ)) × (fs : List Terms) × HasPolynomials from_basis source ring fs ×
       IsCertifiedList ring fs text
@@ -71,4 +71,4 @@ pub record CertificatesHold : Type 0 where
 abbrev pub RegionCertificatesHold : Type 0
 RegionCertificatesHold = (limit : Option ℕ) (ring : List (List ℕ)) (k : Region) (fs : List Terms) (text : List ℕ) → AreInVariables (length ring) fs →
     IsRegion (length ring) k →
-    IsTextOfBasesIn true limit ring k fs text → IsCertifiedListIn ring k fs text
+    IsTextBehind [] true limit ring k fs text → IsCertifiedListIn ring k fs text

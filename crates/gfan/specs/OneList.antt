@@ -1,6 +1,6 @@
 -- An ideal has exactly one list of all bases, and `_bases` writes at most one text for a source.
 -- Laws: OneListLaws of gfan_lists, proofs/OneTextLaws.antt.
-use Rattle.std.specs.Prelude.{◌≡◌, ℕ, Bool, List, [], ◌∷◌}
+use Rattle.std.specs.Prelude.{◌≡◌, ℕ, Bool, true, false, List, [], ◌∷◌, None, Some}
 use Rattle.gf_poly.specs.Polynomial.{Terms}
 use Rattle.gf_poly.specs.Marking.{MarkedPolynomials}
 use Rattle.gf_ideal_theory.specs.Membership.{AreInVariables}
@@ -8,7 +8,8 @@ use Rattle.gfan_lists.specs.declared.bases.ListOptions.{ListOptions}
 use Rattle.gf_facets_theory.specs.Regions.{Region, IsRegion}
 use Rattle.gf_frame.specs.Commands.{IsAnswered}
 use Rattle.gfan_lists.specs.BasesList.{AreAllBasesIn, AreAllBases}
-use Rattle.gfan.specs.Commands.{list_job, within_command, IsAnswerTo}
+use Rattle.gfan_lists.specs.ListCommand.{list_sources, list_command}
+use Rattle.gfan.specs.Commands.{list_job, IsAnswerTo}
 
 -- each ideal has a list of all its bases
 abbrev pub ListsExist : Type 0
@@ -36,5 +37,5 @@ RegionListsAreOne = (n : ℕ) (k : Region) (fs : List Terms) (list other : List 
 -- differ
 abbrev pub RegionTextsAreOne : Type 0
 RegionTextsAreOne = (name other : List ℕ) (from_basis : Bool) (o u : ListOptions) (file source text same : List ℕ) → u.certified ≡ o.certified →
-    IsAnswered (within_command name from_basis o) (file ∷ (source ∷ [])) text →
-    IsAnswered (within_command other from_basis u) (file ∷ (source ∷ [])) same → text ≡ same
+    IsAnswered (list_command from_basis true false (list_sources (Some name) None) o) (file ∷ (source ∷ [])) text →
+    IsAnswered (list_command from_basis true false (list_sources (Some other) None) u) (file ∷ (source ∷ [])) same → text ≡ same

@@ -7,12 +7,13 @@ use Rattle.gf_poly.specs.Polynomial.{Terms}
 use Rattle.gf_poly.specs.Marking.{MarkedPolynomials}
 use Rattle.gf_ideal_theory.specs.Bases.{IsReducedBasis, IsReducedBasisFor}
 use Rattle.gf_reverse_search.specs.Listing.{Among}
+use Rattle.gf_facets_theory.specs.Regions.{all_positive}
 use Rattle.gf_facets_theory.specs.Facets.{IsInClosedCone}
 use Rattle.gf_facets_theory.specs.InitialIdeals.{IsMonomialAt}
 use Rattle.gf_reverse_theory.specs.TermOrders.{below_by}
 use Rattle.gfan_lists.specs.declared.bases.ListOptions.{ListOptions}
 use Rattle.gfan_lists.specs.BasesList.{IsGivenByWeight, AreAllBases}
-use Rattle.gfan_lists.specs.Bases.{AreItemTexts, list_text}
+use Rattle.gfan_lists.specs.Bases.{AreItemTextsIn, list_text}
 use Rattle.gfan.specs.Commands.{list_job, IsAnswerTo}
 use Rattle.gfan.specs.ListSources.{HasPolynomials}
 
@@ -37,7 +38,7 @@ pub record HasServingList (from_basis certificates : Bool) (source text : List �
   pub list : List MarkedPolynomials
   pub are_all : AreAllBases (length ring) ideal list
   pub items : List (List ℕ)
-  pub are_items : AreItemTexts certificates ring list items
+  pub are_items : AreItemTextsIn certificates ring (all_positive (length ring)) list items
   pub is_text : text ≡ list_text ring items
   pub serves : ServesWeights (length ring) ideal list
 

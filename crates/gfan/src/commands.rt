@@ -1,5 +1,5 @@
 //! The work of the program for each job.
-ghost use Rattle.std.specs.Prelude.{◌≡◌, [], ◌∷◌, length, true, None, is_some, IfOk, IfErr, OnOk};
+ghost use Rattle.std.specs.Prelude.{◌≡◌, [], ◌∷◌, length, IfOk, IfErr, OnOk};
 ghost use Rattle.std.specs.Option.{option_copied};
 ghost use Rattle.gf_front.specs.Jobs.{HasNumbersInRange};
 ghost use Rattle.gf_front.specs.declared.command_line.Job.{Job};
@@ -9,8 +9,8 @@ ghost use Rattle.gf_frame.specs.Origins.{texts_of};
 ghost use Rattle.gf_frame.specs.Commands.{WritesOnce, IsAnswered, IsRefusedOn};
 ghost use Rattle.gf_frame.specs.Runs.{TakesTurns, IsDoneOn, IsStoppedOn};
 ghost use Rattle.gfan_common.specs.Refused.{IsOfSource};
-ghost use Rattle.gfan.specs.Commands.{plain_command, list_sources, command_of, ReadsInputAlone};
-ghost use Rattle.gfan_lists.specs.After.{after_sources};
+ghost use Rattle.gfan.specs.Commands.{plain_command, command_of, ReadsInputAlone};
+ghost use Rattle.gfan_lists.specs.ListCommand.{list_sources};
 ghost use Rattle.gfan.specs.Run.{IsOfLoaded};
 
 use gf_frame::{LoadFrom, load_all};
@@ -24,7 +24,8 @@ use gfan_fans::{
     tropical_intersection,
 };
 use gfan_lists::bases::ListOptions;
-use gfan_lists::{after, bases, generated, given_basis, within};
+use gfan_lists::list::ListJob;
+use gfan_lists::{generated, list};
 use gfan_sets::{
     buchberger, containment, homogenize, initial_forms, leading_terms, mark_polynomial_set, marked,
     polynomial_set_union, saturation, stats, weight_vector,
@@ -32,70 +33,51 @@ use gfan_sets::{
 use std::alloc::Global;
 use std::thread::Threads;
 
-/// The texts of the sources of a list: that of the file of its region, if one is named, and then that of the input.
-fn list_texts<S: Source, F: Files>(
-    alloc: Global,
-    within: Option<&Name>,
-    input: &mut S,
-    files: &mut F,
-) -> Result<Vec<Vec<u8>>, Refusal>
-    ensures loaded { IfOk result (λ texts. AreLoaded (list_sources (option_copied within.entry))
-        (seen (S.left input.old) (S.given input.old) (S.faults input.old) (F.bytes files.old) (F.left files.old)
-        (F.given files.old) (F.unopened files.old) (F.faults files.old))
-        (seen (S.left input.new) (S.given input.new) (S.faults input.new) (F.bytes files.new) (F.left files.new)
-        (F.given files.new) (F.unopened files.new) (F.faults files.new))
-        (texts_of texts.items)) }
-    ensures unloaded { IfErr result (AreUnloaded (list_sources (option_copied within.entry))
-        (seen (S.left input.old) (S.given input.old) (S.faults input.old) (F.bytes files.old) (F.left files.old)
-        (F.given files.old) (F.unopened files.old) (F.faults files.old))
-        (seen (S.left input.new) (S.given input.new) (S.faults input.new) (F.bytes files.new) (F.left files.new)
-        (F.given files.new) (F.unopened files.new) (F.faults files.new))) }
-    ensures input_kept { (HaveInput (list_sources (option_copied within.entry)) → ⊥) → input.new ≡ input.old }
-    ensures files_kept { (HaveFile (list_sources (option_copied within.entry)) → ⊥) → files.new ≡ files.old }
-{
-    match within {
-        Some(name) => {
-            let two = [LoadFrom::File(name.as_str()), LoadFrom::Input];
-            load_all(alloc, &two, input, files)
-        }
-        None => load_all(alloc, &[LoadFrom::Input], input, files),
-    }
-}
-
-/// The texts of the sources of a list that continues after the basis of a file: that of the file of its region, if one is named, that of
-/// the file of the basis, and then that of the input.
-fn after_texts<'n, S: Source, F: Files>(
+/// The texts of the sources of a list: that of the file of its region, if one is named, that of the file of the basis that it continues after, if one is
+/// named, and then that of the input.
+fn list_texts<'n, S: Source, F: Files>(
     alloc: Global,
     within: Option<&'n Name>,
-    after: &'n Name,
+    after: Option<&'n Name>,
     input: &mut S,
     files: &mut F,
 ) -> Result<Vec<Vec<u8>>, Refusal>
-    ensures loaded { IfOk result (λ texts. AreLoaded (after_sources (option_copied within.entry) after.now)
+    ensures loaded { IfOk result (λ texts. AreLoaded (list_sources (option_copied within.entry) (option_copied after.entry))
         (seen (S.left input.old) (S.given input.old) (S.faults input.old) (F.bytes files.old) (F.left files.old)
         (F.given files.old) (F.unopened files.old) (F.faults files.old))
         (seen (S.left input.new) (S.given input.new) (S.faults input.new) (F.bytes files.new) (F.left files.new)
         (F.given files.new) (F.unopened files.new) (F.faults files.new))
         (texts_of texts.items)) }
-    ensures unloaded { IfErr result (AreUnloaded (after_sources (option_copied within.entry) after.now)
+    ensures unloaded { IfErr result (AreUnloaded (list_sources (option_copied within.entry) (option_copied after.entry))
         (seen (S.left input.old) (S.given input.old) (S.faults input.old) (F.bytes files.old) (F.left files.old)
         (F.given files.old) (F.unopened files.old) (F.faults files.old))
         (seen (S.left input.new) (S.given input.new) (S.faults input.new) (F.bytes files.new) (F.left files.new)
         (F.given files.new) (F.unopened files.new) (F.faults files.new))) }
+    ensures input_kept { (HaveInput (list_sources (option_copied within.entry) (option_copied after.entry)) → ⊥) → input.new ≡ input.old }
+    ensures files_kept { (HaveFile (list_sources (option_copied within.entry) (option_copied after.entry)) → ⊥) → files.new ≡ files.old }
 {
     match within {
-        Some(name) => {
-            let three = [
-                LoadFrom::File(name.as_str()),
-                LoadFrom::File(after.as_str()),
-                LoadFrom::Input,
-            ];
-            load_all(alloc, &three, input, files)
-        }
-        None => {
-            let two = [LoadFrom::File(after.as_str()), LoadFrom::Input];
-            load_all(alloc, &two, input, files)
-        }
+        None => match after {
+            None => load_all(alloc, &[LoadFrom::Input], input, files),
+            Some(basis) => {
+                let two = [LoadFrom::File(basis.as_str()), LoadFrom::Input];
+                load_all(alloc, &two, input, files)
+            }
+        },
+        Some(region) => match after {
+            None => {
+                let two = [LoadFrom::File(region.as_str()), LoadFrom::Input];
+                load_all(alloc, &two, input, files)
+            }
+            Some(basis) => {
+                let three = [
+                    LoadFrom::File(region.as_str()),
+                    LoadFrom::File(basis.as_str()),
+                    LoadFrom::Input,
+                ];
+                load_all(alloc, &three, input, files)
+            }
+        },
     }
 }
 
@@ -137,10 +119,13 @@ pub(crate) fn texts_for<S: Source, F: Files>(
             ];
             load_all(alloc, &two, input, files)
         }
-        Job::Bases(given) => match &given.after {
-            None => list_texts(alloc, given.within.as_ref(), input, files),
-            Some(after) => after_texts(alloc, given.within.as_ref(), after, input, files),
-        },
+        Job::Bases(given) => list_texts(
+            alloc,
+            given.within.as_ref(),
+            given.after.as_ref(),
+            input,
+            files,
+        ),
         Job::Generated(_) => load_all(alloc, &[], input, files),
         Job::Interactive(given) => {
             load_all(alloc, &[LoadFrom::File(given.file.as_str())], input, files)
@@ -256,8 +241,7 @@ fn write_answer<R: Threads + Sync, K: Sink>(
     }
 }
 
-/// Writes the list of bases that the options request, piece by piece, from its first basis on: of the ideal of the input, in the region of
-/// the file if one is named.
+/// Writes the list of bases that the options request, piece by piece.
 fn perform_list<R: Threads + Sync, K: Sink, G: Gate>(
     rt: &R,
     alloc: Global,
@@ -266,7 +250,6 @@ fn perform_list<R: Threads + Sync, K: Sink, G: Gate>(
     output: &mut K,
     gate: &G,
 ) -> Result<(), Refused>
-    requires whole { given.now.after ≡ None }
     requires limits { HasNumbersInRange (Job.Bases given.now) }
     requires all { length texts.now ≡ length (command_of (Job.Bases given.now)).reads }
     ensures done { OnOk result (IsDoneOn (command_of (Job.Bases given.now)) (texts_of texts.now) (output_seen (K.held output.old) (K.faults output.old))
@@ -281,93 +264,15 @@ fn perform_list<R: Threads + Sync, K: Sink, G: Gate>(
         pairs: given.pairs,
         certified: given.certificates,
     };
-    let workers = given.workers;
-    match &given.within {
-        None => {
-            if given.from_basis {
-                given_basis::perform(rt, alloc, &texts[0], options, workers, output, gate)
-            } else {
-                bases::perform(rt, alloc, &texts[0], options, workers, output, gate)
-            }
-        }
-        Some(_) => {
-            let (file, source) = (&texts[0], &texts[1]);
-            if given.from_basis {
-                within::perform_given(rt, alloc, file, source, options, workers, output, gate)
-            } else {
-                within::perform(rt, alloc, file, source, options, workers, output, gate)
-            }
-        }
-    }
-}
-
-/// Writes what follows the basis of a file in that list.
-fn perform_after<R: Threads + Sync, K: Sink, G: Gate>(
-    rt: &R,
-    alloc: Global,
-    given: &BasesOptions,
-    texts: &[Vec<u8>],
-    output: &mut K,
-    gate: &G,
-) -> Result<(), Refused>
-    requires after { is_some given.now.after ≡ true }
-    requires limits { HasNumbersInRange (Job.Bases given.now) }
-    requires all { length texts.now ≡ length (command_of (Job.Bases given.now)).reads }
-    ensures done { OnOk result (IsDoneOn (command_of (Job.Bases given.now)) (texts_of texts.now) (output_seen (K.held output.old) (K.faults output.old))
-        (output_seen (K.held output.new) (K.faults output.new))) }
-    ensures stopped { IfErr result (λ e. IsStoppedOn (command_of (Job.Bases given.now)) (texts_of texts.now)
-        (output_seen (K.held output.old) (K.faults output.old))
-        (output_seen (K.held output.new) (K.faults output.new)) e.refusal) }
-    ensures told { IfErr result (IsOfLoaded (command_of (Job.Bases given.now)).reads (texts_of texts.now)) }
-{
-    let options = ListOptions {
-        limit: given.limit,
-        pairs: given.pairs,
-        certified: given.certificates,
-    };
-    let workers = given.workers;
-    match &given.within {
-        None => {
-            let (after, source) = (&texts[0], &texts[1]);
-            if given.from_basis {
-                after::perform_given(
-                    rt, alloc, None, after, source, options, workers, output, gate,
-                )
-            } else {
-                after::perform(
-                    rt, alloc, None, after, source, options, workers, output, gate,
-                )
-            }
-        }
-        Some(_) => {
-            let (file, after, source) = (texts[0].as_slice(), &texts[1], &texts[2]);
-            if given.from_basis {
-                after::perform_given(
-                    rt,
-                    alloc,
-                    Some(file),
-                    after,
-                    source,
-                    options,
-                    workers,
-                    output,
-                    gate,
-                )
-            } else {
-                after::perform(
-                    rt,
-                    alloc,
-                    Some(file),
-                    after,
-                    source,
-                    options,
-                    workers,
-                    output,
-                    gate,
-                )
-            }
-        }
-    }
+    let job = ListJob::on(
+        texts,
+        given.within.is_some(),
+        given.after.is_some(),
+        given.from_basis,
+        options,
+        given.workers,
+    );
+    list::perform(rt, alloc, &job, output, gate)
 }
 
 /// Writes the output of the job for the texts of its sources: in one piece at its end, or piece by piece as it is computed. The job takes
@@ -390,10 +295,7 @@ pub(crate) fn perform<R: Threads + Sync, K: Sink, G: Gate>(
     ensures told { IfErr result (IsOfLoaded (command_of job.now).reads (texts_of texts.now)) }
 {
     match job {
-        Job::Bases(given) => match &given.after {
-            None => perform_list(rt, alloc, given, texts, output, gate),
-            Some(_) => perform_after(rt, alloc, given, texts, output, gate),
-        },
+        Job::Bases(given) => perform_list(rt, alloc, given, texts, output, gate),
         other => write_answer(rt, alloc, other, texts, output),
     }
 }

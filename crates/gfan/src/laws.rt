@@ -7,7 +7,7 @@ ghost use Rattle.gfan.specs.Served.{WrittenListsServe};
 ghost use Rattle.gfan.specs.CertifiedBases.{CertificatesHold, RegionCertificatesHold};
 ghost use Rattle.gfan.specs.GivingWeights.{WrittenWeightsGiveBases};
 ghost use Rattle.gfan_lists.specs.OneSummary.{SummariesAreOne};
-ghost use Rattle.gfan_lists.specs.Within.{WideRootsAreTold};
+ghost use Rattle.gfan_lists.specs.ListCommand.{WideRootsAreTold};
 
 /// A basis is in the list that `_bases` writes if and only if some positive weight gives it. For each positive weight for which monomials
 /// generate the initial ideal, and for each term order, exactly one basis of the list is the reduced basis. Each positive weight is in the

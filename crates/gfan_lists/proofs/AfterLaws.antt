@@ -352,13 +352,13 @@ inside_apart by gs i f a p = zero_apart by (slice_index_or gs i []) f p.variable
 
 pub outside_once : (by : MarkedPolynomials) (gs : List Terms) (i j : ℕ) (f g : Terms) → IsFirstOutside by gs i f → IsFirstOutside by gs j g → (j ≡ i) × (g ≡ f)
 outside_once by gs i j f g p q = (
-  place,
+  same_index,
   sym (descending_unique by.variables f g p.variables q.variables p.descending q.descending
       (normal_form-unique by.items (slice_index_or gs i []) (slice_index_or gs i []) f g (λ x. refl) p.remainder moved.remainder)),
 )
   where
-    place : j ≡ i
-    place = elim (cases_lt i j) [
+    same_index : j ≡ i
+    same_index = elim (cases_lt i j) [
       | inl l ↦ absurd (zero_apart by (slice_index_or gs i []) f p.variables p.descending p.nonzero p.remainder (q.before i l))
       | inr m ↦ elim (cases_lt j i) [
         | inl l ↦ absurd (zero_apart by (slice_index_or gs j []) g q.variables q.descending q.nonzero q.remainder (p.before j l))
@@ -367,7 +367,7 @@ outside_once by gs i j f g p q = (
     ]
 
     moved : IsFirstOutside by gs i g
-    moved = subst (λ z. IsFirstOutside by gs z g) place q
+    moved = subst (λ z. IsFirstOutside by gs z g) same_index q
 
 -- a basis of an ideal leaves no member outside
 members_inside : (by : MarkedPolynomials) (fs gs : List Terms) (i : ℕ) (f : Terms) → AreInVariables by.variables fs → IsBasis by.variables fs by.items →

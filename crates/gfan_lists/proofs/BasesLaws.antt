@@ -1,25 +1,22 @@
 -- How the list of `_bases` begins, goes on, ends and is refused.
--- To cite: starts, goes_on, ends, stopped_early, stopped_tree, stopped_limit, stopped_piece, stopped_end, stopped_unended; first_goes_on, after_goes_on;
--- stopped_list, stopped_root; unnamed_write, unnamed_piece, unwritten_calm, piece_calm, generators_in. The rest are steps.
+-- To cite: starts, goes_on, ends, stopped_tree, stopped_limit, stopped_piece, stopped_end, stopped_unended; first_goes_on, after_goes_on;
+-- unnamed_write, unnamed_piece, unwritten_calm, piece_calm, generators_in. The rest are steps.
 use Rattle.std.specs.Prelude.{◌≡◌, ℕ, zero, suc, ◌+◌, ◌<◌, Bool, true, false, List, [], ◌∷◌, ◌++◌, length, Option, None, Some}
 use Rattle.std.specs.Io.KnownBytes.{Appends, Keeps}
 use Rattle.std.specs.Global.{Global}
 use Rattle.std.proofs.Common.{arith, refl, sym, ap, ◌∙◌, subst, inl, inr, append_assoc, append-nil, length-append}
 use Rattle.std.proofs.lemmas.Bool.{cases_lt}
-use Rattle.std.proofs.KnownBytes.{Appends-nil, Appends-trans, Appends-kept, Keeps-refl}
+use Rattle.std.proofs.KnownBytes.{Appends-nil, Appends-trans, Appends-kept}
 use Rattle.gf_outside.specs.Moved.{AppendsPrefix}
-use Rattle.gf_exponents_theory.specs.SixOrders.{MonomialOrder}
 use Rattle.gf_poly.specs.Polynomial.{Terms}
 use Rattle.gf_poly.specs.Marking.{MarkedPolynomials}
 use Rattle.gf_text.specs.declared.written.Written.{Written}
 use Rattle.gf_text.specs.Sets.{AreIn}
 use Rattle.gf_ideal_theory.specs.Membership.{AreInVariables}
-use Rattle.gf_buchberger.specs.declared.bases.BasisError.{BasisError}
-use Rattle.gf_buchberger.specs.declared.bases.BasisError.TheVariants as basis_errors
 use Rattle.gf_buchberger.proofs.JobLaws.{ring_variables}
 use Rattle.gf_reverse_search.specs.Listing.{Among}
 use Rattle.gf_reverse_search.specs.Whole.{IsFinite}
-use Rattle.gf_facets_theory.specs.Regions.{Region, all_positive}
+use Rattle.gf_facets_theory.specs.Regions.{Region}
 use Rattle.gf_facets_theory.specs.LexPositive.{IsBefore}
 use Rattle.gf_reverse_theory.specs.Upward.{IsNode, IsNodeIn, IsParent, fan_of}
 use Rattle.gf_reverse_theory.proofs.TreeLaws.{SameFan, count, upward_finite, node_moved, own_fan, back_fan}
@@ -42,21 +39,19 @@ use Rattle.gfan_lists.specs.declared.bases.ListOptions.{ListOptions}
 use Rattle.gfan_lists.specs.declared.bases.Room.{Room}
 use Rattle.gfan_lists.specs.declared.bases.Room.TheVariants.{Endless, Limited}
 use Rattle.gfan_common.specs.Forms.{generators_of}
-use Rattle.gfan_common.specs.Causes.{of_basis, of_weight_error, of_tree}
+use Rattle.gfan_common.specs.Causes.{of_weight_error, of_tree}
 use Rattle.gfan_lists.specs.BasesList.{AreAllBasesIn}
 use Rattle.gfan_lists.specs.Certificates.{IsItemTextIn, IsItemRefusalIn}
-use Rattle.gfan_lists.specs.Bases.{AreItemTextsIn, IsWithinLimit, list_text, begun_text, IsListCause, bases_command, IsFullTextBehind, IsStoppedAt}
-use Rattle.gfan_lists.specs.Bases.{IsBegunWhereBehind, IsFirstRefusal, IsRootRefusal}
+use Rattle.gfan_lists.specs.Bases.{AreItemTextsIn, IsWithinLimit, list_text, begun_text, IsFullTextBehind, IsStoppedAt}
+use Rattle.gfan_lists.specs.Bases.{IsBegunWhereBehind}
 use Rattle.gfan_lists.specs.BasesWriting.{basis_piece, IsBasisWritten, IsUnwritten, IsBasisUnwritten, HasRoomFor, IsOneLess, IsFull}
-use Rattle.gfan_lists.specs.BasesWriting.{StartsIn, GoesOnBehind, IsListWrittenBehind, IsListBegunBehind, IsListStoppedBehind, IsListStoppedIn}
+use Rattle.gfan_lists.specs.BasesWriting.{StartsIn, GoesOnBehind, IsListWrittenBehind, IsListBegunBehind, IsListStoppedBehind}
 use Rattle.gfan_lists.specs.BasesWriting.{end_piece, is_none_of, IsUnderWay}
 use Rattle.gfan_common.specs.Refused.{IsUnnamed, without_names}
-use Rattle.gfan_common.specs.Performed.{IsLeftFor, IsStoppedFor}
 use Rattle.gfan_common.proofs.WrittenSetLaws.{in_ring}
 use Rattle.gfan_common.proofs.CauseLaws.{unnamed_weight}
 use Rattle.gfan_lists.proofs.BasesListLaws.{among_left, among_right, root_marks, all_bases_in}
 use Rattle.gfan_lists.proofs.CertificateLaws.{AllZip-append, items_exist}
-use Rattle.gfan_lists.proofs.StoppedLaws.{stopped_for}
 use Rattle.gfan_lists.proofs.BasesTextLaws.{begun_next, whole_begun, prefix_on, prefix_piece, prefix_begun}
 
 -- ---- room
@@ -89,10 +84,6 @@ room_within None Endless written h = tt
 room_within None (Limited most left) written h = absurd h
 room_within (Some limit) Endless written h = absurd h
 room_within (Some limit) (Limited most left) written h = omega (arith, h.1)
-
-none_within : (limit : Option ℕ) → IsWithinLimit limit []
-none_within None = tt
-none_within (Some most) = omega arith
 
 -- ---- the list under way
 
@@ -383,21 +374,6 @@ module _ (before : List MarkedPolynomials) (o : ListOptions) (ring : List (List 
       stopped_unended n m r e =
           subst (λ z. IsListStoppedBehind before o ring j fs held holds n m z) (sym e) (stands refusals.Memory (IsStoppedAt.no_memory refl))
 
-  -- there is no memory before anything is written
-  pub stopped_early : (row : Row) (held : Option (List ℕ)) (n m : ℕ) (r : Refusal) → GoesOnBehind before (length ring) j fs o.pairs row →
-      r ≡ refusals.Memory → IsListStoppedBehind before o ring j fs held held n m r
-  stopped_early row held n m r h e = subst (λ z. IsListStoppedBehind before o ring j fs held held n m z) (sym e) (
-    [],
-    record {
-      written = [];
-      rest = h.rest;
-      begun = record { are_all = h.are_all; items = []; are_items = tt; is_text = refl };
-      few = none_within o.limit;
-      cause = IsStoppedAt.no_memory refl;
-    },
-    Appends-nil held,
-  )
-
 -- ---- where a row goes on
 
 -- below its root a list is behind none
@@ -450,39 +426,6 @@ after_goes_on n k fs budget b root walk number row first node resumed row_is = (
 
     goes : (front : List MarkedPolynomials) × (rest : List MarkedPolynomials) × (finite.nodes ≡ front ++ b ∷ rest) × AreLeft walk rest
     goes = resumed.goes_on root is_root finite.nodes finite.leaves
-
--- ---- a set of generators
-
--- the list of its ideal
-pub stopped_list : (o : ListOptions) (ring : List (List ℕ)) (set : List Written) (held holds : Option (List ℕ)) (n m : ℕ) (r : Refusal) →
-    IsListStoppedIn o ring (all_positive (length ring)) (generators_of set) held holds n m r →
-    IsStoppedFor (bases_command o) (ring, (set, None)) held holds n m r
-stopped_list o ring set held holds n m r s =
-    stopped_for (bases_command o) (ring, (set, None)) [] o ring (all_positive (length ring)) (generators_of set) held holds n m
-    (λ text h. h) (λ text d h. h) (λ d h. IsListCause.going h) r s
-
--- the first basis is refused
-pub stopped_root : (o : ListOptions) (ring : List (List ℕ)) (set : List Written) (held : Option (List ℕ)) (n m : ℕ) (r : Refusal) →
-    IsRootRefusal (length ring) (generators_of set) o.pairs r → IsStoppedFor (bases_command o) (ring, (set, None)) held held n m r
-stopped_root o ring set held n m r (e, h, q) = subst (λ z. IsStoppedFor (bases_command o) (ring, (set, None)) held held n m z) (sym q) (at e h)
-  where
-    left : (d : BasisError) → IsFirstRefusal MonomialOrder.deglex (length ring) (generators_of set) o.pairs d →
-        IsLeftFor (bases_command o) (ring, (set, None)) held held (of_basis d)
-    left d f = inr (inl (IsListCause.at_root d f refl, (d, f, refl)), Keeps-refl held)
-
-    at : (d : BasisError) → IsFirstRefusal MonomialOrder.deglex (length ring) (generators_of set) o.pairs d →
-        IsStoppedFor (bases_command o) (ring, (set, None)) held held n m (of_basis d)
-    at (basis_errors.Overflow x) f = left (basis_errors.Overflow x) f
-    at (basis_errors.Exponent x) f = left (basis_errors.Exponent x) f
-    at (basis_errors.PairBudget basis unsettled) f = left (basis_errors.PairBudget basis unsettled) f
-    at basis_errors.Memory f = left basis_errors.Memory f
-
--- there is no memory before anything is written
-pub stopped_memory : (o : ListOptions) (ring : List (List ℕ)) (set : List Written) (held : Option (List ℕ)) (n m : ℕ) (r : Refusal) → r ≡ refusals.Memory →
-    IsStoppedFor (bases_command o) (ring, (set, None)) held held n m r
-stopped_memory o ring set held n m r e = subst (λ z. IsStoppedFor (bases_command o) (ring, (set, None)) held held n m z) (sym e) (
-    inr (inr refl, Keeps-refl held)
-    )
 
 -- ---- lines without a ring, and faults
 

@@ -1,9 +1,7 @@
--- Where an entry of the root of a region is too great, `_bases --within` tells the first such.
+-- If an entry of the root of a region is too great, `_bases --within` tells the first such entry.
 -- To cite: wide_roots. The rest are steps.
-use Rattle.std.specs.Prelude.{ℕ, List, length, Option, ℤ}
+use Rattle.std.specs.Prelude.{ℕ, Bool, true, List, length, ℤ}
 use Rattle.std.proofs.Common.{refl, sym, ap, ◌∙◌, subst, inl, inr}
-use Rattle.gf_poly.specs.Polynomial.{Terms}
-use Rattle.gf_poly.specs.Marking.{MarkedPolynomials}
 use Rattle.gf_gordan.specs.Alternative.{AreRows}
 use Rattle.gf_facets_theory.specs.Regions.{Region}
 use Rattle.gf_weights.specs.declared.region.RegionError.{RegionError}
@@ -12,14 +10,14 @@ use Rattle.gf_weights.specs.Roots.{IsRegionOf, IsRegionRefusal}
 use Rattle.gf_weights.proofs.RegionLaws.{regions_are_one}
 use Rattle.gf_front.specs.declared.refusal.Refusal.{Refusal}
 use Rattle.gf_front.specs.declared.refusal.Refusal.TheVariants as refusals
-use Rattle.gf_text.specs.declared.written.Written.{Written}
 use Rattle.gf_items.specs.Checks.{FirstFails}
 use Rattle.gf_items.proofs.CheckLaws.{first_apart}
+use Rattle.gf_frame.specs.Loading.{Origin}
 use Rattle.gf_frame.specs.Commands.{IsUnanswered}
 use Rattle.gfan_lists.specs.declared.bases.ListOptions.{ListOptions}
-use Rattle.gfan_common.specs.Forms.{generators_of}
-use Rattle.gfan_lists.specs.Within.{of_region, IsNoRegion, IsCauseWithin, IsGivenStartRefusal, IsGivenCauseWithin, IsToldUnlessUnfinished, bases_within_command}
-use Rattle.gfan_lists.specs.Within.{given_within_command, WideRootsAreTold}
+use Rattle.gfan_lists.specs.Within.{of_region, IsNoRegion}
+use Rattle.gfan_lists.specs.After.{names_given}
+use Rattle.gfan_lists.specs.ListCommand.{ListValue, IsEarlyCause, IsListCause, list_command, IsToldUnlessUnfinished, WideRootsAreTold}
 use Rattle.gfan_common.specs.ToolForms.{for_each}
 use Rattle.gfan_common.proofs.ToolFormLaws.{each_check}
 use Rattle.gfan_lists.proofs.WithinLaws.{rows_hold}
@@ -41,42 +39,29 @@ module _ (n : ℕ) (rows : List (List ℤ)) (index : ℕ) (value : ℤ) (wide : 
   none_there : (k : Region) → IsRegionOf n rows k → ⊥
   none_there k i = regions_are_one.not_wide n rows k index value i past
 
-  in_list : (o : ListOptions) (fs : List Terms) (r : Refusal) → IsCauseWithin o n rows fs r → IsToldUnlessUnfinished n rows (refusals.WideRoot index value) r
-  in_list o fs r (IsCauseWithin.at_region h) = at_region r h
-  in_list o fs r (IsCauseWithin.at_root k i h) = absurd (none_there k i)
-  in_list o fs r (IsCauseWithin.going k i h) = absurd (none_there k i)
-
-  in_given : (o : ListOptions) (s : MarkedPolynomials) (r : Refusal) → IsGivenCauseWithin o n rows s r →
-      IsToldUnlessUnfinished n rows (refusals.WideRoot index value) r
-  in_given o s r (IsGivenCauseWithin.at_start (IsGivenStartRefusal.at_region h)) = at_region r h
-  in_given o s r (IsGivenCauseWithin.at_start (IsGivenStartRefusal.at_root k i h)) = absurd (none_there k i)
-  in_given o s r (IsGivenCauseWithin.going k i g h) = absurd (none_there k i)
-
   formed : (r : Refusal) → FirstFails (for_each n rows) r → ⊥
   formed r f = first_apart (for_each n rows) (each_check n rows) r (rows_hold n rows wide) f
 
-unanswered_list : (name : List ℕ) (o : ListOptions) (v : List (List ℤ) × (List (List ℕ) × (List Written × Option (List ℤ)))) (index : ℕ) (value : ℤ) →
-    AreRows (length v.1.0) v.0 → IsRegionRefusal (length v.1.0) v.0 (region_errors.WideRoot index value) → (r : Refusal) →
-    IsUnanswered (bases_within_command name o) v r → IsToldUnlessUnfinished (length v.1.0) v.0 (refusals.WideRoot index value) r
-unanswered_list name o v index value w h r (IsUnanswered.in_form f) = absurd (formed (length v.1.0) v.0 index value w h r f)
-unanswered_list name o v index value w h r (IsUnanswered.in_work a c) = in_list (length v.1.0) v.0 index value w h o (generators_of v.1.1.0) r c
-unanswered_list name o v index value w h r (IsUnanswered.no_memory m) = inr (inr m)
+module _ (from_basis is_behind : Bool) (sources : List Origin) (o : ListOptions) (v : ListValue from_basis is_behind) (index : ℕ) (value : ℤ)
+    (w : AreRows (length (names_given from_basis v.1.1)) v.0)
+    (h : IsRegionRefusal (length (names_given from_basis v.1.1)) v.0 (region_errors.WideRoot index value)) where
+  abbrev n : ℕ
+  n = length (names_given from_basis v.1.1)
 
-unanswered_given : (name : List ℕ) (o : ListOptions) (v : List (List ℤ) × (List (List ℕ) × MarkedPolynomials)) (index : ℕ) (value : ℤ) →
-    AreRows (length v.1.0) v.0 → IsRegionRefusal (length v.1.0) v.0 (region_errors.WideRoot index value) → (r : Refusal) →
-    IsUnanswered (given_within_command name o) v r → IsToldUnlessUnfinished (length v.1.0) v.0 (refusals.WideRoot index value) r
-unanswered_given name o v index value w h r (IsUnanswered.in_form f) = absurd (formed (length v.1.0) v.0 index value w h r f)
-unanswered_given name o v index value w h r (IsUnanswered.in_work a c) = in_given (length v.1.0) v.0 index value w h o v.1.1 r c
-unanswered_given name o v index value w h r (IsUnanswered.no_memory m) = inr (inr m)
+  told : (r : Refusal) → IsListCause from_basis true is_behind o v r → IsToldUnlessUnfinished n v.0 (refusals.WideRoot index value) r
+  told r (IsListCause.early (IsEarlyCause.at_region c x)) = at_region n v.0 index value w h r x
+  told r (IsListCause.early (IsEarlyCause.at_names k c i x)) = absurd (none_there n v.0 index value w h k i)
+  told r (IsListCause.early (IsEarlyCause.at_start k i e x)) = absurd (none_there n v.0 index value w h k i)
+  told r (IsListCause.going k front i e g t x) = absurd (none_there n v.0 index value w h k i)
+
+  unanswered : (r : Refusal) → IsUnanswered (list_command from_basis true is_behind sources o) v r →
+      IsToldUnlessUnfinished n v.0 (refusals.WideRoot index value) r
+  unanswered r (IsUnanswered.in_form f) = absurd (formed n v.0 index value w h r f)
+  unanswered r (IsUnanswered.in_work a c) = told r c
+  unanswered r (IsUnanswered.no_memory m) = inr (inr m)
 
 pub wide_roots : WideRootsAreTold
-wide_roots = record {
-  generators = λ name o v index value w h. (
-    λ text a. none_there (length v.1.0) v.0 index value w h a.is_answer.region a.is_answer.is_region,
-    λ r u. unanswered_list name o v index value w h r u,
-  );
-  basis = λ name o v index value w h. (
-    λ text a. none_there (length v.1.0) v.0 index value w h a.is_answer.within.region a.is_answer.within.is_region,
-    λ r u. unanswered_given name o v index value w h r u,
-  );
-}
+wide_roots from_basis is_behind sources o v index value w h = (
+  λ text a. none_there (length (names_given from_basis v.1.1)) v.0 index value w h a.is_answer.0 a.is_answer.1,
+  unanswered from_basis is_behind sources o v index value w h,
+)

@@ -1,5 +1,5 @@
 -- `_bases --after`: the list continues after the basis of a file. Its output, and why it is refused.
-use Rattle.std.specs.Prelude.{◌≡◌, ◌≢◌, ◌⊎◌, ℕ, ◌<◌, Bool, true, false, List, [], ◌∷◌, ◌++◌, length, slice_index_or, Contains, Option, None, Some, ℤ}
+use Rattle.std.specs.Prelude.{◌≡◌, ◌≢◌, ◌⊎◌, ℕ, ◌<◌, Bool, true, false, List, [], length, slice_index_or, Contains, Option, None, Some, ℤ}
 use Rattle.gf_poly.specs.declared.error.PolyError.{PolyError}
 use Rattle.gf_poly.specs.Polynomial.{Terms, IsDescending, HasVariables}
 use Rattle.gf_poly.specs.Marking.{MarkedPolynomial, MarkedPolynomials, polys, IsArranged}
@@ -13,31 +13,24 @@ use Rattle.gf_facets_theory.specs.Regions.{Region, all_positive}
 use Rattle.gf_flip.specs.declared.error.TreeError.{TreeError}
 use Rattle.gf_tree.specs.Ideals.{ideal_within}
 use Rattle.gf_tree.specs.Refusals.{IsTreeRefusal, IsTreeWithinLimits}
-use Rattle.gf_weights.specs.Roots.{IsRegionOf, IsRegionWithinLimits}
-use Rattle.gf_weights.specs.Refusals.{AreCertificatesFittingIn}
+use Rattle.gf_weights.specs.Roots.{IsRegionOf}
 use Rattle.gf_text.specs.declared.written.Written.{Written}
 use Rattle.gf_text.specs.declared.error.TextError.{TextError}
 use Rattle.gf_front.specs.declared.refusal.Refusal.{Refusal}
 use Rattle.gf_front.specs.declared.refusal.Refusal.TheVariants as refusals
-use Rattle.gf_items.specs.Checks.{Check, FirstFails}
+use Rattle.gf_items.specs.Checks.{Check}
 use Rattle.gf_items.specs.Items.{IsTextOf, IsTextRefused}
 use Rattle.gf_items.specs.Refusals.{of_text}
 use Rattle.std.specs.Borrow.{Bor}
 use Rattle.gf_items.specs.Sources.{vectors_alone, ring_set_vector, ring_marked_set}
-use Rattle.gf_frame.specs.Loading.{Origin}
 use Rattle.gf_frame.specs.Readings.{Reading, of_one, of_more}
-use Rattle.gf_frame.specs.Commands.{Writing, Command}
-use Rattle.gfan_lists.specs.declared.bases.ListOptions.{ListOptions}
 use Rattle.gfan_common.specs.Forms.{generators_of}
 use Rattle.gfan_common.specs.CheckedSets.{of_check, IsSomeReductionRefusal}
-use Rattle.gfan_common.specs.ToolForms.{for_each}
-use Rattle.gfan_lists.specs.BasesList.{AreAllBasesIn}
-use Rattle.gfan_lists.specs.Bases.{IsWithinLimit, IsTextBehind, IsFullTextBehind, IsBegunWhereBehind, IsGoingCauseBehind, IsPastLimitBehind}
-use Rattle.gfan_lists.specs.Bases.{AreCertifiedWithinIn, IsRootRefusal}
+use Rattle.gfan_lists.specs.Bases.{IsRootRefusal}
 use Rattle.gfan_common.specs.Causes.{of_tree}
 use Rattle.gfan_lists.specs.BasesWriting.{StartsIn}
 use Rattle.gfan_lists.specs.GivenBasis.{IsGivenRootRefusal}
-use Rattle.gfan_lists.specs.Within.{IsNoRegion, IsRegionRootRefusal, IsGivenRegionRootRefusal}
+use Rattle.gfan_lists.specs.Within.{IsRegionRootRefusal, IsGivenRegionRootRefusal}
 
 -- ---- the ring
 
@@ -149,11 +142,6 @@ abbrev pub IsRegionCut : Bool → ℕ → List (List ℤ) → Region → Type 0
 IsRegionCut false n rows k = k ≡ all_positive n
 IsRegionCut true n rows k = IsRegionOf n rows k
 
--- the texts of the files, and of the input
-abbrev pub cut_texts : Option (List ℕ) → List ℕ → List ℕ → List (List ℕ)
-cut_texts None after source = after ∷ (source ∷ [])
-cut_texts (Some file) after source = file ∷ (after ∷ (source ∷ []))
-
 -- rows are the vectors of the file of a region; there are none if there is no such file
 abbrev pub IsOfCutFile : Option (Bor (List ℕ)) → List (List ℤ) → Type 0
 IsOfCutFile None rows = rows ≡ []
@@ -163,37 +151,6 @@ IsOfCutFile (Some file) rows = IsTextOf vectors_alone file.now rows
 abbrev pub IsCutFileRefused : Option (Bor (List ℕ)) → Refusal → Type 0
 IsCutFileRefused None r = ⊥
 IsCutFileRefused (Some file) r = (e : TextError) × IsTextRefused vectors_alone file.now e × (r ≡ of_text e)
-
--- why the list isn't started: a vector has another length, or there is no region, or there is one and the names differ; or memory runs out
-abbrev pub IsUnbegun : Bool → ℕ → List (List ℤ) → List (List ℕ) → List (List ℕ) → Refusal → Type 0
-IsUnbegun is_cut n rows found names r =
-    ((is_cut ≡ true) × (FirstFails (for_each n rows) r ⊎ IsNoRegion n rows r)) ⊎ (((k : Region) × IsRegionCut is_cut n rows k × IsOtherRing found names r) ⊎
-    (r ≡ refusals.Memory))
-
--- ---- the output
-
--- the text is that of what follows the basis of s in the list of all bases in the region, and this has no more bases than the limit
-pub record IsTextAfter (o : ListOptions) (k : Region) (ring : List (List ℕ)) (fs : List Terms) (s : MarkedPolynomials) (text : List ℕ) : Type 0 where
-  pub basis : MarkedPolynomials
-  pub taken : IsBasisTaken k s basis
-  pub front : List MarkedPolynomials
-  pub list : IsTextBehind (front ++ basis ∷ []) o.certified o.limit ring k fs text
-
--- the text is all that is written of what follows the basis of s in the list of all bases in the region if nothing stops it
-pub record IsFullAfter (o : ListOptions) (k : Region) (ring : List (List ℕ)) (fs : List Terms) (s : MarkedPolynomials) (text : List ℕ) : Type 0 where
-  pub basis : MarkedPolynomials
-  pub taken : IsBasisTaken k s basis
-  pub front : List MarkedPolynomials
-  pub list : IsFullTextBehind (front ++ basis ∷ []) o ring k fs text
-
--- the text may have been written of what follows the basis of s when the list is refused with r. So nothing is written if the basis of s
--- isn't in the list
-pub record IsBegunAfter (o : ListOptions) (k : Region) (ring : List (List ℕ)) (fs : List Terms) (s : MarkedPolynomials) (text : List ℕ) (r : Refusal) :
-    Type 0 where
-  pub basis : MarkedPolynomials
-  pub taken : IsBasisTaken k s basis
-  pub front : List MarkedPolynomials
-  pub begun : IsBegunWhereBehind (front ++ basis ∷ []) o ring k fs text r
 
 -- ---- why it is refused
 
@@ -210,32 +167,6 @@ pub data IsStartRefused (from_basis is_cut : Bool) (pairs : ℕ) (k : Region) (v
       IsTreeRefusal (ideal_within (length (names_given from_basis v)) (generators_given from_basis v) k) pairs e → r ≡ of_tree e →
       IsStartRefused from_basis is_cut pairs k v s r
 
--- the list isn't started; or it is refused after the basis
-pub data IsCauseAfter (from_basis is_cut : Bool) (o : ListOptions) (k : Region) (v : Given from_basis) (s : MarkedPolynomials) (r : Refusal) : Type 0 where
-  at_start : IsStartRefused from_basis is_cut o.pairs k v s r → IsCauseAfter from_basis is_cut o k v s r
-  going : (b : MarkedPolynomials) (front : List MarkedPolynomials) → IsBasisTaken k s b → IsBasisGiven from_basis v →
-      IsGoingCauseBehind (front ++ b ∷ []) o (length (names_given from_basis v)) k (generators_given from_basis v) r → IsCauseAfter from_basis is_cut o k v s r
-
--- there is no region; or there is one and the names of the rings differ, if they are checked after the region; or the list is refused in
--- the region
-pub data IsRefusedAfter (from_basis is_cut : Bool) (o : ListOptions) (rows : List (List ℤ)) (found : List (List ℕ)) (v : Given from_basis)
-    (s : MarkedPolynomials) (r : Refusal) : Type 0 where
-  at_region : is_cut ≡ true → IsNoRegion (length (names_given from_basis v)) rows r → IsRefusedAfter from_basis is_cut o rows found v s r
-  at_ring : (k : Region) → is_cut ≡ true → IsRegionOf (length (names_given from_basis v)) rows k → IsOtherRing found (names_given from_basis v) r →
-      IsRefusedAfter from_basis is_cut o rows found v s r
-  behind : (k : Region) → IsRegionCut is_cut (length (names_given from_basis v)) rows k → found ≡ names_given from_basis v →
-      IsCauseAfter from_basis is_cut o k v s r → IsRefusedAfter from_basis is_cut o rows found v s r
-
--- why it is refused before anything is written: there is no region; or there is one, and the names of the rings differ, if they are checked after the
--- region; or the list isn't started in the region
-abbrev pub IsStartCauseAfter : (from_basis is_cut : Bool) → ListOptions → List (List ℤ) → List (List ℕ) → Given from_basis → MarkedPolynomials → Refusal →
-    Type 0
-IsStartCauseAfter from_basis is_cut o rows found v s r =
-    ((is_cut ≡ true) × IsNoRegion (length (names_given from_basis v)) rows r)
-    ⊎ (((is_cut ≡ true) × ((k : Region) × IsRegionOf (length (names_given from_basis v)) rows k × IsOtherRing found (names_given from_basis v) r))
-    ⊎ ((k : Region) × IsRegionCut is_cut (length (names_given from_basis v)) rows k × (found ≡ names_given from_basis v)
-    × IsStartRefused from_basis is_cut o.pairs k v s r))
-
 -- ---- within limits
 
 -- in the region: the set is the reduced basis of its ideal, and some weight of the region gives it. No operation of its checks leaves its
@@ -251,89 +182,3 @@ pub record IsStartWithin (from_basis is_cut : Bool) (pairs : ℕ) (k : Region) (
       StartsIn (length (names_given from_basis v)) k (generators_given from_basis v) root → IsUnlisted (generators_given from_basis v) s root b r →
       r ≡ refusals.Memory
   pub tree : IsTreeWithinLimits (ideal_within (length (names_given from_basis v)) (generators_given from_basis v) k) pairs
-
--- in addition no operation of the certificates of a basis of the ideal leaves its limits, if there are certificates, and no more bases than
--- the limit follow the basis
-pub record IsAfterWithin (from_basis is_cut : Bool) (o : ListOptions) (k : Region) (v : Given from_basis) (s : MarkedPolynomials) : Type 0 where
-  pub start : IsStartWithin from_basis is_cut o.pairs k v s
-  pub few : (b : MarkedPolynomials) (front list : List MarkedPolynomials) → IsBasisTaken k s b →
-      AreAllBasesIn (length (names_given from_basis v)) k (generators_given from_basis v) ((front ++ b ∷ []) ++ list) → IsWithinLimit o.limit list
-  pub certificates : AreCertifiedWithinIn o (length (names_given from_basis v)) k (generators_given from_basis v)
-
--- the start is within its limits, and more bases than the limit follow the basis. If there are certificates, no operation of those of a
--- basis up to the limit leaves its limits
-pub record IsAfterPast (from_basis is_cut : Bool) (o : ListOptions) (k : Region) (v : Given from_basis) (s : MarkedPolynomials) (most : ℕ) : Type 0 where
-  pub start : IsStartWithin from_basis is_cut o.pairs k v s
-  pub given : IsBasisGiven from_basis v
-  pub last : MarkedPolynomials
-  pub taken : IsBasisTaken k s last
-  pub front : List MarkedPolynomials
-  pub past : IsPastLimitBehind (front ++ last ∷ []) o.limit (length (names_given from_basis v)) k (generators_given from_basis v) most
-  pub certificates : (written rest : List MarkedPolynomials) (b : MarkedPolynomials) → past.list ≡ written ++ b ∷ rest → length written < most →
-      o.certified ≡ true → AreCertificatesFittingIn b.variables k b.items
-
--- no operation of finding the region leaves its limits, the names are equal, and the list is within its limits in each region that the
--- vectors cut out
-pub record IsWithinAfter (from_basis is_cut : Bool) (o : ListOptions) (rows : List (List ℤ)) (found : List (List ℕ)) (v : Given from_basis)
-    (s : MarkedPolynomials) : Type 0 where
-  pub region : is_cut ≡ true → IsRegionWithinLimits (length (names_given from_basis v)) rows
-  pub names : found ≡ names_given from_basis v
-  pub after : (k : Region) → IsRegionCut is_cut (length (names_given from_basis v)) rows k → IsAfterWithin from_basis is_cut o k v s
-
--- ---- the command
-
--- what is read: the vectors of the region, if any; the ring and the set of the file; and the input
-abbrev pub AfterValue : Bool → Type 0
-AfterValue from_basis = List (List ℤ) × ((List (List ℕ) × MarkedPolynomials) × Given from_basis)
-
--- the check of the names; if there is a region, that of the lengths of the vectors, since the names are checked after the region
-abbrev pub checks_after : (from_basis is_cut : Bool) → AfterValue from_basis → List Check
-checks_after from_basis false v = same_names v.1.0.0 (names_given from_basis v.1.1) ∷ []
-checks_after from_basis true v = for_each (length (names_given from_basis v.1.1)) v.0
-
--- the text is the output, for the region that the vectors cut out
-abbrev pub IsAnswerAfter : (from_basis is_cut : Bool) → ListOptions → AfterValue from_basis → List ℕ → Type 0
-IsAnswerAfter from_basis is_cut o v text =
-    (k : Region) × IsRegionCut is_cut (length (names_given from_basis v.1.1)) v.0 k × (v.1.0.0 ≡ names_given from_basis v.1.1) × IsBasisGiven from_basis v.1.1
-    × IsTextAfter o k (names_given from_basis v.1.1) (generators_given from_basis v.1.1) v.1.0.1 text
-
--- the text is all that is written if nothing stops the list: the output, or as much of it as the limit allows
-abbrev pub IsWholeAfter : (from_basis is_cut : Bool) → ListOptions → AfterValue from_basis → List ℕ → Type 0
-IsWholeAfter from_basis is_cut o v text =
-    (k : Region) × IsRegionCut is_cut (length (names_given from_basis v.1.1)) v.0 k × (v.1.0.0 ≡ names_given from_basis v.1.1) × IsBasisGiven from_basis v.1.1
-    × IsFullAfter o k (names_given from_basis v.1.1) (generators_given from_basis v.1.1) v.1.0.1 text
-
--- the text may have been written when the list is refused with r
-abbrev pub IsPartAfter : (from_basis is_cut : Bool) → ListOptions → AfterValue from_basis → List ℕ → Refusal → Type 0
-IsPartAfter from_basis is_cut o v text r =
-    (k : Region) × IsRegionCut is_cut (length (names_given from_basis v.1.1)) v.0 k × (v.1.0.0 ≡ names_given from_basis v.1.1) × IsBasisGiven from_basis v.1.1
-    × IsBegunAfter o k (names_given from_basis v.1.1) (generators_given from_basis v.1.1) v.1.0.1 text r
-
--- the command `_bases --after` on these sources
-abbrev pub after_command : Bool → Bool → List Origin → ListOptions → Command
-after_command from_basis is_cut sources o = record {
-  Value = AfterValue from_basis;
-  reads = sources;
-  reading = reading_cut is_cut (of_more ring_marked_set (reading_given from_basis));
-  checks = checks_after from_basis is_cut;
-  IsAnswer = IsAnswerAfter from_basis is_cut o;
-  IsCause = λ v r. IsRefusedAfter from_basis is_cut o v.0 v.1.0.0 v.1.1 v.1.0.1 r;
-  IsWithin = λ v. IsWithinAfter from_basis is_cut o v.0 v.1.0.0 v.1.1 v.1.0.1;
-  writing = Writing.as_it_goes (IsWholeAfter from_basis is_cut o) (IsPartAfter from_basis is_cut o)
-      (λ v r. IsStartCauseAfter from_basis is_cut o v.0 v.1.0.0 v.1.1 v.1.0.1 r);
-}
-
--- the texts are the sources of the list: the names are equal, there is a region, and no operation of finding it leaves its limits. More
--- bases than the limit follow the basis
-abbrev pub AreTextsPastAfter : (from_basis is_cut : Bool) → ListOptions → List (List ℕ) → ℕ → Type 0
-AreTextsPastAfter from_basis is_cut o texts most =
-    (v : AfterValue from_basis) × (reading_cut is_cut (of_more ring_marked_set (reading_given from_basis))).IsRead texts v ×
-    (v.1.0.0 ≡ names_given from_basis v.1.1)
-    × (is_cut ≡ true → IsRegionWithinLimits (length (names_given from_basis v.1.1)) v.0)
-    × ((k : Region) × IsRegionCut is_cut (length (names_given from_basis v.1.1)) v.0 k × IsAfterPast from_basis is_cut o k v.1.1 v.1.0.1 most)
-
--- the sources of the list of `_bases --after`: the input, before it the file of the basis, and before this the file of its region if one is
--- named
-abbrev pub after_sources : Option (List ℕ) → List ℕ → List Origin
-after_sources None after = Origin.a_file after ∷ (Origin.the_input ∷ [])
-after_sources (Some within) after = Origin.a_file within ∷ (Origin.a_file after ∷ (Origin.the_input ∷ []))

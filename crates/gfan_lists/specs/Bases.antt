@@ -1,32 +1,24 @@
--- `_bases`: its output, and why it is refused.
-use Rattle.std.specs.Prelude.{◌≡◌, ℕ, ◌<◌, ◌≤◌, Bool, true, false, List, [], ◌∷◌, ◌++◌, flat_map, length, Option, None, Some, ℤ}
+-- The list of `_bases`: its text, what has been written of it when it is refused, and why it is refused.
+use Rattle.std.specs.Prelude.{◌≡◌, ℕ, ◌<◌, ◌≤◌, Bool, true, List, [], ◌∷◌, ◌++◌, flat_map, length, Option, None, Some}
 use Rattle.std.specs.List.{AllZip}
 use Rattle.gf_exponents_theory.specs.SixOrders.{MonomialOrder}
 use Rattle.gf_poly.specs.Polynomial.{Terms}
 use Rattle.gf_poly.specs.Marking.{MarkedPolynomials}
 use Rattle.gf_text.specs.RingText.{ring_text}
-use Rattle.gf_text.specs.declared.written.Written.{Written}
 use Rattle.gf_buchberger.specs.declared.bases.BasisError.{BasisError}
 use Rattle.gf_buchberger.specs.declared.queue.Strategy.TheVariants as strategies
 use Rattle.gf_buchberger.specs.Ruled.{AreRuledRunsWithinLimits}
 use Rattle.gf_buchberger.specs.Bases.{IsBasisRefusal, IsWantOfMemory}
 use Rattle.gf_flip.specs.declared.error.TreeError.{TreeError}
-use Rattle.gf_flip.specs.declared.error.TreeError.TheVariants as tree_errors
-use Rattle.gf_facets_theory.specs.Regions.{Region, all_positive}
-use Rattle.gf_tree.specs.Ideals.{ideal_by, ideal_within}
-use Rattle.gf_tree.specs.Refusals.{IsTreeWithinLimits}
+use Rattle.gf_facets_theory.specs.Regions.{Region}
+use Rattle.gf_tree.specs.Ideals.{ideal_within}
 use Rattle.gf_subtree.specs.Answers.{IsRefusedEarly}
 use Rattle.gf_weights.specs.Refusals.{AreCertificatesFittingIn}
 use Rattle.gf_front.specs.declared.refusal.Refusal.{Refusal}
 use Rattle.gf_front.specs.declared.refusal.Refusal.TheVariants as refusals
-use Rattle.gf_items.specs.Sources.{ring_set_vector}
-use Rattle.gf_frame.specs.Loading.{Origin}
-use Rattle.gf_frame.specs.Readings.{of_one}
-use Rattle.gf_frame.specs.Commands.{Writing, Command}
 use Rattle.gfan_lists.specs.declared.bases.ListOptions.{ListOptions}
-use Rattle.gfan_common.specs.Forms.{generators_of}
 use Rattle.gfan_common.specs.Causes.{of_basis, of_tree}
-use Rattle.gfan_lists.specs.BasesList.{IsGivenIn, AreAllBasesIn, AreAllBases}
+use Rattle.gfan_lists.specs.BasesList.{IsGivenIn, AreAllBasesIn}
 use Rattle.gfan_lists.specs.Certificates.{IsItemTextIn, IsUncertifiedIn}
 
 -- ---- the output
@@ -155,62 +147,6 @@ pub record IsBegunWhereBehind (before : List MarkedPolynomials) (o : ListOptions
   pub few : IsWithinLimit o.limit written
   pub cause : IsStoppedAt o (length ring) k fs written rest r
 
--- ---- the list from its first basis on
-
--- the text is the ring in a line, and all bases of the ideal in the region, with certificates or without; there are no more than the limit
-abbrev pub IsTextOfBasesIn : Bool → Option ℕ → List (List ℕ) → Region → List Terms → List ℕ → Type 0
-IsTextOfBasesIn certified limit ring k fs text = IsTextBehind [] certified limit ring k fs text
-
--- the text is that text, or as much of it as the limit allows
-abbrev pub IsFullTextIn : ListOptions → List (List ℕ) → Region → List Terms → List ℕ → Type 0
-IsFullTextIn o ring k fs text = IsFullTextBehind [] o ring k fs text
-
--- there are more bases than the limit
-abbrev pub IsPastLimitIn : Option ℕ → ℕ → Region → List Terms → ℕ → Type 0
-IsPastLimitIn limit n k fs most = IsPastLimitBehind [] limit n k fs most
-
--- a call of the search is refused before the limit is reached
-abbrev pub IsSearchRefusedIn : ListOptions → ℕ → Region → List Terms → TreeError → Type 0
-IsSearchRefusedIn o n k fs e = IsSearchRefusedBehind [] o n k fs e
-
--- why the list is refused, from its first basis on
-abbrev pub IsGoingCauseIn : ListOptions → ℕ → Region → List Terms → Refusal → Type 0
-IsGoingCauseIn o n k fs r = IsGoingCauseBehind [] o n k fs r
-
--- the text may have been written when the list is refused with r
-abbrev pub IsBegunWhereIn : ListOptions → List (List ℕ) → Region → List Terms → List ℕ → Refusal → Type 0
-IsBegunWhereIn o ring k fs text r = IsBegunWhereBehind [] o ring k fs text r
-
--- ---- for all positive weights
-
--- the items of these bases, with certificates or without
-abbrev pub AreItemTexts : Bool → List (List ℕ) → List MarkedPolynomials → List (List ℕ) → Type 0
-AreItemTexts certified ring bs ts = AreItemTextsIn certified ring (all_positive (length ring)) bs ts
-
--- the text is the ring in a line, and all bases of the ideal, with certificates or without; there are no more than the limit
-abbrev pub IsTextOfBases : Bool → Option ℕ → List (List ℕ) → List Terms → List ℕ → Type 0
-IsTextOfBases certified limit ring fs text = IsTextOfBasesIn certified limit ring (all_positive (length ring)) fs text
-
--- the text is that text, or as much of it as the limit allows
-abbrev pub IsFullText : ListOptions → List (List ℕ) → List Terms → List ℕ → Type 0
-IsFullText o ring fs text = IsFullTextIn o ring (all_positive (length ring)) fs text
-
--- the ideal has more bases than the limit
-abbrev pub IsPastLimit : Option ℕ → ℕ → List Terms → ℕ → Type 0
-IsPastLimit limit n fs most = IsPastLimitIn limit n (all_positive n) fs most
-
--- a call of the search over all bases is refused before the limit is reached
-abbrev pub IsSearchRefused : ListOptions → ℕ → List Terms → TreeError → Type 0
-IsSearchRefused o n fs e = IsSearchRefusedIn o n (all_positive n) fs e
-
--- why the list of all bases is refused, from its first basis on
-abbrev pub IsGoingCause : ListOptions → ℕ → List Terms → Refusal → Type 0
-IsGoingCause o n fs r = IsGoingCauseIn o n (all_positive n) fs r
-
--- the text may have been written of the list of all bases when it is refused with r
-abbrev pub IsBegunWhere : ListOptions → List (List ℕ) → List Terms → List ℕ → Refusal → Type 0
-IsBegunWhere o ring fs text r = IsBegunWhereIn o ring (all_positive (length ring)) fs text r
-
 -- ---- with the first basis
 
 -- why the basis of fs by the order, at which a list starts, isn't there: the operands of an operation of a run of Buchberger's algorithm, which don't fit;
@@ -223,65 +159,6 @@ pub record IsFirstRefusal (order : MonomialOrder) (n : ℕ) (fs : List Terms) (p
 abbrev pub IsRootRefusal : ℕ → List Terms → ℕ → Refusal → Type 0
 IsRootRefusal n fs pairs r = (e : BasisError) × IsFirstRefusal MonomialOrder.deglex n fs pairs e × (r ≡ of_basis e)
 
--- the first basis, by deglex, is refused; or the list is refused from this basis on
-pub data IsListCause (o : ListOptions) (n : ℕ) (fs : List Terms) (r : Refusal) : Type 0 where
-  at_root : (e : BasisError) → IsFirstRefusal MonomialOrder.deglex n fs o.pairs e → r ≡ of_basis e → IsListCause o n fs r
-  going : IsGoingCause o n fs r → IsListCause o n fs r
-
 -- if there are certificates, no operation of those of a basis of the ideal in a region leaves its limits
 abbrev pub AreCertifiedWithinIn : ListOptions → ℕ → Region → List Terms → Type 0
 AreCertifiedWithinIn o n k fs = o.certified ≡ true → (b : MarkedPolynomials) → IsGivenIn n k fs b → AreCertificatesFittingIn b.variables k b.items
-
--- no operation of the search at a basis of the ideal in a region leaves its limits, nor does one of its certificates if there are any, and
--- the list isn't longer than its limit
-pub record IsGoingWithin (o : ListOptions) (n : ℕ) (k : Region) (fs : List Terms) : Type 0 where
-  pub tree : IsTreeWithinLimits (ideal_within n fs k) o.pairs
-  pub few : (list : List MarkedPolynomials) → AreAllBasesIn n k fs list → IsWithinLimit o.limit list
-  pub certificates : AreCertifiedWithinIn o n k fs
-
--- if there are certificates, no operation of those of a basis of the ideal leaves its limits
-abbrev pub AreCertifiedWithin : ListOptions → ℕ → List Terms → Type 0
-AreCertifiedWithin o n fs = AreCertifiedWithinIn o n (all_positive n) fs
-
--- no operation of the run by the rule of the program to the first basis leaves its limits, nor does one of the search at a basis of the ideal, or one of
--- its certificates if there are any, and the list isn't longer than its limit
-pub record IsListWithin (o : ListOptions) (n : ℕ) (fs : List Terms) : Type 0 where
-  pub root : AreRuledRunsWithinLimits strategies.Degree MonomialOrder.deglex fs o.pairs
-  pub tree : IsTreeWithinLimits (ideal_by n fs) o.pairs
-  pub few : (list : List MarkedPolynomials) → AreAllBases n fs list → IsWithinLimit o.limit list
-  pub certificates : AreCertifiedWithin o n fs
-
--- the list continues after its limit, and from its first basis on no operation before that leaves its limits: none of a call at a basis up
--- to the limit or at the next one, and, if there are certificates, none of those of a basis up to the limit
-pub record IsGoingPastIn (o : ListOptions) (n : ℕ) (k : Region) (fs : List Terms) (most : ℕ) : Type 0 where
-  pub past : IsPastLimitIn o.limit n k fs most
-  pub calls : (written rest : List MarkedPolynomials) (e : TreeError) → past.list ≡ written ++ rest → length written ≤ most →
-      IsRefusedEarly (ideal_within n fs k) o.pairs rest e → e ≡ tree_errors.Memory
-  pub certificates : (written rest : List MarkedPolynomials) (b : MarkedPolynomials) → past.list ≡ written ++ b ∷ rest → length written < most →
-      o.certified ≡ true → AreCertificatesFittingIn b.variables k b.items
-
--- the same for the list of all bases of the ideal
-abbrev pub IsGoingPast : ListOptions → ℕ → List Terms → ℕ → Type 0
-IsGoingPast o n fs most = IsGoingPastIn o n (all_positive n) fs most
-
--- the list of all bases continues after its limit, and no operation before that leaves its limits, of the run by the rule of the program to the first
--- basis or from this basis on
-pub record IsListPast (o : ListOptions) (n : ℕ) (fs : List Terms) (most : ℕ) : Type 0 where
-  pub root : AreRuledRunsWithinLimits strategies.Degree MonomialOrder.deglex fs o.pairs
-  pub going : IsGoingPast o n fs most
-
--- ---- the command
-
--- the command `_bases`, whose list starts at the basis by deglex of what is read
-abbrev pub bases_command : ListOptions → Command
-bases_command o = record {
-  Value = List (List ℕ) × (List Written × Option (List ℤ));
-  reads = Origin.the_input ∷ [];
-  reading = of_one (ring_set_vector false);
-  checks = λ v. [];
-  IsAnswer = λ v text. IsTextOfBases o.certified o.limit v.0 (generators_of v.1.0) text;
-  IsCause = λ v r. IsListCause o (length v.0) (generators_of v.1.0) r;
-  IsWithin = λ v. IsListWithin o (length v.0) (generators_of v.1.0);
-  writing = Writing.as_it_goes (λ v text. IsFullText o v.0 (generators_of v.1.0) text) (λ v text r. IsBegunWhere o v.0 (generators_of v.1.0) text r)
-      (λ v r. IsRootRefusal (length v.0) (generators_of v.1.0) o.pairs r);
-}

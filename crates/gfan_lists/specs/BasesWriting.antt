@@ -116,18 +116,6 @@ IsListStoppedBehind before o ring k fs held holds written writes refusals.WriteF
     Rose written writes × ((text : List ℕ) × IsFullTextBehind before o ring k fs text × AppendsPrefix held holds text)
 IsListStoppedBehind before o ring k fs held holds written writes r = IsListBegunBehind before o ring k fs held holds r
 
--- the text of all bases was appended to the output, from the first basis on
-abbrev pub IsListWrittenIn : ListOptions → List (List ℕ) → Region → List Terms → Option (List ℕ) → Option (List ℕ) → Type 0
-IsListWrittenIn o ring k fs held holds = IsListWrittenBehind [] o ring k fs held holds
-
--- the beginning of the text of all bases that stands when the list is refused with r was appended to the output
-abbrev pub IsListBegunIn : ListOptions → List (List ℕ) → Region → List Terms → Option (List ℕ) → Option (List ℕ) → Refusal → Type 0
-IsListBegunIn o ring k fs held holds r = IsListBegunBehind [] o ring k fs held holds r
-
--- what was appended to the output when the list of all bases is refused
-abbrev pub IsListStoppedIn : ListOptions → List (List ℕ) → Region → List Terms → Option (List ℕ) → Option (List ℕ) → ℕ → ℕ → Refusal → Type 0
-IsListStoppedIn o ring k fs held holds written writes r = IsListStoppedBehind [] o ring k fs held holds written writes r
-
 -- the piece that ends the list: a closing brace; if no basis was written, the line of the ring and an opening brace before it
 abbrev pub end_piece : List (List ℕ) → Bool → List ℕ
 end_piece ring true = ring_text ring ++ 123 ∷ 125 ∷ 10 ∷ []

@@ -26,7 +26,8 @@ use Rattle.gfan_lists.specs.declared.bases.ListOptions.{ListOptions}
 use Rattle.gfan_common.specs.Printing.{count_line}
 use Rattle.gfan_common.specs.Causes.{of_basis, of_weight_error, of_tree}
 use Rattle.gfan_lists.specs.BasesList.{AreAllBases}
-use Rattle.gfan_lists.specs.Bases.{IsFirstRefusal, IsSearchRefused}
+use Rattle.gf_facets_theory.specs.Regions.{all_positive}
+use Rattle.gfan_lists.specs.Bases.{IsFirstRefusal, IsSearchRefusedBehind}
 
 -- ---- the output
 
@@ -98,7 +99,7 @@ pub record IsSumRefused (limit : ℕ) (fs : List Terms) (e : WideVector) : Type 
 -- of the weights
 pub data IsSummaryCause (limit pairs : ℕ) (fs : List Terms) (r : Refusal) : Type 0 where
   at_root : (e : BasisError) → IsFirstRefusal MonomialOrder.deglex 4 fs pairs e → r ≡ of_basis e → IsSummaryCause limit pairs fs r
-  in_tree : (e : TreeError) → IsSearchRefused (list_to limit pairs) 4 fs e → r ≡ of_tree e → IsSummaryCause limit pairs fs r
+  in_tree : (e : TreeError) → IsSearchRefusedBehind [] (list_to limit pairs) 4 (all_positive 4) fs e → r ≡ of_tree e → IsSummaryCause limit pairs fs r
   at_weight : (e : WeightError) → IsWeightRefused limit fs e → r ≡ of_weight_error e → IsSummaryCause limit pairs fs r
   at_sum : (e : WideVector) → IsSumRefused limit fs e → r ≡ refusals.WideVector e → IsSummaryCause limit pairs fs r
 

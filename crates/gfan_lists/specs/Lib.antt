@@ -1,10 +1,12 @@
 pub mod Certificates  -- the item of a basis in the list, with certificates or without
 pub mod BasesList  -- the list of all bases of an ideal
 pub mod Parts  -- a list that is written in parts
-pub mod Bases  -- the input and output of `_bases`
-pub mod Within  -- `_bases --within`
-pub mod GivenBasis  -- the input and output of `_bases -g`
-pub mod After  -- `_bases --after`
+pub mod Bases  -- the text of the list of `_bases`, and why it is refused
+pub mod Within  -- the region of a file, and the root in it
+pub mod GivenBasis  -- the root above a marked Gröbner basis
+pub mod After  -- the basis after which a list continues
+pub mod ListCommand  -- the command `_bases`
+pub mod Asked  -- what is read for a list, as the code has it
 pub mod BasesWriting  -- the writing of the list of `_bases`
 pub mod Ahead  -- bases that are taken out of a list before they are written
 pub mod Generated  -- the output of `_generated`

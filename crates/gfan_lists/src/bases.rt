@@ -1,8 +1,8 @@
 //! What `_bases` writes for an input, basis by basis.
-ghost use Rattle.std.specs.Prelude.{◌≡◌, ◌≤◌, [], ◌∷◌, length, List, None, IfOk, IfErr, OnOk, MatchResult};
+ghost use Rattle.std.specs.Prelude.{◌≡◌, ◌≤◌, [], length, List, None, IfOk, IfErr, OnOk, MatchResult};
 ghost use Rattle.std.specs.Io.KnownBytes.{Appends};
 ghost use Rattle.gf_poly.specs.Polynomial.{Terms};
-ghost use Rattle.gf_poly.specs.Marking.{MarkedPolynomials, polys};
+ghost use Rattle.gf_poly.specs.Marking.{MarkedPolynomials};
 ghost use Rattle.gf_facets_theory.specs.Regions.{all_positive};
 ghost use Rattle.gf_reverse_theory.specs.Upward.{IsNodeIn};
 ghost use Rattle.gf_tree.specs.Parents.{ideal_of};
@@ -12,22 +12,16 @@ ghost use Rattle.gf_text.specs.Sets.{AreIn};
 ghost use Rattle.gfan_common.specs.Forms.{generators_of};
 ghost use Rattle.gfan_lists.specs.Certificates.{IsItemRefusalIn};
 ghost use Rattle.gfan_lists.specs.Ahead.{IsWorkedOut};
-ghost use Rattle.gfan_lists.specs.Bases.{bases_command};
 ghost use Rattle.gfan_lists.specs.BasesWriting.{basis_piece, end_piece, GoesOnBehind, IsListWrittenBehind, IsListStoppedBehind, IsPieceOf, IsBasisWritten};
-ghost use Rattle.gfan_lists.specs.BasesWriting.{IsUnwritten, IsBasisUnwritten, HasRoomFor, IsOneLess, IsFull, IsFirstBasis, StartsIn};
-ghost use Rattle.gfan_lists.specs.BasesWriting.{IsListWrittenIn, IsListStoppedIn};
+ghost use Rattle.gfan_lists.specs.BasesWriting.{IsUnwritten, IsBasisUnwritten, HasRoomFor, IsOneLess, IsFull, IsFirstBasis};
 ghost use Rattle.gfan_lists.specs.Bases.{IsRootRefusal};
-ghost use Rattle.gfan_common.specs.Refused.{IsUnnamed, IsOfSource};
-ghost use Rattle.gf_frame.specs.Seen.{output_seen};
-ghost use Rattle.gf_frame.specs.Runs.{IsDoneOn, IsStoppedOn};
-ghost use Rattle.gfan_common.specs.Performed.{IsPerformedFor, IsStoppedFor};
+ghost use Rattle.gfan_common.specs.Refused.{IsUnnamed};
 
 use crate::ahead::{Taken, next_taken};
 use crate::certificates::push_certified;
 use gf_cone::Region;
 use gf_front::Refusal;
 use gf_groebner_walk::basis_by_several_ways;
-use gf_items::{RingAndSet, ring_and_set};
 use gf_order::Order;
 use gf_outside::{Sink, WriteFault, write_all};
 use gf_poly::MarkedSet;
@@ -299,113 +293,4 @@ pub(crate) fn write_waves<'g, R: Threads + Sync, K: Sink, G: Gate>(
     let end = end_piece(alloc, ring, is_first)?;
     offer(output, &end)?;
     Ok(())
-}
-
-/// Writes the list of all bases of an ideal in a region from its first basis on, by so many workers.
-///
-/// The root is the basis, by the root of the region and then lex, of the ideal that it generates.
-///
-/// # Errors
-///
-/// Those of the list from its first basis on, as `perform` has them.
-pub(crate) fn write_from<R: Threads + Sync, K: Sink, G: Gate>(
-    rt: &R,
-    alloc: Global,
-    ring: &Ring,
-    root: MarkedSet,
-    region: &Region,
-    options: ListOptions,
-    workers: u32,
-    output: &mut K,
-    gate: &G,
-) -> Result<(), Refused>
-    requires first { StartsIn (length ring.now) region.now (polys root.items) root }
-    requires some { 1 ≤ workers }
-    requires most { workers ≤ 64 }
-    ensures done { OnOk result ((fs : List Terms) → StartsIn (length ring.now) region.now fs root
-        → IsListWrittenIn options ring.now region.now fs (K.held output.old) (K.held output.new)) }
-    ensures stopped { IfErr result (λ e. (fs : List Terms) → StartsIn (length ring.now) region.now fs root
-        → IsListStoppedIn options ring.now region.now fs (K.held output.old) (K.held output.new) (K.faults output.old)
-        (K.faults output.new) e.refusal) }
-    ensures told { IfErr result IsUnnamed }
-    ensures calm { MatchResult result (λ _. K.faults output.new ≡ K.faults output.old)
-        (λ e. (e.refusal ≡ Refusal.WriteFault → ⊥) → K.faults output.new ≡ K.faults output.old) }
-{
-    let waves = Waves::new(alloc, root, region, workers, options.pairs, gate)?;
-    write_waves(rt, alloc, ring, waves, region, options, output)
-}
-
-/// Writes the list of all bases of the set's ideal.
-fn write_list<R: Threads + Sync, K: Sink, G: Gate>(
-    rt: &R,
-    alloc: Global,
-    ring: &Ring,
-    set: &[Written],
-    options: ListOptions,
-    workers: u32,
-    output: &mut K,
-    gate: &G,
-) -> Result<(), Refused>
-    requires set { AreIn (length ring.now) set.now }
-    requires some { 1 ≤ workers }
-    requires most { workers ≤ 64 }
-    ensures done { OnOk result (IsPerformedFor (bases_command options) (ring.now, (set.now, None))
-        (K.held output.old) (K.held output.new)) }
-    ensures stopped { IfErr result (λ e. IsStoppedFor (bases_command options) (ring.now, (set.now, None))
-        (K.held output.old) (K.held output.new) (K.faults output.old) (K.faults output.new) e.refusal) }
-    ensures told { IfErr result IsUnnamed }
-    ensures calm { MatchResult result (λ _. K.faults output.new ≡ K.faults output.old)
-        (λ e. (e.refusal ≡ Refusal.WriteFault → ⊥) → K.faults output.new ≡ K.faults output.old) }
-{
-    let root = first_basis(alloc, ring, set, options.pairs)?;
-    let region = Region::positive(alloc, ring.len())?;
-    write_from(
-        rt, alloc, ring, root, &region, options, workers, output, gate,
-    )
-}
-
-/// Writes the ring of the source in a line, and then all marked reduced Gröbner bases of the ideal of its set, each as soon as it is
-/// found: the first with the ring, and each other one behind a line end, a comma and a line end; last the brace that ends the list. With
-/// certificates each basis is followed by its printed weight and by the facets that a flip may cross, each with its printed witness.
-///
-/// The list is worked off by so many workers, and it is the same for every number of them; before each of their jobs the gate is called.
-/// It begins at the basis by degree and then lex. Every other basis comes from the one above it, across a facet of its cone; the
-/// way up from a basis is across the least of its flippable normals that are negative at (1, .., 1), and the bases come in the
-/// order of their paths from the first one.
-///
-/// # Errors
-///
-/// - `Syntax`, `TooWide`, `UnknownName` and `TooManyVariables` exactly where the source isn't the text of a ring and of a set
-///   in it, at the first token after which no such text goes on; nothing is written then.
-/// - `Overflow` and `ExponentOverflow` only at a sum of the text, at an operation that a run of Buchberger's algorithm on the set by
-///   degree and then lex may have, or at one of a flip at a basis of the ideal across a flippable normal; the operands don't fit.
-/// - `ConeOverflow` only at a step of the system that tells whether a normal of such a basis is flippable; with certificates also at one of
-///   finding the rays of such a basis's cone, cut with the orthant.
-/// - `WideVector` only with certificates, at a sum of entries of these rays: of all, or of those on which the normal of a facet is zero that
-///   a flip may cross.
-/// - `PairBudget` only where such a run or flip would have to settle more than `pairs` pairs.
-/// - `ListLimit` only where as many bases as the limit are written, and a further one was found; and always where there is a further one and no
-///   number of the work leaves its range.
-/// - `WriteFault` only where a write failed; a prefix is written then of the text of the list, or of what stands at its limit.
-///
-/// On the others from `Overflow` on, what is written ends where a basis ends: nothing if the first basis is refused, else the bases in front of the refusal.
-pub fn perform<R: Threads + Sync, K: Sink, G: Gate>(
-    rt: &R,
-    alloc: Global,
-    source: &[u8],
-    options: ListOptions,
-    workers: u32,
-    output: &mut K,
-    gate: &G,
-) -> Result<(), Refused>
-    requires some { 1 ≤ workers }
-    requires most { workers ≤ 64 }
-    ensures done { OnOk result (IsDoneOn (bases_command options) (source.now ∷ []) (output_seen (K.held output.old) (K.faults output.old))
-        (output_seen (K.held output.new) (K.faults output.new))) }
-    ensures stopped { IfErr result (λ e. IsStoppedOn (bases_command options) (source.now ∷ []) (output_seen (K.held output.old) (K.faults output.old))
-        (output_seen (K.held output.new) (K.faults output.new)) e.refusal) }
-    ensures told { IfErr result (IsOfSource source.now) }
-{
-    let RingAndSet { ring, set, .. } = ring_and_set(alloc, source, false)?;
-    write_list(rt, alloc, &ring, &set, options, workers, output, gate)
 }

@@ -4,10 +4,11 @@
 //! `specs/` has the output of each command, and why it is refused.
 #![tactic(auto)]
 
-pub mod after;
+mod after;
 mod ahead;
 pub mod bases;
 mod certificates;
 pub mod generated;
-pub mod given_basis;
-pub mod within;
+mod given_basis;
+pub mod list;
+mod within;

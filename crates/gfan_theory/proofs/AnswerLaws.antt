@@ -1,13 +1,12 @@
 -- Each answer of `_bases` is the text of a list of bases, and what is read determines the ring, the ideal, the region and the bases before it.
--- To cite: answers_are_lists, says_once, region_once, rest_once. The rest are steps.
-use Rattle.std.specs.Prelude.{◌≡◌, ℕ, Bool, true, false, List, [], ◌∷◌, ◌++◌, length, Option, None, Some, ℤ}
-use Rattle.std.proofs.Common.{refl, sym, ap, ◌∙◌, subst, append_assoc}
+-- To cite: is_said, answers_are_lists, says_once, region_once, rest_once. The rest are steps.
+use Rattle.std.specs.Prelude.{◌≡◌, ℕ, Bool, true, false, List, [], ◌∷◌, ◌++◌, length, Option, None, Some, is_some, ℤ}
+use Rattle.std.proofs.Common.{sym, ap, ◌∙◌, subst, append_assoc}
 use Rattle.gf_poly.specs.Polynomial.{Terms}
 use Rattle.gf_poly.specs.Marking.{MarkedPolynomials, polys}
 use Rattle.gf_text.specs.declared.written.Written.{Written}
 use Rattle.gf_reverse_search.specs.Whole.{EachOnce}
-use Rattle.gf_facets_theory.specs.Regions.{Region, IsRegion, all_positive}
-use Rattle.gf_facets_theory.proofs.SystemLaws.{all_positive-region}
+use Rattle.gf_facets_theory.specs.Regions.{Region}
 use Rattle.gf_weights.proofs.RegionLaws.{regions_are_one}
 use Rattle.gf_weights.specs.Roots.{IsRegionOf}
 use Rattle.gf_items.specs.Items.{IsTextOf}
@@ -16,170 +15,87 @@ use Rattle.gf_items.specs.Kinds.{a_set, a_marked_set, vector_where, vector_list}
 use Rattle.gf_items.proofs.KindLaws.{items_once, ring_and_once}
 use Rattle.gf_items.proofs.ReadingLaws.{source_once}
 use Rattle.gfan_common.specs.Forms.{generators_of}
-use Rattle.gfan_lists.specs.declared.bases.ListOptions.{ListOptions}
 use Rattle.gfan_lists.specs.After.{IsBasisTaken}
 use Rattle.gfan_lists.proofs.AfterLaws.{taken_once}
 use Rattle.gfan_lists.proofs.PartsLaws.{behind_once}
 use Rattle.gfan.specs.ListSources.{HasPolynomials}
-use Rattle.gfan.proofs.OneTextLaws.{read_variables, given_variables}
-use Rattle.gfan_theory.specs.Answers.{NamedFile, bytes_of, IsBasesAnswer, IsRegionSaid, AreBasesBefore, IsListAnswer, AnswersAreLists}
+use Rattle.gfan_lists.specs.After.{names_given, generators_given, reading_given, IsRegionCut}
+use Rattle.gfan_lists.specs.ListCommand.{AreSameNames, IsFront, ListValue, reading_list}
+use Rattle.gfan_lists.proofs.AfterLaws.{cut_region}
+use Rattle.gfan_lists.proofs.ListCommandLaws.{said_inside}
+use Rattle.gfan.proofs.OneTextLaws.{said_polynomials}
+use Rattle.gfan_theory.specs.Answers.{NamedFile, name_of, bytes_of, Request, texts_of, IsSaid, IsRegionSaid, AreBasesBefore, AnswersAreLists}
 
--- ---- each way
+-- ---- any way
 
-from_request : (from_basis : Bool) (within after : Option NamedFile) (o : ListOptions) (workers : ℕ) (input text : List ℕ) →
-    IsBasesAnswer (record { from_basis = from_basis; within = within; after = after; options = o; workers = workers }) input text →
-    IsListAnswer (record { from_basis = from_basis; within = within; after = after; options = o; workers = workers }) input text
-from_request false None None o workers input text a = record {
-  ring = a.value.0;
-  ideal = generators_of a.value.1.0;
-  region = all_positive (length a.value.0);
-  early = [];
-  said = record {
-    read = (a.value.1, a.read, refl);
-    inside = read_variables input a.value a.read;
-    region = refl;
-    is_region = all_positive-region (length a.value.0);
-    before = refl;
-  };
-  list = a.answer.is_answer;
+-- what the texts say: the input; the region; and the bases before the list
+pub record AreTextsSaid (from_basis : Bool) (within after : Option NamedFile) (input : List ℕ) (v : ListValue from_basis (is_some (name_of after))) :
+    Type 0 where
+  pub read : (reading_given from_basis).IsRead (input ∷ []) v.1.1
+  pub region : (k : Region) → IsRegionCut (is_some (name_of within)) (length (names_given from_basis v.1.1)) v.0 k →
+      IsRegionSaid within (length (names_given from_basis v.1.1)) k
+  pub before : (k : Region) (front : List MarkedPolynomials) → AreSameNames (is_some (name_of after)) v.1.0 (names_given from_basis v.1.1) →
+      IsFront (is_some (name_of after)) v.1.0 k front → AreBasesBefore after (names_given from_basis v.1.1) k front
+
+texts_said : (from_basis : Bool) (within after : Option NamedFile) (input : List ℕ) (v : ListValue from_basis (is_some (name_of after))) →
+    (reading_list from_basis (is_some (name_of within)) (is_some (name_of after))).IsRead (texts_of within after input) v →
+    AreTextsSaid from_basis within after input v
+texts_said from_basis None None input v r = record { read = r.1; region = λ k i. i; before = λ k front e t. t }
+texts_said from_basis (Some file) None input v r = record { read = r.1; region = λ k i. (v.0, r.0, i); before = λ k front e t. t }
+texts_said from_basis None (Some basis) input v r = record {
+  read = r.1.1;
+  region = λ k i. i;
+  before = λ k front e t. (
+    v.1.0.1,
+    t.0,
+    t.1,
+    subst (λ (names : List (List ℕ)). IsTextOf ring_marked_set basis.bytes (names, v.1.0.1)) e r.1.0,
+    t.2,
+    t.3,
+  );
 }
-from_request true None None o workers input text a = record {
-  ring = a.value.0;
-  ideal = polys a.value.1.items;
-  region = all_positive (length a.value.0);
-  early = [];
-  said = record {
-    read = (a.value.1, a.read, refl);
-    inside = given_variables input a.value a.read;
-    region = refl;
-    is_region = all_positive-region (length a.value.0);
-    before = refl;
-  };
-  list = a.answer.is_answer.list;
+texts_said from_basis (Some file) (Some basis) input v r = record {
+  read = r.1.1;
+  region = λ k i. (v.0, r.0, i);
+  before = λ k front e t. (
+    v.1.0.1,
+    t.0,
+    t.1,
+    subst (λ (names : List (List ℕ)). IsTextOf ring_marked_set basis.bytes (names, v.1.0.1)) e r.1.0,
+    t.2,
+    t.3,
+  );
 }
-from_request false (Some file) None o workers input text a = record {
-  ring = a.value.1.0;
-  ideal = generators_of a.value.1.1.0;
-  region = a.answer.is_answer.region;
-  early = [];
-  said = record {
-    read = (a.value.1.1, a.read.1, refl);
-    inside = read_variables input a.value.1 a.read.1;
-    region = (a.value.0, a.read.0, a.answer.is_answer.is_region);
-    is_region = a.answer.is_answer.is_region.region;
-    before = refl;
-  };
-  list = a.answer.is_answer.list;
-}
-from_request true (Some file) None o workers input text a = record {
-  ring = a.value.1.0;
-  ideal = polys a.value.1.1.items;
-  region = a.answer.is_answer.within.region;
-  early = [];
-  said = record {
-    read = (a.value.1.1, a.read.1, refl);
-    inside = given_variables input a.value.1 a.read.1;
-    region = (a.value.0, a.read.0, a.answer.is_answer.within.is_region);
-    is_region = a.answer.is_answer.within.is_region.region;
-    before = refl;
-  };
-  list = a.answer.is_answer.within.list;
-}
-from_request false None (Some basis) o workers input text a =
-    let answer = a.answer.is_answer in
+
+-- the ring and the polynomials of the input, the region, and the bases before the list, of an answer or of its beginning
+pub is_said : (q : Request) (input : List ℕ) (v : ListValue q.from_basis (is_some (name_of q.after))) →
+    (reading_list q.from_basis (is_some (name_of q.within)) (is_some (name_of q.after))).IsRead (texts_of q.within q.after input) v →
+    (k : Region) (front : List MarkedPolynomials) →
+    IsRegionCut (is_some (name_of q.within)) (length (names_given q.from_basis v.1.1)) v.0 k →
+    AreSameNames (is_some (name_of q.after)) v.1.0 (names_given q.from_basis v.1.1) → IsFront (is_some (name_of q.after)) v.1.0 k front →
+    IsSaid q input (names_given q.from_basis v.1.1) (generators_given q.from_basis v.1.1) k front
+is_said q input v r k front i e t =
+    let said = texts_said q.from_basis q.within q.after input v r in
     record {
-      ring = a.value.1.1.0;
-      ideal = generators_of a.value.1.1.1.0;
-      region = answer.0;
-      early = answer.4.front ++ answer.4.basis ∷ [];
-      said = record {
-        read = (a.value.1.1.1, a.read.1.1, refl);
-        inside = read_variables input a.value.1.1 a.read.1.1;
-        region = answer.1;
-        is_region = subst (λ (k : Region). IsRegion (length a.value.1.1.0) k) (sym answer.1) (all_positive-region (length a.value.1.1.0));
-        before = (
-          a.value.1.0.1,
-          answer.4.basis,
-          answer.4.front,
-          subst (λ (names : List (List ℕ)). IsTextOf ring_marked_set basis.bytes (names, a.value.1.0.1)) answer.2 a.read.1.0,
-          answer.4.taken,
-          refl,
-        );
-      };
-      list = answer.4.list;
-    }
-from_request true None (Some basis) o workers input text a =
-    let answer = a.answer.is_answer in
-    record {
-      ring = a.value.1.1.0;
-      ideal = polys a.value.1.1.1.items;
-      region = answer.0;
-      early = answer.4.front ++ answer.4.basis ∷ [];
-      said = record {
-        read = (a.value.1.1.1, a.read.1.1, refl);
-        inside = given_variables input a.value.1.1 a.read.1.1;
-        region = answer.1;
-        is_region = subst (λ (k : Region). IsRegion (length a.value.1.1.0) k) (sym answer.1) (all_positive-region (length a.value.1.1.0));
-        before = (
-          a.value.1.0.1,
-          answer.4.basis,
-          answer.4.front,
-          subst (λ (names : List (List ℕ)). IsTextOf ring_marked_set basis.bytes (names, a.value.1.0.1)) answer.2 a.read.1.0,
-          answer.4.taken,
-          refl,
-        );
-      };
-      list = answer.4.list;
-    }
-from_request false (Some file) (Some basis) o workers input text a =
-    let answer = a.answer.is_answer in
-    record {
-      ring = a.value.1.1.0;
-      ideal = generators_of a.value.1.1.1.0;
-      region = answer.0;
-      early = answer.4.front ++ answer.4.basis ∷ [];
-      said = record {
-        read = (a.value.1.1.1, a.read.1.1, refl);
-        inside = read_variables input a.value.1.1 a.read.1.1;
-        region = (a.value.0, a.read.0, answer.1);
-        is_region = answer.1.region;
-        before = (
-          a.value.1.0.1,
-          answer.4.basis,
-          answer.4.front,
-          subst (λ (names : List (List ℕ)). IsTextOf ring_marked_set basis.bytes (names, a.value.1.0.1)) answer.2 a.read.1.0,
-          answer.4.taken,
-          refl,
-        );
-      };
-      list = answer.4.list;
-    }
-from_request true (Some file) (Some basis) o workers input text a =
-    let answer = a.answer.is_answer in
-    record {
-      ring = a.value.1.1.0;
-      ideal = polys a.value.1.1.1.items;
-      region = answer.0;
-      early = answer.4.front ++ answer.4.basis ∷ [];
-      said = record {
-        read = (a.value.1.1.1, a.read.1.1, refl);
-        inside = given_variables input a.value.1.1 a.read.1.1;
-        region = (a.value.0, a.read.0, answer.1);
-        is_region = answer.1.region;
-        before = (
-          a.value.1.0.1,
-          answer.4.basis,
-          answer.4.front,
-          subst (λ (names : List (List ℕ)). IsTextOf ring_marked_set basis.bytes (names, a.value.1.0.1)) answer.2 a.read.1.0,
-          answer.4.taken,
-          refl,
-        );
-      };
-      list = answer.4.list;
+      read = said_polynomials q.from_basis input v.1.1 said.read;
+      inside = said_inside q.from_basis input v.1.1 said.read;
+      region = said.region k i;
+      is_region = cut_region (is_some (name_of q.within)) (length (names_given q.from_basis v.1.1)) v.0 k i;
+      before = said.before k front e t;
     }
 
 pub answers_are_lists : AnswersAreLists
-answers_are_lists q input text a = from_request q.from_basis q.within q.after q.options q.workers input text a
+answers_are_lists q input text a =
+    let v = a.value in
+    let x = a.answer.is_answer in
+    record {
+      ring = names_given q.from_basis v.1.1;
+      ideal = generators_given q.from_basis v.1.1;
+      region = x.0;
+      early = x.4.0;
+      said = is_said q input v a.read x.0 x.4.0 x.1 x.2 x.4.1;
+      list = x.4.2;
+    }
 
 -- ---- what is read determines it
 

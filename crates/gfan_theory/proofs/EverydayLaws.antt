@@ -23,8 +23,9 @@ use Rattle.gf_binomial_calls_theory.proofs.LimitLaws.{ruled_within}
 use Rattle.gf_binomial_calls_theory.proofs.SystemLimits.{small_search}
 use Rattle.gfan_lists.specs.declared.bases.ListOptions.{ListOptions}
 use Rattle.gfan_lists.specs.BasesList.{IsGivenIn}
-use Rattle.gfan_lists.specs.Bases.{IsWithinLimit, IsGoingWithin, IsListWithin}
-use Rattle.gfan_lists.specs.Within.{IsWithinRegion}
+use Rattle.gfan_lists.specs.Bases.{IsWithinLimit}
+use Rattle.gfan_theory.specs.Inputs.{AreListsWithin, AreRegionListsWithin}
+use Rattle.gfan_theory.proofs.InputLaws.{GoingLimits, lists_within, regions_within}
 use Rattle.gfan_lists.proofs.BasesListLaws.{given_in_node}
 use Rattle.gfan_theory.specs.Differences.{AreDifferenceRows}
 use Rattle.gfan_theory.specs.Everyday.{RegionsOfBinomialsStayWithinLimits, IsDifferenceOfVariables, CertificatesOfVariablesStayWithinLimits}
@@ -32,13 +33,13 @@ use Rattle.gfan_theory.proofs.DifferenceLimits.{rows_small, regions_of_differenc
 use Rattle.gfan_theory.proofs.VariableLaws.{plain_of_variables, short_of_variables, in_variables, normals_differ}
 
 pub regions_of_binomials : RegionsOfBinomialsStayWithinLimits
-regions_of_binomials o n rows v f unlimited plain some small few differ inside ring g short = record {
+regions_of_binomials o n rows v f unlimited plain some small few differ inside ring g short = regions_within o n rows (f ∷ []) (record {
   region = regions_of_differences_fit n rows v some (omega (arith, small)) (omega (arith, few)) differ inside;
   root = λ k i. ruled_within strategies.Degree (MonomialOrder.weighted (gains k.root)) n f o.pairs ring g;
   going = going;
-}
+})
   where
-    going : (k : Region) → IsRegionOf n rows k → IsGoingWithin o n k (f ∷ [])
+    going : (k : Region) → IsRegionOf n rows k → GoingLimits o n k (f ∷ [])
     going k i = record {
       tree = small_search (ideal_within n (f ∷ []) k) f o.pairs refl g small
           (subst (HaveEntriesUpTo 500) (sym i.same) (rows_small n rows 500 (omega arith) differ)) short;
@@ -74,17 +75,20 @@ pub certificates_of_variables : CertificatesOfVariablesStayWithinLimits
 certificates_of_variables = record { everywhere = everywhere; regions = regions }
   where
     everywhere : (o : ListOptions) (n : ℕ) (f : Terms) → o.limit ≡ None → n ≤ 3 → HaveRingVariables n (f ∷ []) → IsDifferenceOfVariables n f →
-        IsListWithin o n (f ∷ [])
-    everywhere o n f unlimited small ring d = record {
+        AreListsWithin o n (f ∷ [])
+    everywhere o n f unlimited small ring d = lists_within o n (f ∷ []) (record {
       root = ruled_within strategies.Degree MonomialOrder.deglex n f o.pairs ring (plain_of_variables n f d);
-      tree = small_search (ideal_by n (f ∷ [])) f o.pairs refl (plain_of_variables n f d) small (All-nil _) (short_of_variables n f d);
-      few = λ list all. subst (λ l. IsWithinLimit l list) (sym unlimited) tt;
-      certificates = λ c b g. certified n (all_positive n) f b small (all_positive-region n) (omega arith) (λ row k. absurd (none_in row k)) d g;
-    }
+      going = record {
+        tree = small_search (ideal_by n (f ∷ [])) f o.pairs refl (plain_of_variables n f d) small (All-nil _) (short_of_variables n f d);
+        few = λ list all. subst (λ l. IsWithinLimit l list) (sym unlimited) tt;
+        certificates = λ c b g. certified n (all_positive n) f b small (all_positive-region n) (omega arith) (λ row k. absurd (none_in row k)) d g;
+      };
+    })
 
     regions : (o : ListOptions) (n : ℕ) (rows : List (List ℤ)) (v : List ℤ) (f : Terms) → o.limit ≡ None → n ≤ 3 → length rows ≤ 1 → AreDifferenceRows n rows →
-        IsInRegion n (record { rows = rows; root = v }) v → HaveRingVariables n (f ∷ []) → IsDifferenceOfVariables n f → IsWithinRegion o n rows (f ∷ [])
-    regions o n rows v f unlimited small few differ inside ring d = record {
+        IsInRegion n (record { rows = rows; root = v }) v → HaveRingVariables n (f ∷ []) → IsDifferenceOfVariables n f →
+        AreRegionListsWithin o n rows (f ∷ [])
+    regions o n rows v f unlimited small few differ inside ring d = regions_within o n rows (f ∷ []) (record {
       region = regions_of_differences_fit n rows v (let l = d.first_inside in omega (arith, l)) (omega (arith, small)) (omega (arith, few)) differ inside;
       root = λ k i. ruled_within strategies.Degree (MonomialOrder.weighted (gains k.root)) n f o.pairs ring (plain_of_variables n f d);
       going = λ k i. record {
@@ -94,4 +98,4 @@ certificates_of_variables = record { everywhere = everywhere; regions = regions 
         certificates = λ c b g. certified n k f b small i.region (let e : length k.rows ≡ length rows = ap length i.same in omega (arith, e, few))
             (subst (AreDifferenceRows n) (sym i.same) differ) d g;
       };
-    }
+    })

@@ -1,5 +1,5 @@
 -- What `_bases -g` may do stays within its limits for marked Gröbner bases of variables and differences of variables, also in regions.
--- To cite: reduced_runs, tails_memory, basis_differences, given_everywhere, given_lists. The rest are steps.
+-- To cite: reduced_runs, tails_memory, basis_differences, reduced_within, given_everywhere, given_lists. The rest are steps.
 use Rattle.std.proofs.Common.{◌≡◌, ℕ, ◌≤◌, true, false, List, length, map, None, Some, Contains, ℤ, arith, refl, sym, ◌∙◌, subst, inl, inr, replicate}
 use Rattle.std.proofs.lemmas.List.Elements.{All-nil}
 use Rattle.std.proofs.lemmas.List.Sorted.{Contains-permutation, IsPermutation-sym}
@@ -29,8 +29,10 @@ use Rattle.gf_binomial_bases_theory.proofs.LawsHold.{bases_of_binomials}
 use Rattle.gf_binomial_calls_theory.proofs.LawsHold.{refusals_tell_no_overflow}
 use Rattle.gfan_lists.specs.declared.bases.ListOptions.{ListOptions}
 use Rattle.gfan_lists.specs.Bases.{IsWithinLimit}
-use Rattle.gfan_lists.specs.GivenBasis.{IsReducedFrom, IsGivenListWithin}
-use Rattle.gfan_lists.specs.Within.{IsGivenWithinRegion}
+use Rattle.gfan_lists.specs.GivenBasis.{IsReducedFrom}
+use Rattle.gfan_lists.specs.ListCommand.{IsReducedWithin}
+use Rattle.gfan_theory.specs.Inputs.{AreGivenRegionListsWithin}
+use Rattle.gfan_theory.proofs.InputLaws.{GivenListLimits, given_lists_within, given_regions_within}
 use Rattle.gfan_lists.proofs.BasesListLaws.{given_node}
 use Rattle.gfan_theory.specs.Differences.{AreDifferenceRows}
 use Rattle.gfan_theory.specs.Linear.{AreLinearDifferences, IsLinearSet}
@@ -102,29 +104,33 @@ module _ (s : MarkedPolynomials) (l : IsLinearSet s) (u : MarkedPolynomials) (f 
 pub basis_differences : (n : ℕ) (s : MarkedPolynomials) → IsLinearBasis n s → AreLinearDifferences n (polys s.items)
 basis_differences n s b = subst (λ (m : ℕ). AreLinearDifferences m (polys s.items)) b.variables (set_differences s b.set)
 
-pub given_everywhere : (o : ListOptions) (n : ℕ) (s : MarkedPolynomials) → o.limit ≡ None → 1 ≤ n → n ≤ 4 → IsLinearBasis n s → pairs_below n ≤ o.pairs →
-    IsGivenListWithin o n s
-given_everywhere o n s unlimited some small b room = record {
-  variables = b.set.binomials.variables;
-  same = b.variables;
+-- the checks of the set and its reduction
+pub reduced_within : (n : ℕ) (s : MarkedPolynomials) → n ≤ 4 → IsLinearBasis n s → IsReducedWithin s
+reduced_within n s small b = record {
   basis = b.basis;
   checks = linear_checks s b.set (let q = b.variables in omega (arith, q, small));
   tails = λ t d a h. tails_memory s b.set t a d h;
-  tree = search_in_four (ideal_by n (polys s.items)) o.pairs (basis_differences n s b) small (All-nil _) room;
-  few = λ list all. subst (λ l. IsWithinLimit l list) (sym unlimited) tt;
-  certificates = λ c x g. certified n (polys s.items) x some small (basis_differences n s b) g;
+}
+
+pub given_everywhere : (o : ListOptions) (n : ℕ) (s : MarkedPolynomials) → o.limit ≡ None → 1 ≤ n → n ≤ 4 → IsLinearBasis n s → pairs_below n ≤ o.pairs →
+    GivenListLimits o n s
+given_everywhere o n s unlimited some small b room = record {
+  variables = b.set.binomials.variables;
+  same = b.variables;
+  reduced = reduced_within n s small b;
+  going = record {
+    tree = search_in_four (ideal_by n (polys s.items)) o.pairs (basis_differences n s b) small (All-nil _) room;
+    few = λ list all. subst (λ l. IsWithinLimit l list) (sym unlimited) tt;
+    certificates = λ c x g. certified n (polys s.items) x some small (basis_differences n s b) g;
+  };
 }
 
 given_regions : (o : ListOptions) (n : ℕ) (rows : List (List ℤ)) (v : List ℤ) (s : MarkedPolynomials) → o.limit ≡ None → o.certified ≡ false → 1 ≤ n → n ≤ 4 →
     length rows ≤ 3 → AreDifferenceRows n rows → IsInRegion n (record { rows = rows; root = v }) v → IsLinearBasis n s → pairs_below n ≤ o.pairs →
-    IsGivenWithinRegion o n rows s
-given_regions o n rows v s unlimited plain some small few differ inside b room = record {
-  variables = b.set.binomials.variables;
-  same = b.variables;
+    AreGivenRegionListsWithin o n rows s
+given_regions o n rows v s unlimited plain some small few differ inside b room = given_regions_within o n rows s (record {
   region = regions_of_differences_fit n rows v some small few differ inside;
-  basis = b.basis;
-  checks = linear_checks s b.set (let q = b.variables in omega (arith, q, small));
-  tails = λ t d a h. tails_memory s b.set t a d h;
+  reduced = reduced_within n s small b;
   root = λ k u i f. reduced_runs s b.set u f (MonomialOrder.weighted (gains k.root)) o.pairs tt
       (subst (λ (m : ℕ). pairs_below m ≤ o.pairs) (sym b.variables) room);
   going = λ k i. record {
@@ -133,7 +139,10 @@ given_regions o n rows v s unlimited plain some small few differ inside b room =
     few = λ list all. subst (λ l. IsWithinLimit l list) (sym unlimited) tt;
     certificates = λ c. absurd (let no : false ≡ true = sym plain ∙ c in cc);
   };
-}
+})
 
 pub given_lists : GivenListsStayWithinLimits
-given_lists = record { everywhere = given_everywhere; regions = given_regions }
+given_lists = record {
+  everywhere = λ o n s unlimited some small b room. given_lists_within o n s (given_everywhere o n s unlimited some small b room);
+  regions = given_regions;
+}

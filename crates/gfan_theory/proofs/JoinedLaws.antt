@@ -1,23 +1,21 @@
 -- A list that was cut and then continued is the list of one run.
 -- To cite: cut_list, runs_are_joined. The rest are steps.
-use Rattle.std.specs.Prelude.{◌≡◌, ◌≢◌, ℕ, Bool, true, false, List, [], ◌∷◌, ◌++◌, flat_map, length, map, Contains, Option, None, Some}
+use Rattle.std.specs.Prelude.{◌≡◌, ◌≢◌, ℕ, Bool, true, false, List, [], ◌∷◌, ◌++◌, flat_map, length, map, Contains, None, Some}
 use Rattle.std.proofs.Common.{refl, sym, ap, ap₂, ◌∙◌, subst, inl, append_assoc}
 use Rattle.std.proofs.lemmas.Grind.{flat_map-append}
 use Rattle.std.proofs.lemmas.List.Sorted.{Contains-permutation, IsPermutation-sym}
 use Rattle.gf_exponents_theory.proofs.ExponentsLaws.{same-refl}
 use Rattle.gf_poly.specs.Polynomial.{Terms}
-use Rattle.gf_poly.specs.Marking.{MarkedPolynomial, MarkedPolynomials, polys}
+use Rattle.gf_poly.specs.Marking.{MarkedPolynomial, MarkedPolynomials}
 use Rattle.gf_text.specs.RingText.{IsRing, ring_text}
 use Rattle.gf_text.specs.WrittenText.{AreKept}
 use Rattle.gf_ideal_theory.specs.Bases.{AreArranged}
 use Rattle.gf_ideal_theory.proofs.ArrangedLists.{arranged_equal}
-use Rattle.gf_facets_theory.specs.Regions.{Region, IsRegion, all_positive}
-use Rattle.gf_facets_theory.proofs.SystemLaws.{all_positive-region}
+use Rattle.gf_facets_theory.specs.Regions.{Region}
 use Rattle.gf_reduced.specs.Forms.{monic_of}
 use Rattle.gf_front.specs.declared.refusal.Refusal.{Refusal}
 use Rattle.gf_items.specs.Items.{IsTextOf}
 use Rattle.gf_items.specs.Sources.{ring_marked_set}
-use Rattle.gfan_common.specs.Forms.{generators_of}
 use Rattle.gfan_lists.specs.declared.bases.ListOptions.{ListOptions}
 use Rattle.gfan_lists.specs.BasesList.{IsGivenIn}
 use Rattle.gfan_lists.specs.Bases.{later_item_text, items_text, list_text, begun_text, AreItemTextsIn, IsTextBehind, IsBegunListBehind, IsBegunWhereBehind}
@@ -25,10 +23,10 @@ use Rattle.gfan_lists.specs.After.{IsBasisTaken}
 use Rattle.gfan_lists.proofs.BasesListLaws.{among_left, among_right}
 use Rattle.gfan_lists.proofs.PartsLaws.{parts_are_joined}
 use Rattle.gfan.specs.ListSources.{HasPolynomials}
-use Rattle.gfan.proofs.OneTextLaws.{read_variables, given_variables}
 use Rattle.gfan_theory.specs.Answers.{NamedFile, Request, IsBasesAnswer, AreBasesBefore, IsSaid}
 use Rattle.gfan_theory.specs.Joined.{IsCutAnswer, basis_file, continued, without_limit, between, IsJoined, RunsAreJoined}
-use Rattle.gfan_theory.proofs.AnswerLaws.{region_once, basis_once}
+use Rattle.gfan_theory.proofs.AnswerLaws.{is_said, region_once, basis_once}
+use Rattle.gfan_lists.specs.After.{names_given, generators_given}
 use Rattle.gfan_theory.proofs.OneTextLaws.{AnswerAt, answer_at}
 use Rattle.gfan_theory.proofs.BasisFileLaws.{read_again, monic_again}
 
@@ -43,204 +41,23 @@ pub record CutList (q : Request) (input text : List ℕ) (refusal : Refusal) : T
   pub begun : IsBegunWhereBehind early q.options ring region ideal text refusal
   pub whole : (joined : List ℕ) → IsTextBehind early q.options.certified None ring region ideal joined → IsBasesAnswer (without_limit q) input joined
 
-cut_request : (from_basis : Bool) (within after : Option NamedFile) (o : ListOptions) (workers : ℕ) (input text : List ℕ) (refusal : Refusal) →
-    IsCutAnswer (record { from_basis = from_basis; within = within; after = after; options = o; workers = workers }) input text refusal →
-    CutList (record { from_basis = from_basis; within = within; after = after; options = o; workers = workers }) input text refusal
-cut_request false None None o workers input text refusal a = record {
-  ring = a.value.0;
-  ideal = generators_of a.value.1.0;
-  region = all_positive (length a.value.0);
-  early = [];
-  said = record {
-    read = (a.value.1, a.read, refl);
-    inside = read_variables input a.value a.read;
-    region = refl;
-    is_region = all_positive-region (length a.value.0);
-    before = refl;
-  };
-  begun = a.begun;
-  whole = λ joined t. record { value = a.value; read = a.read; answer = record { formed = a.formed; is_answer = t } };
-}
-cut_request true None None o workers input text refusal a = record {
-  ring = a.value.0;
-  ideal = polys a.value.1.items;
-  region = all_positive (length a.value.0);
-  early = [];
-  said = record {
-    read = (a.value.1, a.read, refl);
-    inside = given_variables input a.value a.read;
-    region = refl;
-    is_region = all_positive-region (length a.value.0);
-    before = refl;
-  };
-  begun = a.begun.begun;
-  whole = λ joined t. record { value = a.value; read = a.read; answer = record { formed = a.formed; is_answer = record { basis = a.begun.basis; list = t } } };
-}
-cut_request false (Some file) None o workers input text refusal a = record {
-  ring = a.value.1.0;
-  ideal = generators_of a.value.1.1.0;
-  region = a.begun.region;
-  early = [];
-  said = record {
-    read = (a.value.1.1, a.read.1, refl);
-    inside = read_variables input a.value.1 a.read.1;
-    region = (a.value.0, a.read.0, a.begun.is_region);
-    is_region = a.begun.is_region.region;
-    before = refl;
-  };
-  begun = a.begun.begun;
-  whole = λ joined t. record {
-    value = a.value;
-    read = a.read;
-    answer = record { formed = a.formed; is_answer = record { region = a.begun.region; is_region = a.begun.is_region; list = t } };
-  };
-}
-cut_request true (Some file) None o workers input text refusal a = record {
-  ring = a.value.1.0;
-  ideal = polys a.value.1.1.items;
-  region = a.begun.within.region;
-  early = [];
-  said = record {
-    read = (a.value.1.1, a.read.1, refl);
-    inside = given_variables input a.value.1 a.read.1;
-    region = (a.value.0, a.read.0, a.begun.within.is_region);
-    is_region = a.begun.within.is_region.region;
-    before = refl;
-  };
-  begun = a.begun.within.begun;
-  whole = λ joined t. record {
-    value = a.value;
-    read = a.read;
-    answer = record {
-      formed = a.formed;
-      is_answer =
-          record { basis = a.begun.basis; within = record { region = a.begun.within.region; is_region = a.begun.within.is_region; list = t } };
-    };
-  };
-}
-cut_request false None (Some basis) o workers input text refusal a = record {
-  ring = a.value.1.1.0;
-  ideal = generators_of a.value.1.1.1.0;
-  region = a.begun.0;
-  early = a.begun.4.front ++ a.begun.4.basis ∷ [];
-  said = record {
-    read = (a.value.1.1.1, a.read.1.1, refl);
-    inside = read_variables input a.value.1.1 a.read.1.1;
-    region = a.begun.1;
-    is_region = subst (λ (k : Region). IsRegion (length a.value.1.1.0) k) (sym a.begun.1) (all_positive-region (length a.value.1.1.0));
-    before = (
-      a.value.1.0.1,
-      a.begun.4.basis,
-      a.begun.4.front,
-      subst (λ (names : List (List ℕ)). IsTextOf ring_marked_set basis.bytes (names, a.value.1.0.1)) a.begun.2 a.read.1.0,
-      a.begun.4.taken,
-      refl,
-    );
-  };
-  begun = a.begun.4.begun;
-  whole = λ joined t. record {
-    value = a.value;
-    read = a.read;
-    answer = record {
-      formed = a.formed;
-      is_answer =
-          (a.begun.0, a.begun.1, a.begun.2, a.begun.3, record { basis = a.begun.4.basis; taken = a.begun.4.taken; front = a.begun.4.front; list = t });
-    };
-  };
-}
-cut_request true None (Some basis) o workers input text refusal a = record {
-  ring = a.value.1.1.0;
-  ideal = polys a.value.1.1.1.items;
-  region = a.begun.0;
-  early = a.begun.4.front ++ a.begun.4.basis ∷ [];
-  said = record {
-    read = (a.value.1.1.1, a.read.1.1, refl);
-    inside = given_variables input a.value.1.1 a.read.1.1;
-    region = a.begun.1;
-    is_region = subst (λ (k : Region). IsRegion (length a.value.1.1.0) k) (sym a.begun.1) (all_positive-region (length a.value.1.1.0));
-    before = (
-      a.value.1.0.1,
-      a.begun.4.basis,
-      a.begun.4.front,
-      subst (λ (names : List (List ℕ)). IsTextOf ring_marked_set basis.bytes (names, a.value.1.0.1)) a.begun.2 a.read.1.0,
-      a.begun.4.taken,
-      refl,
-    );
-  };
-  begun = a.begun.4.begun;
-  whole = λ joined t. record {
-    value = a.value;
-    read = a.read;
-    answer = record {
-      formed = a.formed;
-      is_answer =
-          (a.begun.0, a.begun.1, a.begun.2, a.begun.3, record { basis = a.begun.4.basis; taken = a.begun.4.taken; front = a.begun.4.front; list = t });
-    };
-  };
-}
-cut_request false (Some file) (Some basis) o workers input text refusal a = record {
-  ring = a.value.1.1.0;
-  ideal = generators_of a.value.1.1.1.0;
-  region = a.begun.0;
-  early = a.begun.4.front ++ a.begun.4.basis ∷ [];
-  said = record {
-    read = (a.value.1.1.1, a.read.1.1, refl);
-    inside = read_variables input a.value.1.1 a.read.1.1;
-    region = (a.value.0, a.read.0, a.begun.1);
-    is_region = a.begun.1.region;
-    before = (
-      a.value.1.0.1,
-      a.begun.4.basis,
-      a.begun.4.front,
-      subst (λ (names : List (List ℕ)). IsTextOf ring_marked_set basis.bytes (names, a.value.1.0.1)) a.begun.2 a.read.1.0,
-      a.begun.4.taken,
-      refl,
-    );
-  };
-  begun = a.begun.4.begun;
-  whole = λ joined t. record {
-    value = a.value;
-    read = a.read;
-    answer = record {
-      formed = a.formed;
-      is_answer =
-          (a.begun.0, a.begun.1, a.begun.2, a.begun.3, record { basis = a.begun.4.basis; taken = a.begun.4.taken; front = a.begun.4.front; list = t });
-    };
-  };
-}
-cut_request true (Some file) (Some basis) o workers input text refusal a = record {
-  ring = a.value.1.1.0;
-  ideal = polys a.value.1.1.1.items;
-  region = a.begun.0;
-  early = a.begun.4.front ++ a.begun.4.basis ∷ [];
-  said = record {
-    read = (a.value.1.1.1, a.read.1.1, refl);
-    inside = given_variables input a.value.1.1 a.read.1.1;
-    region = (a.value.0, a.read.0, a.begun.1);
-    is_region = a.begun.1.region;
-    before = (
-      a.value.1.0.1,
-      a.begun.4.basis,
-      a.begun.4.front,
-      subst (λ (names : List (List ℕ)). IsTextOf ring_marked_set basis.bytes (names, a.value.1.0.1)) a.begun.2 a.read.1.0,
-      a.begun.4.taken,
-      refl,
-    );
-  };
-  begun = a.begun.4.begun;
-  whole = λ joined t. record {
-    value = a.value;
-    read = a.read;
-    answer = record {
-      formed = a.formed;
-      is_answer =
-          (a.begun.0, a.begun.1, a.begun.2, a.begun.3, record { basis = a.begun.4.basis; taken = a.begun.4.taken; front = a.begun.4.front; list = t });
-    };
-  };
-}
-
 pub cut_list : (q : Request) (input text : List ℕ) (refusal : Refusal) → IsCutAnswer q input text refusal → CutList q input text refusal
-cut_list q input text refusal a = cut_request q.from_basis q.within q.after q.options q.workers input text refusal a
+cut_list q input text refusal a =
+    let v = a.value in
+    let x = a.begun in
+    record {
+      ring = names_given q.from_basis v.1.1;
+      ideal = generators_given q.from_basis v.1.1;
+      region = x.0;
+      early = x.4.0;
+      said = is_said q input v a.read x.0 x.4.0 x.1 x.2 x.4.1;
+      begun = x.4.2;
+      whole = λ joined t. record {
+        value = v;
+        read = a.read;
+        answer = record { formed = a.formed; is_answer = (x.0, x.1, x.2, x.3, (x.4.0, x.4.1, t)) };
+      };
+    }
 
 -- ---- its last basis
 

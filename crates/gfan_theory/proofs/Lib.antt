@@ -24,6 +24,7 @@ pub mod CoefficientSums  -- the sum of the coefficients, on an ideal
 pub mod SaturationRuns  -- runs on linear polynomials and the inverse of a variable
 pub mod SaturationLimits  -- saturations of differences of variables
 pub mod SpaceLimits  -- homogeneity spaces of polynomials with small exponents, in at most three variables
+pub mod InputLaws  -- what meets these premises
 pub mod RayLines  -- the line of a ray
 pub mod SmallRays  -- rays of cones with small rows, in at most three variables
 pub mod PlaneRays  -- cones in the plane have at most two rays

@@ -70,8 +70,9 @@ use Rattle.gf_duality_theory.proofs.ListLaws.{none_in}
 use Rattle.gfan_lists.specs.declared.bases.ListOptions.{ListOptions}
 use Rattle.gfan_lists.specs.BasesList.{IsGivenIn}
 use Rattle.gfan_lists.proofs.BasesListLaws.{given_in_node}
-use Rattle.gfan_lists.specs.Bases.{IsWithinLimit, IsListWithin}
-use Rattle.gfan_lists.specs.Within.{IsWithinRegion}
+use Rattle.gfan_lists.specs.Bases.{IsWithinLimit}
+use Rattle.gfan_theory.specs.Inputs.{AreListsWithin, AreRegionListsWithin}
+use Rattle.gfan_theory.proofs.InputLaws.{lists_within, regions_within}
 use Rattle.gfan_theory.specs.Differences.{AreDifferenceRows}
 use Rattle.gfan_theory.specs.Linear.{AreLinearForms, AreLinearDifferences, LinearIdealsStayWithinLimits}
 use Rattle.gfan_theory.proofs.LinearRuns.{entry_low, AreLinearMembers, linear_ruled_runs}
@@ -220,18 +221,20 @@ certified n fs b some small d g =
     (λ normals m. let p = linear_normals n fs (all_positive n) b.items d node.basis normals m small in (let l = p.0 in omega (arith, l), p.1)))
 
 lists : (o : ListOptions) (n : ℕ) (fs : List Terms) → o.limit ≡ None → 1 ≤ n → n ≤ 4 → HaveRingVariables n fs → AreLinearDifferences n fs →
-    pairs_below n ≤ o.pairs → IsListWithin o n fs
-lists o n fs unlimited some small ring d room = record {
+    pairs_below n ≤ o.pairs → AreListsWithin o n fs
+lists o n fs unlimited some small ring d room = lists_within o n fs (record {
   root = linear_ruled_runs strategies.Degree MonomialOrder.deglex n fs o.pairs tt ring d room;
-  tree = search_in_four (ideal_by n fs) o.pairs d small (All-nil _) room;
-  few = λ list all. subst (λ l. IsWithinLimit l list) (sym unlimited) tt;
-  certificates = λ c b g. certified n fs b some small d g;
-}
+  going = record {
+    tree = search_in_four (ideal_by n fs) o.pairs d small (All-nil _) room;
+    few = λ list all. subst (λ l. IsWithinLimit l list) (sym unlimited) tt;
+    certificates = λ c b g. certified n fs b some small d g;
+  };
+})
 
 regions : (o : ListOptions) (n : ℕ) (rows : List (List ℤ)) (v : List ℤ) (fs : List Terms) → o.limit ≡ None → o.certified ≡ false → 1 ≤ n → n ≤ 4 →
     length rows ≤ 3 → AreDifferenceRows n rows → IsInRegion n (record { rows = rows; root = v }) v → HaveRingVariables n fs → AreLinearDifferences n fs →
-    pairs_below n ≤ o.pairs → IsWithinRegion o n rows fs
-regions o n rows v fs unlimited plain some small few differ inside ring d room = record {
+    pairs_below n ≤ o.pairs → AreRegionListsWithin o n rows fs
+regions o n rows v fs unlimited plain some small few differ inside ring d room = regions_within o n rows fs (record {
   region = regions_of_differences_fit n rows v some small few differ inside;
   root = λ k i. linear_ruled_runs strategies.Degree (MonomialOrder.weighted (gains k.root)) n fs o.pairs tt ring d room;
   going = λ k i. record {
@@ -239,7 +242,7 @@ regions o n rows v fs unlimited plain some small few differ inside ring d room =
     few = λ list all. subst (λ l. IsWithinLimit l list) (sym unlimited) tt;
     certificates = λ c. uncertified o plain c;
   };
-}
+})
 
 pub linear_ideals : LinearIdealsStayWithinLimits
 linear_ideals = record {

@@ -11,9 +11,9 @@ use Rattle.gf_tree.specs.Ideals.{ideal_by, ideal_within}
 use Rattle.gf_weights.specs.Roots.{IsRegionOf}
 use Rattle.gfan_common.specs.Forms.{generators_of}
 use Rattle.gfan_lists.specs.declared.bases.ListOptions.{ListOptions}
-use Rattle.gfan_lists.specs.GivenBasis.{IsGivenListWithin}
-use Rattle.gfan_lists.specs.Within.{IsGivenWithinRegion}
-use Rattle.gfan_lists.specs.After.{Given, names_given, generators_given, IsBasisTaken, IsWithinAfter}
+use Rattle.gfan_lists.specs.After.{Given, names_given, generators_given, IsBasisTaken}
+use Rattle.gfan_lists.specs.ListCommand.{IsListWithin}
+use Rattle.gfan_theory.specs.Inputs.{AreGivenListsWithin, AreGivenRegionListsWithin}
 use Rattle.gfan_theory.specs.Differences.{AreDifferenceRows}
 use Rattle.gfan_theory.specs.Linear.{AreLinearDifferences, IsLinearSet}
 
@@ -28,10 +28,10 @@ pub record IsLinearBasis (n : ℕ) (s : MarkedPolynomials) : Type 0 where
 -- three rows that are differences of two entries.
 pub record GivenListsStayWithinLimits : Type 0 where
   pub everywhere : (o : ListOptions) (n : ℕ) (s : MarkedPolynomials) → o.limit ≡ None → 1 ≤ n → n ≤ 4 → IsLinearBasis n s → pairs_below n ≤ o.pairs →
-      IsGivenListWithin o n s
+      AreGivenListsWithin o n s
   pub regions : (o : ListOptions) (n : ℕ) (rows : List (List ℤ)) (v : List ℤ) (s : MarkedPolynomials) → o.limit ≡ None → o.certified ≡ false → 1 ≤ n → n ≤ 4 →
       length rows ≤ 3 → AreDifferenceRows n rows → IsInRegion n (record { rows = rows; root = v }) v → IsLinearBasis n s → pairs_below n ≤ o.pairs →
-      IsGivenWithinRegion o n rows s
+      AreGivenRegionListsWithin o n rows s
 
 -- what the input says: variables and differences of variables as generators, or such a basis
 abbrev pub IsLinearInput : (from_basis : Bool) → Given from_basis → Type 0
@@ -47,7 +47,7 @@ ContinuationsStayWithinLimits = (from_basis : Bool) (o : ListOptions) (v : Given
     pairs_below (length (names_given from_basis v)) ≤ o.pairs → s.variables ≡ length (names_given from_basis v) → IsLinearSet s →
     IsBasisTaken (all_positive (length (names_given from_basis v))) s b →
     IsNodeIn (ideal_by (length (names_given from_basis v)) (generators_given from_basis v)) b →
-    IsWithinAfter from_basis false o [] (names_given from_basis v) v s
+    IsListWithin from_basis false true o ([], ((names_given from_basis v, s), v))
 
 -- So it is with `--within`, with `-g` or without, in the region of at most three rows that are differences of two entries and without certificates, where the
 -- set stands for one of the bases in the region.
@@ -59,4 +59,4 @@ ContinuationsWithinStayWithinLimits = (from_basis : Bool) (o : ListOptions) (row
     IsLinearInput from_basis v → pairs_below (length (names_given from_basis v)) ≤ o.pairs → s.variables ≡ length (names_given from_basis v) → IsLinearSet s →
     ((k : Region) → IsRegionOf (length (names_given from_basis v)) rows k →
     IsBasisTaken k s b × IsNodeIn (ideal_within (length (names_given from_basis v)) (generators_given from_basis v) k) b) →
-    IsWithinAfter from_basis true o rows (names_given from_basis v) v s
+    IsListWithin from_basis true true o (rows, ((names_given from_basis v, s), v))

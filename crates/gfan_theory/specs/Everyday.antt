@@ -10,8 +10,7 @@ use Rattle.gf_facets_theory.specs.Regions.{IsInRegion}
 use Rattle.gf_binomials_theory.specs.Binomials.{IsBinomialOf}
 use Rattle.gf_binomial_calls_theory.specs.Limits.{IsPlainGenerator, HasExponentsUpTo}
 use Rattle.gfan_lists.specs.declared.bases.ListOptions.{ListOptions}
-use Rattle.gfan_lists.specs.Bases.{IsListWithin}
-use Rattle.gfan_lists.specs.Within.{IsWithinRegion}
+use Rattle.gfan_theory.specs.Inputs.{AreListsWithin, AreRegionListsWithin}
 use Rattle.gfan_theory.specs.Differences.{AreDifferenceRows}
 
 -- The ideal of x^p - x^q in at most three variables, neither monomial dividing the other and with exponents up to 500, without certificates and without a
@@ -20,7 +19,7 @@ use Rattle.gfan_theory.specs.Differences.{AreDifferenceRows}
 abbrev pub RegionsOfBinomialsStayWithinLimits : Type 0
 RegionsOfBinomialsStayWithinLimits = (o : ListOptions) (n : ℕ) (rows : List (List ℤ)) (v : List ℤ) (f : Terms) → o.limit ≡ None → o.certified ≡ false →
     1 ≤ n → n ≤ 3 → length rows ≤ 2 → AreDifferenceRows n rows → IsInRegion n (record { rows = rows; root = v }) v →
-    HaveRingVariables n (f ∷ []) → IsPlainGenerator f → HasExponentsUpTo 500 f → IsWithinRegion o n rows (f ∷ [])
+    HaveRingVariables n (f ∷ []) → IsPlainGenerator f → HasExponentsUpTo 500 f → AreRegionListsWithin o n rows (f ∷ [])
 
 -- the monomial is the variable at this place
 pub record IsVariable (place : ℕ) (x : Exponents) : Type 0 where
@@ -44,10 +43,10 @@ pub record IsDifferenceOfVariables (n : ℕ) (f : Terms) : Type 0 where
 -- that `_bases` may do leaves its limits; nor anything that `_bases --within` may do in the region of at most one row that is a difference of two entries.
 pub record CertificatesOfVariablesStayWithinLimits : Type 0 where
   pub everywhere : (o : ListOptions) (n : ℕ) (f : Terms) → o.limit ≡ None → n ≤ 3 → HaveRingVariables n (f ∷ []) →
-      IsDifferenceOfVariables n f → IsListWithin o n (f ∷ [])
+      IsDifferenceOfVariables n f → AreListsWithin o n (f ∷ [])
   pub regions : (o : ListOptions) (n : ℕ) (rows : List (List ℤ)) (v : List ℤ) (f : Terms) → o.limit ≡ None → n ≤ 3 → length rows ≤ 1 →
       AreDifferenceRows n rows →
-      IsInRegion n (record { rows = rows; root = v }) v → HaveRingVariables n (f ∷ []) → IsDifferenceOfVariables n f → IsWithinRegion o n rows (f ∷ [])
+      IsInRegion n (record { rows = rows; root = v }) v → HaveRingVariables n (f ∷ []) → IsDifferenceOfVariables n f → AreRegionListsWithin o n rows (f ∷ [])
 
 -- each of the polynomials is such a difference, as a-b, b-c
 abbrev pub AreDifferencesOfVariables : ℕ → List Terms → Type 0

@@ -10,6 +10,7 @@ pub mod Continued  -- their lists, from a marked basis or after one
 pub mod Summaries  -- the ideals with a number
 pub mod Tested  -- tests of marked sets
 pub mod SmallSets  -- polynomials with small exponents in few variables
+pub mod Inputs  -- the premises of completeness of `_bases`, of each input that says given polynomials
 pub mod SmallCones  -- cones with few small rows
 pub mod LinearFans  -- fans of the cones of bases of variables and differences of variables
 pub mod PlaneFans  -- fan files of the plane

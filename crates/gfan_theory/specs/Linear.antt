@@ -25,8 +25,7 @@ use Rattle.gf_flip.specs.Operations.{IsFlipWithinLimits}
 use Rattle.gf_reverse_theory.specs.Upward.{Fan}
 use Rattle.gf_tree.specs.Refusals.{IsTreeWithinLimits}
 use Rattle.gfan_lists.specs.declared.bases.ListOptions.{ListOptions}
-use Rattle.gfan_lists.specs.Bases.{IsListWithin}
-use Rattle.gfan_lists.specs.Within.{IsWithinRegion}
+use Rattle.gfan_theory.specs.Inputs.{AreListsWithin, AreRegionListsWithin}
 use Rattle.gfan_interactive.specs.Interactive.{IsWalkedWithin}
 use Rattle.gfan_theory.specs.Differences.{AreDifferenceRows}
 
@@ -66,10 +65,10 @@ pub record LinearIdealsStayWithinLimits : Type 0 where
   pub searches_in_four : (F : Fan) (budget : ℕ) → AreLinearDifferences F.variables F.ideal → F.variables ≤ 4 → HaveEntriesUpTo 10 F.region.rows →
       pairs_below F.variables ≤ budget → IsTreeWithinLimits F budget
   pub lists : (o : ListOptions) (n : ℕ) (fs : List Terms) → o.limit ≡ None → 1 ≤ n → n ≤ 4 → HaveRingVariables n fs →
-      AreLinearDifferences n fs → pairs_below n ≤ o.pairs → IsListWithin o n fs
+      AreLinearDifferences n fs → pairs_below n ≤ o.pairs → AreListsWithin o n fs
   pub regions : (o : ListOptions) (n : ℕ) (rows : List (List ℤ)) (v : List ℤ) (fs : List Terms) → o.limit ≡ None → o.certified ≡ false → 1 ≤ n → n ≤ 4 →
       length rows ≤ 3 → AreDifferenceRows n rows → IsInRegion n (record { rows = rows; root = v }) v → HaveRingVariables n fs →
-      AreLinearDifferences n fs → pairs_below n ≤ o.pairs → IsWithinRegion o n rows fs
+      AreLinearDifferences n fs → pairs_below n ≤ o.pairs → AreRegionListsWithin o n rows fs
 
 -- a marked set of variables and differences of two variables, marked at either term, as it is read
 pub record IsLinearSet (s : MarkedPolynomials) : Type 0 where

@@ -1,72 +1,30 @@
-use Rattle.std.proofs.Common.{true, false}
+use Rattle.std.proofs.Common.{◌∙◌}
+use Rattle.std.specs.Prelude.{is_some}
+use Rattle.std.specs.Option.{option_copied}
 use Rattle.gf_frame.specs.Seen.{output_seen}
+use Rattle.gf_frame.specs.Origins.{texts_of}
 use Rattle.gf_frame.specs.Runs.{IsDoneOn, IsStoppedOn}
+use Rattle.gfan_lists.specs.ListCommand.{list_texts}
 use Rattle.gfan_common.proofs.PerformedLaws.{on_ok, on_err}
-use Rattle.gfan.proofs.SourceLaws.{list_as, within_as}
+use Rattle.gfan.proofs.SourceLaws.{list_as}
 use Rattle.gfan.proofs.commands.perform_list.Goals as goal
 
-pub returns-then-given-clause-done : goal.returns-then-given-clause-done
-returns-then-given-clause-done g c =
+pub returns-clause-done : goal.returns-clause-done
+returns-clause-done g c =
+    let j = c.on-job.result in
     let o = output_seen (g.K.Sink.held c.args.output.now) (g.K.Sink.faults c.args.output.now) in
     let s = output_seen (g.K.Sink.held c.perform.new.output) (g.K.Sink.faults c.perform.new.output) in
-    on_ok c.perform.result _ _ (λ h. list_as (λ k us. IsDoneOn k us o s) c.args.given.now true c.args.texts.now c.index-texts-0.result c.deref.result.now
-    c.requires.whole c.in-None.is c.if-given.true c.requires.all c.index-texts-0.is c.deref.ensures.value h) c.perform.ensures.done
+    on_ok c.perform.result _ _ (λ h. list_as (λ k us. IsDoneOn k us o s) c.args.given.now j.from_basis (is_some (option_copied j.region))
+    (is_some (option_copied j.after)) j.options (texts_of c.args.texts.now) (list_texts (option_copied j.region) (option_copied j.after) j.input.now)
+    c.on-job.ensures.from_basis (c.on-job.ensures.region ∙ c.is_some.ensures) (c.on-job.ensures.after ∙ c.is_some-2.ensures) c.on-job.ensures.options
+    c.on-job.ensures.texts h) c.perform.ensures.done
 
-pub returns-then-given-clause-stopped : goal.returns-then-given-clause-stopped
-returns-then-given-clause-stopped g c =
+pub returns-clause-stopped : goal.returns-clause-stopped
+returns-clause-stopped g c =
+    let j = c.on-job.result in
     let o = output_seen (g.K.Sink.held c.args.output.now) (g.K.Sink.faults c.args.output.now) in
     let s = output_seen (g.K.Sink.held c.perform.new.output) (g.K.Sink.faults c.perform.new.output) in
-    on_err c.perform.result _ _ (λ e h. list_as (λ k us. IsStoppedOn k us o s e.refusal) c.args.given.now true c.args.texts.now c.index-texts-0.result
-    c.deref.result.now c.requires.whole c.in-None.is c.if-given.true c.requires.all c.index-texts-0.is c.deref.ensures.value h) c.perform.ensures.stopped
-
-pub returns-else-given-clause-done : goal.returns-else-given-clause-done
-returns-else-given-clause-done g c =
-    let o = output_seen (g.K.Sink.held c.args.output.now) (g.K.Sink.faults c.args.output.now) in
-    let s = output_seen (g.K.Sink.held c.perform-else-given.new.output) (g.K.Sink.faults c.perform-else-given.new.output) in
-    on_ok c.perform-else-given.result _ _ (λ h. list_as (λ k us. IsDoneOn k us o s) c.args.given.now false c.args.texts.now c.index-texts-0-else-given.result
-    c.deref-else-given.result.now c.requires.whole c.in-None.is c.if-given.false c.requires.all c.index-texts-0-else-given.is
-    c.deref-else-given.ensures.value h) c.perform-else-given.ensures.done
-
-pub returns-else-given-clause-stopped : goal.returns-else-given-clause-stopped
-returns-else-given-clause-stopped g c =
-    let o = output_seen (g.K.Sink.held c.args.output.now) (g.K.Sink.faults c.args.output.now) in
-    let s = output_seen (g.K.Sink.held c.perform-else-given.new.output) (g.K.Sink.faults c.perform-else-given.new.output) in
-    on_err c.perform-else-given.result _ _ (λ e h. list_as (λ k us. IsStoppedOn k us o s e.refusal) c.args.given.now false c.args.texts.now
-    c.index-texts-0-else-given.result c.deref-else-given.result.now c.requires.whole c.in-None.is c.if-given.false c.requires.all
-    c.index-texts-0-else-given.is c.deref-else-given.ensures.value h) c.perform-else-given.ensures.stopped
-
-pub returns-then-given-2-clause-done : goal.returns-then-given-2-clause-done
-returns-then-given-2-clause-done g c =
-    let o = output_seen (g.K.Sink.held c.args.output.now) (g.K.Sink.faults c.args.output.now) in
-    let s = output_seen (g.K.Sink.held c.perform_given.new.output) (g.K.Sink.faults c.perform_given.new.output) in
-    on_ok c.perform_given.result _ _ (λ h. within_as (λ k us. IsDoneOn k us o s) c.args.given.now c.in-Some.field-0 true c.args.texts.now
-    c.index-texts-0-in-Some.result c.index-texts-1.result c.deref-then-given-2.result.now c.deref-then-given-2-2.result.now c.requires.whole c.in-Some.is
-    c.if-given-2.true c.requires.all c.index-texts-0-in-Some.is c.index-texts-1.is c.deref-then-given-2.ensures.value c.deref-then-given-2-2.ensures.value
-    (h c.in-Some.field-0)) c.perform_given.ensures.done
-
-pub returns-then-given-2-clause-stopped : goal.returns-then-given-2-clause-stopped
-returns-then-given-2-clause-stopped g c =
-    let o = output_seen (g.K.Sink.held c.args.output.now) (g.K.Sink.faults c.args.output.now) in
-    let s = output_seen (g.K.Sink.held c.perform_given.new.output) (g.K.Sink.faults c.perform_given.new.output) in
-    on_err c.perform_given.result _ _ (λ e h. within_as (λ k us. IsStoppedOn k us o s e.refusal) c.args.given.now c.in-Some.field-0 true c.args.texts.now
-    c.index-texts-0-in-Some.result c.index-texts-1.result c.deref-then-given-2.result.now c.deref-then-given-2-2.result.now c.requires.whole c.in-Some.is
-    c.if-given-2.true c.requires.all c.index-texts-0-in-Some.is c.index-texts-1.is c.deref-then-given-2.ensures.value c.deref-then-given-2-2.ensures.value
-    (h c.in-Some.field-0)) c.perform_given.ensures.stopped
-
-pub returns-else-given-2-clause-done : goal.returns-else-given-2-clause-done
-returns-else-given-2-clause-done g c =
-    let o = output_seen (g.K.Sink.held c.args.output.now) (g.K.Sink.faults c.args.output.now) in
-    let s = output_seen (g.K.Sink.held c.perform-else-given-2.new.output) (g.K.Sink.faults c.perform-else-given-2.new.output) in
-    on_ok c.perform-else-given-2.result _ _ (λ h. within_as (λ k us. IsDoneOn k us o s) c.args.given.now c.in-Some.field-0 false c.args.texts.now
-    c.index-texts-0-in-Some.result c.index-texts-1.result c.deref-else-given-2.result.now c.deref-else-given-2-2.result.now c.requires.whole c.in-Some.is
-    c.if-given-2.false c.requires.all c.index-texts-0-in-Some.is c.index-texts-1.is c.deref-else-given-2.ensures.value c.deref-else-given-2-2.ensures.value
-    (h c.in-Some.field-0)) c.perform-else-given-2.ensures.done
-
-pub returns-else-given-2-clause-stopped : goal.returns-else-given-2-clause-stopped
-returns-else-given-2-clause-stopped g c =
-    let o = output_seen (g.K.Sink.held c.args.output.now) (g.K.Sink.faults c.args.output.now) in
-    let s = output_seen (g.K.Sink.held c.perform-else-given-2.new.output) (g.K.Sink.faults c.perform-else-given-2.new.output) in
-    on_err c.perform-else-given-2.result _ _ (λ e h. within_as (λ k us. IsStoppedOn k us o s e.refusal) c.args.given.now c.in-Some.field-0 false
-    c.args.texts.now c.index-texts-0-in-Some.result c.index-texts-1.result c.deref-else-given-2.result.now c.deref-else-given-2-2.result.now
-    c.requires.whole c.in-Some.is c.if-given-2.false c.requires.all c.index-texts-0-in-Some.is c.index-texts-1.is c.deref-else-given-2.ensures.value
-    c.deref-else-given-2-2.ensures.value (h c.in-Some.field-0)) c.perform-else-given-2.ensures.stopped
+    on_err c.perform.result _ _ (λ e h. list_as (λ k us. IsStoppedOn k us o s e.refusal) c.args.given.now j.from_basis (is_some (option_copied j.region))
+    (is_some (option_copied j.after)) j.options (texts_of c.args.texts.now) (list_texts (option_copied j.region) (option_copied j.after) j.input.now)
+    c.on-job.ensures.from_basis (c.on-job.ensures.region ∙ c.is_some.ensures) (c.on-job.ensures.after ∙ c.is_some-2.ensures) c.on-job.ensures.options
+    c.on-job.ensures.texts h) c.perform.ensures.stopped

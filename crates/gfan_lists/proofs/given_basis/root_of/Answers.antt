@@ -1,13 +1,13 @@
 use Rattle.std.proofs.Common.{ap}
 use Rattle.std.proofs.lemmas.Result.{err_from_is_err_and}
 use Rattle.gfan_lists.specs.GivenBasis.{IsGivenRootRefusal}
-use Rattle.gfan_lists.proofs.GivenBasisLaws.{not_reduced, root_starts_at, way_of_set}
+use Rattle.gfan_lists.proofs.GivenBasisLaws.{root_starts_at, way_of_set}
 use Rattle.gfan_lists.proofs.given_basis.root_of.Goals as goal
 
 pub returns-in_err-reduced-clause-err : goal.returns-in_err-reduced-clause-err
 returns-in_err-reduced-clause-err c =
     let p = err_from_is_err_and c.from_residual.result c.from_residual.ensures.1 in
-    rw (p.1, p.2) (not_reduced c.args.marked.now c.args.pairs _ c.in_err-reduced.ensures.err)
+    rw (p.1, p.2) (IsGivenRootRefusal.at_basis c.in_err-reduced.ensures.err)
 
 pub returns-in-Ok-clause-root : goal.returns-in-Ok-clause-root
 returns-in-Ok-clause-root c =
