@@ -230,9 +230,9 @@ fn by_runs(alloc: Global, job: &Job) -> Result<MarkedSet, BasisError>
 /// once. So where no operation that a run may have leaves its range, and no list of one has more than `pairs` pairs, only
 /// memory may be wanting.
 ///
-/// More is promised of the run that tells a refusal, the one in fractions alone, which follows a rule (`IsRuled`): the generators enter in turn; of the pairs that wait the one of least
-/// key is taken; what is left of a polynomial is its normal form, by the first member whose mark divides a term. The operands are those of an operation
-/// of this run, and where all of its operations fit and `pairs` pairs suffice, only memory may be wanting.
+/// More is promised of the run that tells a refusal, the one in fractions alone, which follows a rule (`IsRuled`): the generators enter in turn; of
+/// the pairs that wait the one of least key is taken; what is left of a polynomial is its normal form, by the first member whose mark divides a term.
+/// The operands are those of an operation of this run, and where all of its operations fit and `pairs` pairs suffice, only memory may be wanting.
 pub fn basis(
     alloc: Global,
     n: u32,

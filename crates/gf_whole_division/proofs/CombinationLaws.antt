@@ -1,6 +1,6 @@
 -- The sum of multiples of two polynomials, term by term; no order of the terms matters.
--- To cite: pass_moved, moved_trans, moved_refl, merged_none, merged_sum, sum_value, sum_after_move, pushed_sum, total_plain, total_moved, joined_step, joined_end,
--- scaled_total, Combining, combining_start, combining_more, combining_end.
+-- To cite: pass_moved, moved_trans, moved_refl, merged_none, merged_sum, sum_value, sum_after_move, pushed_sum, total_plain, total_moved, joined_step,
+-- joined_end, scaled_total, Combining, combining_start, combining_more, combining_end.
 use Rattle.std.specs.Prelude.{◌≡◌, ℕ, zero, suc, ◌+◌, ◌-◌, ◌<◌, ◌≤◌, length, ℤ, ◌+ℤ◌, ◌*ℤ◌, List, [], ◌∷◌, ◌++◌, if◌then◌else◌, Bool, true, false}
 use Rattle.std.proofs.Common.{arith, refl, sym, ap, ◌∙◌, get_or, take}
 use Rattle.std.proofs.lemmas.List.{take_all, map_push}

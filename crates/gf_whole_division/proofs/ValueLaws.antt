@@ -258,4 +258,5 @@ product_more x y z i l ly lz e h =
 pub product_all : (x y z : Exponents) (i : ℕ) → length x ≤ i → length x ≡ length y → length x ≡ length z → take i x ≡ plus (take i y) (take i z) →
     x ≡ plus y z
 product_all x y z i l ey ez h =
-    sym (take_all i x l) ∙ h ∙ ap (λ (w : Exponents). plus w (take i z)) (take_all i y (omega (arith, l, ey))) ∙ ap (plus y) (take_all i z (omega (arith, l, ez)))
+    sym (take_all i x l) ∙ h ∙ ap (λ (w : Exponents). plus w (take i z)) (take_all i y (omega (arith, l, ey))) ∙
+    ap (plus y) (take_all i z (omega (arith, l, ez)))
