@@ -10,7 +10,7 @@ use Rattle.gf_poly.specs.Marking.{MarkedPolynomials, HaveVariables, polys}
 use Rattle.gf_buchberger.specs.declared.queue.Strategy.TheVariants as strategies
 use Rattle.gf_buchberger.specs.Ruled.{AreRuledRunsWithinLimits}
 use Rattle.gf_facets_theory.specs.Regions.{Region, all_positive}
-use Rattle.gf_tree.specs.Ideals.{ideal_within}
+use Rattle.gf_tree.specs.Ideals.{ideal_by, ideal_within}
 use Rattle.gf_tree.specs.Refusals.{IsTreeRefusal, IsTreeWithinLimits}
 use Rattle.gf_tree.proofs.RefusalLaws.{within_memory}
 use Rattle.gf_weights.specs.Roots.{IsRegionOf, IsRegionWithinLimits}
