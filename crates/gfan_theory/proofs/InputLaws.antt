@@ -10,7 +10,7 @@ use Rattle.gf_poly.specs.Marking.{MarkedPolynomials, HaveVariables, polys}
 use Rattle.gf_buchberger.specs.declared.queue.Strategy.TheVariants as strategies
 use Rattle.gf_buchberger.specs.Ruled.{AreRuledRunsWithinLimits}
 use Rattle.gf_facets_theory.specs.Regions.{Region, all_positive}
-use Rattle.gf_tree.specs.Ideals.{ideal_within}
+use Rattle.gf_tree.specs.Ideals.{ideal_by, ideal_within}
 use Rattle.gf_tree.specs.Refusals.{IsTreeRefusal, IsTreeWithinLimits}
 use Rattle.gf_tree.proofs.RefusalLaws.{within_memory}
 use Rattle.gf_weights.specs.Roots.{IsRegionOf, IsRegionWithinLimits}
@@ -101,8 +101,11 @@ given_lists_within o n s l ring q = at (subst (λ (m : ℕ). GivenListLimits o m
       region = λ c. absurd (let no : false ≡ true = c in cc);
       names = tt;
       list = λ k i. subst (λ (z : Region). IsWithinIn true false false o z ([], (tt, (ring, s)))) (sym i) (record {
-        start = (m.reduced, λ u e f w. within_memory (ideal_by (length ring) (polys s.items)) o.pairs e m.going.tree
-            (subst (λ (x : ℕ). IsTreeRefusal (ideal_by x (polys s.items)) o.pairs e) m.same (way_in_tree s u o.pairs e m.variables f w)));
+        start = (
+          m.reduced,
+          λ u e f w. within_memory (ideal_by (length ring) (polys s.items)) o.pairs e m.going.tree
+              (subst (λ (x : ℕ). IsTreeRefusal (ideal_by x (polys s.items)) o.pairs e) m.same (way_in_tree s u o.pairs e m.variables f w)),
+        );
         tree = m.going.tree;
         few = none_first o (length ring) (all_positive (length ring)) (polys s.items) m.going;
         certificates = m.going.certificates;
