@@ -15,7 +15,7 @@ ghost use Rattle.gf_buchberger.specs.Runs.{MembersHaveVariables};
 
 use crate::generators::entered;
 use crate::guides::{guide_of, is_by_degree, ranking_of};
-use crate::members::Members;
+use crate::members::{Members, are_short};
 use crate::queue::Strategy;
 use crate::runs::{Numbers, Run, Stop, settle_all};
 use crate::wide_run::by_sugar;
@@ -73,9 +73,6 @@ fn spent(alloc: Global, n: u32, run: Run) -> BasisError
     requires { MembersHaveVariables n run.members.items }
     ensures { IsSpentAnswer n run result }
 {
-    if run.is_silent() {
-        return BasisError::Memory;
-    }
     match run.table.unsettled(alloc) {
         Ok(unsettled) => BasisError::PairBudget {
             basis: set_of(n, run.members),
@@ -177,15 +174,24 @@ pub fn run_by(
 }
 
 impl BasisError {
-    /// Whether there is no memory; it is told of a run in mixed numbers too that has to be made again in fractions alone.
+    /// Whether there is no memory; so it is told where a run in mixed numbers isn't answered in whole numbers.
     fn is_of_memory(&self) -> bool {
         matches!(self, BasisError::Memory)
     }
+
+    /// Whether this refusal of a run in mixed numbers is that of the run in fractions alone: the run hasn't gone over to whole numbers.
+    fn is_told_at_once(&self) -> bool {
+        match self {
+            BasisError::Memory => false,
+            BasisError::PairBudget { basis, .. } => are_short(basis.items()),
+            BasisError::Overflow(_) | BasisError::Exponent(_) => true,
+        }
+    }
 }
 
-/// The basis by a run that takes the pairs by degree and goes over to whole numbers once coefficients are long. Where that one then isn't answered, a
-/// run in wide numbers that takes them by sugar is tried if the order compares degrees first (by others there is a walk, which takes less time), and
-/// last one in fractions of 128 bits alone, whose refusal is told.
+/// The basis by a run that takes the pairs by degree and goes over to whole numbers once coefficients are long. Where whole numbers don't answer then,
+/// a run in wide numbers that takes them by sugar is tried if the order compares degrees first (by others there is a walk, which takes less time). Last
+/// comes one in fractions of 128 bits alone, whose refusal is told.
 fn by_runs(alloc: Global, job: &Job) -> Result<MarkedSet, BasisError>
     requires { IsBasisJob job.now.order.now job.now.n job.now.set.now }
     ensures ok { IfOk result (IsArrangedBasis job.now.order.now job.now.n job.now.set.now) }
@@ -196,10 +202,10 @@ fn by_runs(alloc: Global, job: &Job) -> Result<MarkedSet, BasisError>
         Ok(found) => return Ok(found),
         Err(refusal) => refusal,
     };
-    if !refusal.is_of_memory() {
+    if refusal.is_told_at_once() {
         return Err(refusal);
     }
-    if is_by_degree(job.n, job.order) {
+    if refusal.is_of_memory() && is_by_degree(job.n, job.order) {
         if let Ok(found) = by_sugar(alloc, job) {
             return Ok(found);
         }

@@ -7,6 +7,9 @@ use gf_whole_division::{Beyond, Ranking, WholeMember};
 use std::alloc::{AllocError, Global};
 use std::marker::Model;
 
+/// The greatest numerator or denominator, by size, of a coefficient that isn't long.
+const SHORT: u128 = 1 << 10;
+
 /// Whole multiples of members, and the order of terms by which they reduce.
 #[derive(Drop)]
 pub struct Multiples {
@@ -41,14 +44,24 @@ fn multiples_of(alloc: Global, marked: &[Marked], ranking: Ranking) -> Result<Mu
     Ok(Multiples { members, ranking })
 }
 
-/// Whether the numerator or the denominator of a coefficient exceeds this number in size.
-fn is_long(member: &Marked, short: u128) -> bool {
+/// Whether a coefficient is long.
+fn is_long(member: &Marked) -> bool {
     'terms: for t in member.poly().terms() {
-        if t.coef.numer().unsigned_abs() > short || t.coef.denom().unsigned_abs() > short {
+        if t.coef.numer().unsigned_abs() > SHORT || t.coef.denom().unsigned_abs() > SHORT {
             return true;
         }
     }
     false
+}
+
+/// Whether no coefficient of these members is long.
+pub fn are_short(members: &[Marked]) -> bool {
+    'members: for member in members {
+        if is_long(member) {
+            return false;
+        }
+    }
+    true
 }
 
 /// Marked polynomials in a row, and whole multiples of them, where there are some.
@@ -57,7 +70,6 @@ pub struct Members {
     marked: Vec<Marked>,
     multiples: Option<Multiples>,
     ranking: Option<Ranking>,
-    short: u128,
 }
 
 impl Model for Members {
@@ -72,16 +84,14 @@ impl Model for Members {
 }
 
 impl Members {
-    /// No members. Whole multiples are formed where there is an order of terms to reduce by them, once the numerator or the denominator of a
-    /// coefficient exceeds `short` in size.
-    pub fn new(alloc: Global, ranking: Option<Ranking>, short: u128) -> Members
+    /// No members. Whole multiples are formed where there is an order of terms to reduce by them, once a coefficient is long.
+    pub fn new(alloc: Global, ranking: Option<Ranking>) -> Members
         ensures { result.items ≡ [] }
     {
         Members {
             marked: Vec::new(alloc),
             multiples: None,
             ranking,
-            short,
         }
     }
 
@@ -174,7 +184,7 @@ impl Members {
         match self.multiples.take() {
             Some(multiples) => self.push_both(alloc, multiples, member),
             None => {
-                let is_long = is_long(&member, self.short);
+                let is_long = is_long(&member);
                 self.marked.push(member)?;
                 self.begin(alloc, is_long);
                 Ok(())

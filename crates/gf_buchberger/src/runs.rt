@@ -37,30 +37,17 @@ pub struct Run {
     pub guide: Guide,
 }
 
-/// As `SHORT`, of a run in narrow numbers.
-const MIXED_SHORT: u128 = 1 << 10;
-
 /// By which numbers polynomials are reduced.
 #[derive(Drop)]
 pub enum Numbers {
     /// By fractions of 128 bits.
     Narrow,
-    /// Once coefficients are long by whole numbers of 512 bits, and else by fractions of 128 bits. From then on no refusal is told but `Memory`, since
-    /// in fractions alone another operation may be refused first.
+    /// Once coefficients are long by whole numbers of 512 bits, and else by fractions of 128 bits. From then on `Memory` is told in place of an operation
+    /// that is refused, since in fractions alone another one may be refused first.
     Mixed,
     /// Once coefficients are long by whole numbers of 512 bits; else by fractions of 128 bits, and by those of 512 bits where they overflow, with the
     /// order in which terms are reduced then.
     Wide(Precedence),
-}
-
-impl Numbers {
-    /// The greatest numerator or denominator, by size, of a coefficient that isn't long.
-    fn short(&self) -> u128 {
-        match self {
-            Numbers::Mixed => MIXED_SHORT,
-            Numbers::Narrow | Numbers::Wide(_) => 1 << 10,
-        }
-    }
 }
 
 /// Why not all pairs are settled.
@@ -179,7 +166,7 @@ impl Run {
         ensures strategy { result.strategy ≡ strategy }
     {
         Run {
-            members: Members::new(alloc, ranking, numbers.short()),
+            members: Members::new(alloc, ranking),
             table: PairTable::new(alloc),
             queue: Queue::new(alloc),
             strategy,
@@ -190,7 +177,7 @@ impl Run {
         }
     }
 
-    /// Whether the run has gone over to whole numbers, and tells no refusal that another run tells.
+    /// Whether the run has gone over to whole numbers, and doesn't tell which operation is refused.
     pub fn is_silent(&self) -> bool {
         matches!(self.numbers, Numbers::Mixed) && self.members.have_begun()
     }
