@@ -11,7 +11,7 @@ use Rattle.std.proofs.lemmas.List.Elements.{All-append, All-contains, Contains-g
 use Rattle.gf_int_theory.proofs.ListLaws.{all_by, Contains-last, Contains-here}
 use Rattle.gf_vec.specs.Vector.{dot}
 use Rattle.gf_gordan.specs.Alternative.{AreRows}
-use Rattle.gf_duality_theory.proofs.ListLaws.{more, first_in, none_in, in_cons, in_tail}
+use Rattle.gf_duality_theory.proofs.ListLaws.{first_in, none_in, in_cons, in_tail}
 use Rattle.gf_fans_theory.specs.FaceLists.{numbered}
 use Rattle.gf_fans_theory.specs.Separating.{IsNowherePositive, IsCutOff, AreSeparating, AreSettled}
 use Rattle.gf_fans_theory.proofs.PartNumbers.{of_map, in_map}

@@ -6,19 +6,18 @@ use Rattle.std.specs.Int.{bit_at}
 use Rattle.std.specs.Int.RustNames.{bit_or}
 use Rattle.std.proofs.lemmas.Bool.{cases_eq}
 use Rattle.std.proofs.lemmas.List.{get_or_default, get_or-take, get_or-drop, length-take, length-drop, take_all, take_more}
-use Rattle.std.proofs.lemmas.List.Elements.{All-contains, All-push, All-take, All-drop, Contains-get_or, Contains-push}
+use Rattle.std.proofs.lemmas.List.Elements.{All-contains, All-push, All-take, All-drop, Contains-push}
 use Rattle.gf_int_theory.proofs.ListLaws.{all_by, Contains-last}
 use Rattle.gf_vec.specs.Vector.{dot}
 use Rattle.gf_gordan.specs.Alternative.{AreRows}
 use Rattle.gf_duality_theory.proofs.ListLaws.{first_in, none_in}
 use Rattle.gf_fans_theory.specs.FaceLists.{numbered}
-use Rattle.gf_fans_theory.specs.Separating.{IsNowherePositive}
 use Rattle.gf_fans_theory.proofs.PartNumbers.{of_map, in_map}
 use Rattle.gf_rays.specs.Cones.{RowsAndRays}
 use Rattle.gf_fan.specs.declared.bits.RowBits.{RowBits}
 use Rattle.gf_fan.specs.declared.words.ConeWords.{ConeWords}
 use Rattle.gf_fan.specs.Signs.{AreEach}
-use Rattle.gf_fan.specs.Bits.{AreBitsOfRow, IsLowOn}
+use Rattle.gf_fan.specs.Bits.{IsLowOn}
 use Rattle.gf_fan.specs.Words.{AreWordsOfRow, AreWordsOfRows, AreOwnWords, IsPlaceOf, ArePlacesOf, AreWordsOfCone, AreWordsOfFirst}
 use Rattle.gf_fan.specs.Words.{IsLowInWords, AreLowPlaces, IsCutIn, IsToldAt, AreToldByWords}
 use Rattle.gf_fan.proofs.SettledLaws.{HasSeparated}

@@ -1,5 +1,5 @@
 -- What is known of the rows of cones at any number of rays, in the bits of words, one word for each 128 rays.
-use Rattle.std.specs.Prelude.{◌≡◌, ◌≢◌, ◌⊎◌, ◌↔◌, ◌<◌, ◌+◌, ◌*◌, ◌/◌, ℕ, List, [], ℤ, All, Contains, length, take, drop, slice_index_or}
+use Rattle.std.specs.Prelude.{◌≡◌, ◌⊎◌, ◌↔◌, ◌<◌, ◌+◌, ◌*◌, ◌/◌, ℕ, List, [], ℤ, All, Contains, length, take, drop, slice_index_or}
 use Rattle.std.specs.Int.{bit_at}
 use Rattle.gf_rays.specs.Cones.{RowsAndRays}
 use Rattle.gf_fan.specs.declared.bits.RowBits.{RowBits}

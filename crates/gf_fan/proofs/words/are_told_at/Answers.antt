@@ -1,4 +1,4 @@
-use Rattle.std.proofs.Common.{◌≡◌, ◌<◌, ℕ, length, get_or, IsTrue, rules, arith, refl}
+use Rattle.std.proofs.Common.{◌<◌, ℕ, length, get_or, IsTrue, rules, arith, refl}
 use Rattle.std.proofs.lemmas.List.{get_or_default}
 use Rattle.gf_fan.proofs.WordLaws.{told_further}
 use Rattle.gf_fan.proofs.words.are_told_at.Goals as goal

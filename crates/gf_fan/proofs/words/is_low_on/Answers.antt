@@ -1,4 +1,4 @@
-use Rattle.std.proofs.Common.{◌≡◌, bit_and}
+use Rattle.std.proofs.Common.{bit_and}
 use Rattle.std.proofs.lemmas.Bool.{eqb-true}
 use Rattle.gf_fan.proofs.BitLaws.{none_common}
 use Rattle.gf_fan.proofs.words.is_low_on.Goals as goal

@@ -1,5 +1,4 @@
-use Rattle.std.proofs.Common.{◌≡◌, inl, inr, ap, sym}
-use Rattle.std.specs.Int.{bit_at}
+use Rattle.std.proofs.Common.{inl, inr}
 use Rattle.gf_fan.proofs.BitLaws.{differing, same_of_none}
 use Rattle.gf_fan.proofs.words.is_told_at.Goals as goal
 

@@ -1,4 +1,4 @@
-use Rattle.std.proofs.Common.{◌≡◌, ◌∙◌, ap, sym, subst, ℕ, List, ℤ, length}
+use Rattle.std.proofs.Common.{◌∙◌, sym, subst, ℕ, List, ℤ, length}
 use Rattle.gf_fan.specs.Words.{AreWordsOfRows, AreOwnWords, ArePlacesOf}
 use Rattle.gf_fan.proofs.WordLaws.{own_words_of}
 use Rattle.gf_fan.proofs.words.words_of_cone.Goals as goal

@@ -1,6 +1,6 @@
-use Rattle.std.proofs.Common.{refl, sym, subst, List}
+use Rattle.std.proofs.Common.{refl, subst, List}
 use Rattle.gf_fan.specs.declared.bits.RowBits.{RowBits}
-use Rattle.gf_fan.specs.Words.{AreWordsOfRows, AreWordsOfCone}
+use Rattle.gf_fan.specs.Words.{AreWordsOfCone}
 use Rattle.gf_fan.proofs.NumberLaws.{rays_there}
 use Rattle.gf_fan.proofs.WordLaws.{cone_words_more, first_words}
 use Rattle.gf_fan.proofs.words.words_of_cones.Goals as goal
