@@ -13,11 +13,11 @@ use std::alloc::{AllocError, Global};
 /// The maximal cone with a number, counted from 0.
 pub(crate) fn maximal_cone(fan: &Fan, i: usize) -> &Rays
     requires { i < length fan.now.maximal }
-    ensures value { result.now ≡ (slice_index_or (maximal_of fan.now) i no_cone).cone }
+    ensures rows { rows_of result.now ≡ rows_of (slice_index_or (maximal_of fan.now) i no_cone).cone }
     ensures ambient { result.now.ambient ≡ fan.now.ambient }
 {
-    let place = fan.maximal()[i] as usize;
-    &fan.cones()[place].cone
+    fan.cones();
+    fan.maximal_cone(i)
 }
 
 /// The number of the first maximal cone of a fan that holds a cone and that none holds itself, as `held` tells.

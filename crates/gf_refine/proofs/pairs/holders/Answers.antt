@@ -10,7 +10,7 @@ loop-i-init c = rw c.in_ok-out.ensures.items (holders_none c.args.other.now.ambi
 
 pub loop-i-preserved : goal.loop-i-preserved
 loop-i-preserved c = holders_more c.args.other.now.ambient (maximal_of c.args.fan.now) (maximal_of c.args.other.now) c.args.held.now c.loop-i.i
-    (rows_of c.maximal_cone.result.now) c.holder.result c.loop-i.out.items _ (ap rows_of c.maximal_cone.ensures.value)
+    (rows_of c.maximal_cone.result.now) c.holder.result c.loop-i.out.items _ c.maximal_cone.ensures.rows
     c.in_ok-push.ensures.items c.holder.ensures c.loop-i.invariant
 
 pub returns : goal.returns
