@@ -1,5 +1,5 @@
 -- What is written of a fan is read off it.
--- To cite: listed_more, interiors_more, writing_step, interior_value, maximal_inside, parts_same. The rest are steps.
+-- To cite: listed_more, interiors_more, writing_step, interior_value, maximal_inside, maximal_read, parts_same. The rest are steps.
 use Rattle.std.specs.Prelude.{◌≡◌, ℕ, ◌+◌, ◌<◌, List, [], ◌∷◌, ◌++◌, length, take, get_or, slice_get, slice_index_or, All, Contains, ℤ, Option, Some}
 use Rattle.std.proofs.Common.{refl, sym, ap, ◌∙◌, subst, inl, inr}
 use Rattle.std.proofs.lemmas.List.{take_more, get_or_default, length-map, map-append}
@@ -18,6 +18,8 @@ use Rattle.gf_rays.specs.Sums.{adding_steps}
 use Rattle.gf_fan.specs.declared.cones.FanCone.{FanCone}
 use Rattle.gf_fan.specs.FanLists.{FanLists}
 use Rattle.gf_fan.specs.FansOfCones.{IsFan}
+use Rattle.gf_fan.specs.MaximalCones.{no_cone, maximal_of}
+use Rattle.gf_fan.proofs.WholeLaws.{maximal_at}
 use Rattle.gf_fan_files.specs.declared.parts.ListedCone.{ListedCone}
 use Rattle.gf_fan_files.specs.FanWords.{FanWords}
 use Rattle.gf_fan_files.specs.FanTexts.{listed_cone, listed_cones, one_listed, listed_at, interiors_of, parts_of_fan, IsWritingStep}
@@ -99,6 +101,13 @@ maximal_inside f places cones h p c =
         let i = slice_index_or f.maximal k d in
         let m = h.1.maximal.each i (k, l, get_or_default f.maximal k i d l) in
         subst (λ n. i < n) (length-map f.cones (λ (x : FanCone). x.numbers)) m.inside
+
+-- the maximal cone with a number stands there
+pub maximal_read : (f : FanLists) (places : List ℕ) (i : ℕ) → places ≡ f.maximal → i < length places → get_or places i 0 < length f.cones →
+    get_or (maximal_of f) i no_cone ≡ get_or f.cones (get_or places i 0) (get_or (maximal_of f) i no_cone)
+maximal_read f places i p h inside =
+    maximal_at f i (subst (λ (z : List ℕ). i < length z) p h) ∙ ap (λ (z : List ℕ). get_or f.cones (get_or z i 0) no_cone) (sym p) ∙
+    get_or_default f.cones (get_or places i 0) no_cone (get_or (maximal_of f) i no_cone) inside
 
 -- its parts
 abbrev pub words_from : ℕ → List (List ℤ) → List (List ℤ) → List (List ℤ) → List ListedCone → List ListedCone → List (List ℤ) → FanWords

@@ -1,9 +1,10 @@
 //! The text of a fan.
-ghost use Rattle.std.specs.Prelude.{◌≡◌, ◌<◌, length, All, IfOk, IfErr};
+ghost use Rattle.std.specs.Prelude.{◌≡◌, ◌<◌, length, All, IfOk, IfErr, slice_index_or};
 ghost use Rattle.gf_vec.specs.Vector.{zeros};
 ghost use Rattle.gf_vec.specs.Steps.{IsFirstWide, IfWide};
 ghost use Rattle.gf_duality_theory.specs.Faces.{sum_of};
 ghost use Rattle.gf_rays.specs.Sums.{adding_steps};
+ghost use Rattle.gf_fan.specs.MaximalCones.{no_cone, maximal_of};
 ghost use Rattle.gf_fan_files.specs.FanWords.{fan_text};
 ghost use Rattle.gf_fan_files.specs.FanTexts.{listed_cone, listed_cones, listed_at, interiors_of, parts_of_fan, IsWritingStep, AreSumsWithin};
 
@@ -66,12 +67,14 @@ fn listed_at(
     Ok(out)
 }
 
-/// The sum of the rays of a cone.
-fn interior_of(cone: &FanCone) -> Result<IntVec, VecError>
-    ensures ok { IfOk result (λ v. v ≡ sum_of cone.now.cone.ambient cone.now.cone.rays) }
-    ensures wide { IfErr result (IfWide (λ w. IsFirstWide w (adding_steps (zeros cone.now.cone.ambient) cone.now.cone.rays))) }
+/// The sum of the rays of the maximal cone with a number, counted from 0.
+fn interior_of(fan: &Fan, i: usize) -> Result<IntVec, VecError>
+    requires { i < length fan.now.maximal }
+    ensures ok { let cone = (slice_index_or (maximal_of fan.now) i no_cone).cone in IfOk result (λ v. v ≡ sum_of cone.ambient cone.rays) }
+    ensures wide { let cone = (slice_index_or (maximal_of fan.now) i no_cone).cone in
+        IfErr result (IfWide (λ w. IsFirstWide w (adding_steps (zeros cone.ambient) cone.rays))) }
 {
-    cone.cone.interior()
+    fan.maximal_cone(i).interior()
 }
 
 /// The sums of the rays of the maximal cones.
@@ -82,11 +85,11 @@ fn interiors(alloc: Global, fan: &Fan) -> Result<Vec<IntVec>, VecError>
     ensures ok { IfOk result (λ out. out.items ≡ interiors_of fan.now.ambient fan.now.rays (listed_at fan.now.cones fan.now.maximal)) }
     ensures wide { IfErr result (IfWide (IsWritingStep fan.now)) }
 {
-    let cones = fan.cones();
+    fan.cones();
     let places = fan.maximal();
     let mut out = Vec::with_capacity(alloc, places.len())?;
-    'places: for place in places {
-        let sum = interior_of(&cones[*place as usize])?;
+    'places: for i in 0..places.len() {
+        let sum = interior_of(fan, i)?;
         out.push(sum)?;
     }
     Ok(out)
