@@ -21,8 +21,8 @@ fn maximal_cone(fan: &Fan, i: usize) -> &Rays
     ensures value { rows_of result.now ≡ slice_index_or (maximal_rows fan.now) i (rows_of result.now) }
     ensures ambient { result.now.ambient ≡ fan.now.ambient }
 {
-    let place = fan.maximal()[i] as usize;
-    &fan.cones()[place].cone
+    fan.cones();
+    fan.maximal_cone(i)
 }
 
 /// The first vector that fails of the maximal cones of a fan and the closed cone of a basis, which is given; none if each passes. Initial
