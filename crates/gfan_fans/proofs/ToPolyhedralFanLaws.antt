@@ -34,7 +34,7 @@ use Rattle.gf_frame.proofs.ReadingLaws.{one_once, of_one_text}
 use Rattle.gf_frame.proofs.SoundLaws.{IsExactCommand, IsTestedCommand}
 use Rattle.gfan_common.specs.CheckedSets.{of_check}
 use Rattle.gfan_common.specs.Causes.{of_gordan}
-use Rattle.gfan_common.specs.ReducedSets.{IsReducedAsRead, IsRefusedFrom}
+use Rattle.gfan_common.specs.ReducedSets.{AreReducedAsRead, IsRefusedFrom}
 use Rattle.gf_fan_files.specs.FanTexts.{IsFanText}
 use Rattle.gf_fan_files.proofs.FanOnceLaws.{first_place, second_place}
 use Rattle.gfan_fans.specs.FanTexts.{of_fan, IsNoFanText}
@@ -44,7 +44,7 @@ use Rattle.gfan_common.specs.Refused.{IsNamedBy}
 use Rattle.gfan_common.proofs.ReadSetLaws.{IsSetKept}
 use Rattle.gfan_common.proofs.CheckedSetLaws.{check_work, check_not_listed}
 use Rattle.gfan_common.proofs.ZipLaws.{zip_back}
-use Rattle.gfan_common.proofs.ReducedListLaws.{all_reduced, refused_named, refused_within, check_kind, refused_once, refused_refutes, list_read}
+use Rattle.gfan_common.proofs.ReducedListLaws.{refused_named, refused_within, check_kind, refused_once, refused_refutes, list_read}
 use Rattle.gfan_fans.proofs.FanTextLaws.{meeting_refutes, text_within, text_work, text_not_listed, text_named}
 
 -- ---- how it is found
@@ -68,18 +68,18 @@ pub set_no_fan : (cut : Bool) (n : ℕ) (sets : List MarkedPolynomials) (e : Che
 set_no_fan cut n sets e r (inl h) q = IsNoFanOfSets.at_set e h q
 set_no_fan cut n sets e r (inr m) q = IsNoFanOfSets.no_memory (q ∙ ap of_check m)
 
-pub cone_no_fan : (cut : Bool) (n : ℕ) (sets bases : List MarkedPolynomials) (e : GordanError) (r : Refusal) → AllZip IsReducedAsRead sets bases →
+pub cone_no_fan : (cut : Bool) (n : ℕ) (sets : List MarkedPolynomials) (e : GordanError) (r : Refusal) → AreReducedAsRead sets →
     Failed (IsConeStepOfSets cut sets) e → r ≡ of_gordan e → IsNoFanOfSets cut n sets r
-cone_no_fan cut n sets bases (gordan_errors.Cone o) r a h q = IsNoFanOfSets.at_cone o (all_reduced sets bases a) h q
-cone_no_fan cut n sets bases gordan_errors.Memory r a h q = IsNoFanOfSets.no_memory q
+cone_no_fan cut n sets (gordan_errors.Cone o) r a h q = IsNoFanOfSets.at_cone o a h q
+cone_no_fan cut n sets gordan_errors.Memory r a h q = IsNoFanOfSets.no_memory q
 
-pub fan_no_fan : (cut : Bool) (n : ℕ) (sets bases : List MarkedPolynomials) (cones : List RowsAndRays) (r : Refusal) → AllZip IsReducedAsRead sets bases →
+pub fan_no_fan : (cut : Bool) (n : ℕ) (sets : List MarkedPolynomials) (cones : List RowsAndRays) (r : Refusal) → AreReducedAsRead sets →
     AllZip (IsConeOfSet cut) sets cones → IsNoFanText n cones r → IsNoFanOfSets cut n sets r
-fan_no_fan cut n sets bases cones r a z h = IsNoFanOfSets.at_fan cones (all_reduced sets bases a) z h
+fan_no_fan cut n sets cones r a z h = IsNoFanOfSets.at_fan cones a z h
 
-pub fan_told : (cut : Bool) (n : ℕ) (sets bases : List MarkedPolynomials) (cones : List RowsAndRays) (text : List ℕ) → AllZip IsReducedAsRead sets bases →
+pub fan_told : (cut : Bool) (n : ℕ) (sets : List MarkedPolynomials) (cones : List RowsAndRays) (text : List ℕ) → AreReducedAsRead sets →
     AllZip (IsConeOfSet cut) sets cones → IsFanText n cones text → IsFanOfSetsText cut n sets text
-fan_told cut n sets bases cones text a z h = record { reduced = all_reduced sets bases a; cones = cones; are_cones = z; fan = h }
+fan_told cut n sets cones text a z h = record { reduced = a; cones = cones; are_cones = z; fan = h }
 
 -- ---- from a source on
 

@@ -1,10 +1,11 @@
 //! The output of `_topolyhedralfan` for an input.
-ghost use Rattle.std.specs.Prelude.{◌≡◌, ◌≤◌, [], All, IfOk, IfErr, ◌∷◌};
+ghost use Rattle.std.specs.Prelude.{◌≡◌, ◌⊎◌, ◌≤◌, ℕ, [], All, IfOk, IfErr, OnOk, ◌∷◌};
 ghost use Rattle.std.specs.List.{AllZip};
 ghost use Rattle.gf_gordan.specs.Steps.{Failed};
 ghost use Rattle.gf_text.specs.declared.TheConstants.{MOST_VARIABLES};
 ghost use Rattle.gf_frame.specs.Commands.{IsAnswered, IsRefusedOn};
 ghost use Rattle.gfan_common.specs.Refused.{IsOfSource};
+ghost use Rattle.gfan_common.specs.ReducedSets.{AreReducedAsRead, IsRefusedFrom};
 ghost use Rattle.gfan_fans.specs.ToPolyhedralFan.{IsConeOfSet, IsConeStepOfSet, IsConeStepOfSets, IsFanOfSetsText, IsNoFanOfSets, to_polyhedral_fan_command};
 
 use crate::fan_text::fan_text;
@@ -14,6 +15,7 @@ use gf_gordan::GordanError;
 use gf_items::{RingAndMarkedSets, ring_and_marked_sets};
 use gf_poly::MarkedSet;
 use gf_rays::Rays;
+use gf_reduced::CheckError;
 use gfan_common::reduced_sets::reduced_bases;
 use gfan_common::refused::{Refused, of_check, of_gordan};
 use std::alloc::Global;
@@ -46,22 +48,42 @@ fn cones_of(alloc: Global, sets: &[MarkedSet], cut: bool) -> Result<Vec<Rays>, G
     Ok(cones)
 }
 
-/// The text of the fan of the cones of marked sets in `n` variables, each of which is a reduced basis: first all sets are checked.
-fn fan_of_sets(alloc: Global, n: u32, sets: &[MarkedSet], cut: bool) -> Result<Vec<u8>, Refusal>
-    requires few { n ≤ MOST_VARIABLES }
-    requires variables { All (λ s. s.variables ≡ n) sets.now }
-    ensures ok { IfOk result (λ text. IsFanOfSetsText cut n sets.now text.items) }
-    ensures err { IfErr result (IsNoFanOfSets cut n sets.now) }
+/// Refuses marked sets of which one isn't a reduced basis. The bases aren't kept.
+fn require_bases(alloc: Global, sets: &[MarkedSet]) -> Result<(), CheckError>
+    ensures ok { OnOk result (AreReducedAsRead sets.now) }
+    ensures err { IfErr result (λ e. IsRefusedFrom 0 sets.now e ⊎ (e ≡ CheckError.Memory)) }
 {
-    // The cones are those of the sets as they stand.
-    let _bases = match reduced_bases(alloc, sets) {
-        Ok(bases) => bases,
+    match reduced_bases(alloc, sets) {
+        Ok(_bases) => Ok(()),
+        Err(error) => Err(error),
+    }
+}
+
+/// The closed cones of marked sets, each of which is a reduced basis: first all sets are checked. The cones are those of the sets as they
+/// stand, and the sets aren't kept.
+fn cones_of_bases(alloc: Global, sets: Vec<MarkedSet>, cut: bool) -> Result<Vec<Rays>, Refusal>
+    ensures reduced { IfOk result (λ _. AreReducedAsRead sets.items) }
+    ensures cones { IfOk result (λ cones. AllZip (IsConeOfSet cut) sets.items cones.items) }
+    ensures err { (n : ℕ) → IfErr result (IsNoFanOfSets cut n sets.items) }
+{
+    match require_bases(alloc, sets.as_slice()) {
+        Ok(()) => {}
         Err(error) => return Err(of_check(error)),
-    };
-    let cones = match cones_of(alloc, sets, cut) {
-        Ok(cones) => cones,
-        Err(error) => return Err(of_gordan(error)),
-    };
+    }
+    match cones_of(alloc, sets.as_slice(), cut) {
+        Ok(cones) => Ok(cones),
+        Err(error) => Err(of_gordan(error)),
+    }
+}
+
+/// The text of the fan of the cones of marked sets in `n` variables, each of which is a reduced basis.
+fn fan_of_sets(alloc: Global, n: u32, sets: Vec<MarkedSet>, cut: bool) -> Result<Vec<u8>, Refusal>
+    requires few { n ≤ MOST_VARIABLES }
+    requires variables { All (λ s. s.variables ≡ n) sets.items }
+    ensures ok { IfOk result (λ text. IsFanOfSetsText cut n sets.items text.items) }
+    ensures err { IfErr result (IsNoFanOfSets cut n sets.items) }
+{
+    let cones = cones_of_bases(alloc, sets, cut)?;
     let text = fan_text(alloc, n, cones)?;
     Ok(text)
 }
@@ -96,7 +118,7 @@ pub fn answer(
     ensures told { IfErr result (IsOfSource source.now) }
 {
     let RingAndMarkedSets { ring, sets } = ring_and_marked_sets(alloc, source)?;
-    match fan_of_sets(alloc, ring.len(), &sets, options.restrict) {
+    match fan_of_sets(alloc, ring.len(), sets, options.restrict) {
         Ok(text) => Ok(text),
         Err(refusal) => Err(Refused {
             refusal,

@@ -1,4 +1,4 @@
-use Rattle.std.proofs.Common.{[], List, ℕ, All, length, ◌≡◌, refl, sym, subst}
+use Rattle.std.proofs.Common.{[], ℕ, All, ◌≡◌, refl, sym, subst}
 use Rattle.std.proofs.lemmas.Result.{err_from_is_err_and}
 use Rattle.gf_poly.specs.Marking.{MarkedPolynomials}
 use Rattle.gf_items.specs.Kinds.{marked_set_list}
@@ -20,25 +20,24 @@ returns-in_err-ring-clause-told c =
 
 pub fan_of_sets-requires-clause-variables : goal.fan_of_sets-requires-clause-variables
 fan_of_sets-requires-clause-variables c =
-    subst (λ (k : ℕ). All (λ (s : MarkedPolynomials). s.variables ≡ k) c.deref.result.now) (sym c.len.ensures.value)
-    (subst (λ (ss : List MarkedPolynomials). All (λ (s : MarkedPolynomials). s.variables ≡ length c.in_ok-ring.field-0.ring) ss) (sym c.deref.ensures.value)
-    c.in_ok-ring.ensures.variables)
+    subst (λ (k : ℕ). All (λ (s : MarkedPolynomials). s.variables ≡ k) c.in_ok-ring.field-0.sets.items) (sym c.len.ensures.value)
+    c.in_ok-ring.ensures.variables
 
 pub returns-in-Ok-clause-ok : goal.returns-in-Ok-clause-ok
 returns-in-Ok-clause-ok c =
     let read = c.in_ok-ring.field-0 in
-    fan_answered c.args.options c.args.source.now c.in-Ok.text.items read.ring read.sets.items c.deref.result.now c.len.result c.in_ok-ring.ensures.ok
-    c.len.ensures.value c.deref.ensures.value c.in-Ok.ensures.ok
+    fan_answered c.args.options c.args.source.now c.in-Ok.text.items read.ring read.sets.items read.sets.items c.len.result c.in_ok-ring.ensures.ok
+    c.len.ensures.value refl c.in-Ok.ensures.ok
 
 pub returns-in-Err-clause-err : goal.returns-in-Err-clause-err
 returns-in-Err-clause-err c =
     let read = c.in_ok-ring.field-0 in
-    no_fan_refused c.args.options c.args.source.now c.in-Err.refusal read.ring read.sets.items c.deref.result.now c.len.result c.in_ok-ring.ensures.ok
-    c.len.ensures.value c.deref.ensures.value c.in-Err.ensures.err
+    no_fan_refused c.args.options c.args.source.now c.in-Err.refusal read.ring read.sets.items read.sets.items c.len.result c.in_ok-ring.ensures.ok
+    c.len.ensures.value refl c.in-Err.ensures.err
 
 pub returns-in-Err-clause-told : goal.returns-in-Err-clause-told
 returns-in-Err-clause-told c =
     let read = c.in_ok-ring.field-0 in
     of_this_ring marked_set_list [] c.args.source.now read.ring read.sets.items _ c.in-Err.refusal c.in_ok-ring.ensures.ok refl refl
-    (no_fan_named c.args.options.restrict c.args.source.now c.in-Err.refusal read.ring read.sets.items c.deref.result.now c.len.result c.in_ok-ring.ensures.ok
-    c.len.ensures.value c.deref.ensures.value c.in-Err.ensures.err)
+    (no_fan_named c.args.options.restrict c.args.source.now c.in-Err.refusal read.ring read.sets.items read.sets.items c.len.result c.in_ok-ring.ensures.ok
+    c.len.ensures.value refl c.in-Err.ensures.err)
