@@ -76,7 +76,7 @@ module _ {T N L E : Type 0} (lt : L → L → Type 0) (up : T → N → L → N 
 
   pub worked_more : (k n j i q m free : ℕ) (all slots rest : List (Slot T N L E)) (s : Slot T N L E) (dones more : List (List (Piece T N L E))) (row : List
       (Piece T N L E)) → slots ≡ s ∷ rest → more ≡ dones ++ row ∷ [] → ExpandsOn lt up refuses j i s.row.items q m row →
-      length row + m ≤ length s.row.items + i → free ≡ min m 32 → GoesOn k n all dones j i slots → GoesOn k n all more q free rest
+      length row + m ≤ length s.row.items + i → free ≡ min m 56 → GoesOn k n all dones j i slots → GoesOn k n all more q free rest
   worked_more k n j i q m free all slots rest s dones more row e f h few less goes = λ rows a.
       subst (AreExpanded lt up refuses k n all) (sym (ap (λ x. x ++ rows) f ∙ append_assoc dones (row ∷ []) rows))
       (goes (row ∷ rows) (subst (λ x. AreExpanded lt up refuses j i x (row ∷ rows)) (sym e) (

@@ -245,10 +245,10 @@ module _ {T N L E : Type 0} (lt : L → L → Type 0) (up : T → N → L → N 
           let i = e.1 in
           let few = e.3 in
           let news = gather m (piles ++ rows ∷ []) in
-          let k = go (bs ++ (j, min i 32) ∷ []) (hands ++ rest ∷ []) (piles ++ rows ∷ []) d (hands_worked_more bs hands piles (j, min i 32) rest rows a e.4) in
+          let k = go (bs ++ (j, min i 56) ∷ []) (hands ++ rest ∷ []) (piles ++ rows ∷ []) d (hands_worked_more bs hands piles (j, min i 56) rest rows a e.4) in
           let whole = append_assoc row news tail in
           let bound = k.1 in
-          let sum = total_more bs (j, min i 32) in
+          let sum = total_more bs (j, min i 56) in
           let cut = cut_length 8 1 olds in
           let slot = ap length p.4 in
           let long = ap length whole in
@@ -278,15 +278,15 @@ module _ {T N L E : Type 0} (lt : L → L → Type 0) (up : T → N → L → N 
       (z zero j (omega arith), worked_hands times room js ds (omega (arith, e)) (λ i x h. z (suc i) x (omega (arith, h))))
 
   -- a row that is cut up into places, dealt out, worked on by job and put together again
-  pub wave_of : (due times room m : ℕ) (olds tail : List (Piece T N L E)) (slots : List (Slot T N L E)) (js ds : List (Job T N L E)) (n : ℕ) → m ≡ due * 16 →
+  pub wave_of : (due times room m : ℕ) (olds tail : List (Piece T N L E)) (slots : List (Slot T N L E)) (js ds : List (Job T N L E)) (n : ℕ) → m ≡ due * 12 →
       IsPlanned m olds slots tail → IsDealt slots (hands_of js) → length js ≡ n → n ≡ due → length ds ≡ length js →
       ((i : ℕ) (d : Job T N L E) → i < length js → IsWorked lt up refuses times room (get_or js i d) (get_or ds i d)) →
-      IsWaved lt up refuses (due * 16) (replicate due (times, room)) olds (gather (due * 16) (piles_of ds) ++ tail) ×
-      (length (gather (due * 16) (piles_of ds) ++ tail) ≤ length olds + due * room)
+      IsWaved lt up refuses (due * 12) (replicate due (times, room)) olds (gather (due * 12) (piles_of ds) ++ tail) ×
+      (length (gather (due * 12) (piles_of ds) ++ tail) ≤ length olds + due * room)
   wave_of due times room m olds tail slots js ds n e planned dealt long count same each =
       let worked = subst (λ x. AreHandsWorked (replicate x (times, room)) (hands_of js) (piles_of ds))
       (long ∙ count) (worked_hands times room js ds same each) in
-      let k = waved_dealt (due * 16) olds tail slots (replicate due (times, room)) (hands_of js) (piles_of ds)
+      let k = waved_dealt (due * 12) olds tail slots (replicate due (times, room)) (hands_of js) (piles_of ds)
       (subst (λ x. IsPlanned x olds slots tail) e planned) dealt worked in
       let bound = k.1 in
       let sum = total_even due times room in

@@ -80,7 +80,7 @@ module _ {T N L E : Type 0} (lt : L → L → Type 0) (up : T → N → L → N 
   waved_refusals (suc m) [] olds news h a = absurd h
   waved_refusals (suc m) (b ∷ jobs) olds news h a =
       subst (AreRefusals refuses) (sym h.4) (refusals_both h.0 h.1 (on_refusals b.0 b.1 (first_job 8 1 olds) h.2 h.3 h.0 h.5 (first_refusals 8 1 olds))
-      (waved_refusals m (jobs ++ (h.2, min h.3 32) ∷ []) (behind_job 8 1 olds) h.1 h.6 (behind_refusals 8 1 olds a)))
+      (waved_refusals m (jobs ++ (h.2, min h.3 56) ∷ []) (behind_job 8 1 olds) h.1 h.6 (behind_refusals 8 1 olds a)))
 
   -- ---- an answer
 

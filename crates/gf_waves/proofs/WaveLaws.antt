@@ -77,7 +77,7 @@ module _ {T N L E : Type 0} (lt : L → L → Type 0) (up : T → N → L → N 
       let k = cut_leaves (IsLeftAt lt up) 8 1 olds nodes l in
       subst (λ r. PiecesLeave (IsLeftAt lt up) r nodes) (sym h.4) (subst (PiecesLeave (IsLeftAt lt up) (h.0 ++ h.1)) (sym k.2)
       (leave_both (IsLeftAt lt up) h.0 h.1 k.0 k.1 (on_leaves b.0 b.1 (first_job 8 1 olds) h.2 h.3 h.0 h.5 k.0 k.3)
-      (waved_leaves m (jobs ++ (h.2, min h.3 32) ∷ []) (behind_job 8 1 olds) h.1 h.6 k.1 k.4)))
+      (waved_leaves m (jobs ++ (h.2, min h.3 56) ∷ []) (behind_job 8 1 olds) h.1 h.6 k.1 k.4)))
 
 -- ---- an answer
 
@@ -129,6 +129,6 @@ module _ {T N L E : Type 0} (lt : L → L → Type 0) (up : T → N → L → N 
   pub readied_leaves : (workers jobs next : ℕ) (olds worked : List (Piece T N L E)) → IsReadied lt up refuses workers jobs olds next worked → (nodes : List N) →
       PiecesLeave (IsLeftAt lt up) olds nodes → PiecesLeave (IsLeftAt lt up) worked nodes
   readied_leaves workers jobs next olds worked (inl h) nodes l =
-      waved_leaves lt up strict trees refuses (due_at workers olds * 16) (replicate (due_at workers olds) (times_at jobs, room_at workers olds))
+      waved_leaves lt up strict trees refuses (due_at workers olds * 12) (replicate (due_at workers olds) (times_at jobs, room_at workers olds))
       olds worked h.3 nodes l
   readied_leaves workers jobs next olds worked (inr h) nodes l = subst (λ r. PiecesLeave (IsLeftAt lt up) r nodes) (sym h.2) l

@@ -63,14 +63,14 @@ most_pieces workers = (workers + 1) * 128
 abbrev pub due_at : {T N L E : Type 0} → ℕ → List (Piece T N L E) → ℕ
 due_at workers ps = min (min workers ((most_pieces workers - length ps) / 4)) (length ps - count_by is_ready ps)
 
--- a job may add so many pieces: 32, and no more than its share of the places
+-- a job may add so many pieces: 56, and no more than its share of the places
 abbrev pub room_at : {T N L E : Type 0} → ℕ → List (Piece T N L E) → ℕ
-room_at workers ps = min 32 ((most_pieces workers - length ps) / due_at workers ps)
+room_at workers ps = min 56 ((most_pieces workers - length ps) / due_at workers ps)
 
--- how often a job expands at most: 64 times; and the first jobs no more often than there were jobs before, and once, so that there is soon work
--- for all
+-- how often a job expands at most: eight times, and sixteen times for each job before, of which 16 count at most; so the first jobs are short, and
+-- there is soon work for all
 abbrev pub times_at : ℕ → ℕ
-times_at jobs = min (jobs + 1) 64
+times_at jobs = min jobs 16 * 16 + 8
 
 -- at its last value a job's number stays
 abbrev pub job_number : ℕ → ℕ

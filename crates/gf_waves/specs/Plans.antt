@@ -15,7 +15,7 @@ use Rattle.gf_waves.specs.Wave.{ExpandsOn, IsExpansion}
 
 -- the place has no pieces yet, and room for those that it may have
 abbrev pub IsSpare : {T N L E : Type 0} → Slot T N L E → Type 0
-IsSpare s = (s.row.items ≡ []) × (40 ≤ deque_capacity s.row)
+IsSpare s = (s.row.items ≡ []) × (64 ≤ deque_capacity s.row)
 
 -- each of them
 abbrev pub AreSpare : {T N L E : Type 0} → List (Slot T N L E) → Type 0
@@ -24,7 +24,7 @@ AreSpare (s ∷ ss) = IsSpare s × AreSpare ss
 
 -- the place has at most eight pieces, and room for all that they may become
 abbrev pub IsFit : {T N L E : Type 0} → Slot T N L E → Type 0
-IsFit s = (length s.row.items ≤ 8) × (40 ≤ deque_capacity s.row)
+IsFit s = (length s.row.items ≤ 8) × (64 ≤ deque_capacity s.row)
 
 -- each of them
 abbrev pub AreFit : {T N L E : Type 0} → List (Slot T N L E) → Type 0
@@ -42,7 +42,7 @@ IsPlanned {T} {N} {L} {E} (suc m) olds slots tail =
 
 -- a row without pieces, which has room for those of a place
 abbrev pub IsSpareRow : {P : Type 0} → List P → ℕ → Type 0
-IsSpareRow pieces capacity = (pieces ≡ []) × (40 ≤ capacity)
+IsSpareRow pieces capacity = (pieces ≡ []) × (64 ≤ capacity)
 
 -- the jobs have no places yet, and room for so many
 abbrev pub AreFreeJobs : {T N L E : Type 0} → ℕ → List (Job T N L E) → Type 0
@@ -80,14 +80,14 @@ IsOn {T} {N} {L} {E} lt up refuses left room dones olds less fewer more rest =
     (first : List (Piece T N L E)) × (more ≡ dones ++ first) × ((j i : ℕ) (news : List (Piece T N L E)) → ExpandsOn lt up refuses less fewer rest j i news →
     ExpandsOn lt up refuses left room olds j i (first ++ news))
 
--- a job's places are worked on, one after another, with what the ones before have left, room for 32 pieces at most; and none grows by more
+-- a job's places are worked on, one after another, with what the ones before have left, room for 56 pieces at most; and none grows by more
 -- than it uses up
 abbrev pub AreExpanded : {T N L E : Type 0} → (L → L → Type 0) → (T → N → L → N → Type 0) → (Place T N L → E → Type 0) → ℕ → ℕ → List (Slot T N L E) →
     List (List (Piece T N L E)) → Type 0
 AreExpanded lt up refuses k n [] rows = rows ≡ []
 AreExpanded lt up refuses k n (s ∷ ss) [] = ⊥
 AreExpanded lt up refuses k n (s ∷ ss) (row ∷ rows) =
-    (j : ℕ) × (i : ℕ) × ExpandsOn lt up refuses k n s.row.items j i row × (length row + i ≤ length s.row.items + n) × AreExpanded lt up refuses j (min i 32)
+    (j : ℕ) × (i : ℕ) × ExpandsOn lt up refuses k n s.row.items j i row × (length row + i ≤ length s.row.items + n) × AreExpanded lt up refuses j (min i 56)
     ss rows
 
 -- the job has places that are to be worked on, and room for what they become

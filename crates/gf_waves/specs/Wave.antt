@@ -37,7 +37,7 @@ ExpandsOn lt up refuses (suc k) (suc (suc n)) (Refused w e ∷ ps) j i news = (n
 -- ---- a wave
 
 -- so many places, each with the next walker of the row and the nodes before it, at most eight pieces, are dealt out to jobs in turn: the job whose
--- turn it is goes on there with the expansions and the room that it has left, for 32 pieces at most (`jobs`, the next one in front). The
+-- turn it is goes on there with the expansions and the room that it has left, for 56 pieces at most (`jobs`, the next one in front). The
 -- other pieces stay
 abbrev pub IsWaved : {T N L E : Type 0} → (L → L → Type 0) → (T → N → L → N → Type 0) → (Place T N L → E → Type 0) → ℕ → List (ℕ × ℕ) → List (Piece T N L E) →
     List (Piece T N L E) → Type 0
@@ -45,7 +45,7 @@ IsWaved lt up refuses zero jobs olds news = news ≡ olds
 IsWaved lt up refuses (suc m) [] olds news = ⊥
 IsWaved {T} {N} {L} {E} lt up refuses (suc m) (b ∷ jobs) olds news =
     (front : List (Piece T N L E)) × (rest : List (Piece T N L E)) × (j : ℕ) × (i : ℕ) × (news ≡ front ++ rest) × ExpandsOn lt up refuses b.0 b.1
-    (first_job 8 1 olds) j i front × IsWaved lt up refuses m (jobs ++ (j, min i 32) ∷ []) (behind_job 8 1 olds) rest
+    (first_job 8 1 olds) j i front × IsWaved lt up refuses m (jobs ++ (j, min i 56) ∷ []) (behind_job 8 1 olds) rest
 
 -- a node is ready in front, or nothing is left
 abbrev pub is_served : {T N L E : Type 0} → List (Piece T N L E) → Bool
@@ -79,7 +79,7 @@ abbrev pub IsReadied : {T N L E : Type 0} → (L → L → Type 0) → (T → N 
 IsReadied lt up refuses workers jobs olds next news =
     let due = due_at workers olds in
     ((is_served olds ≡ false) × (0 < due) × (next ≡ job_number (jobs + due)) × IsWaved lt up refuses
-    (due * 16) (replicate due (times_at jobs, room_at workers olds)) olds news)
+    (due * 12) (replicate due (times_at jobs, room_at workers olds)) olds news)
     ⊎ (((is_served olds ≡ true) ⊎ (due ≡ 0)) × (next ≡ jobs) × (news ≡ olds))
 
 -- what is left is worked off, and the answer is taken out of that; or there was no memory for a wave, and nothing is done

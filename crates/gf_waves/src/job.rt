@@ -58,10 +58,10 @@ fn step<T: ReusingTree>(
 ) -> usize
     requires some { 0 < left }
     requires piece { 0 < length row.old.items }
-    requires limit { limit ≤ 40 }
+    requires limit { limit ≤ 64 }
     requires few { length done.old.items + length row.old.items + 1 < limit }
-    requires room { 40 ≤ deque_capacity row.old }
-    requires room_for_done { 40 ≤ deque_capacity done.old }
+    requires room { 64 ≤ deque_capacity row.old }
+    requires room_for_done { 64 ≤ deque_capacity done.old }
     ensures on { IsOn T.before T.up (RefusesAt T.up T.refuses) left (limit - (length done.old.items + length row.old.items)) done.old.items row.old.items result
         (limit - (length done.new.items + length row.new.items)) done.new.items row.new.items }
     ensures falls { 3 * result + length row.new.items < 3 * left + length row.old.items }
@@ -98,7 +98,7 @@ fn expand_on<T: ReusingTree>(
 ) -> (VecDeque<Piece<T>>, usize, usize, VecDeque<Piece<T>>)
     requires fit { IsFit slot }
     requires spare { IsSpareRow done.items (deque_capacity done) }
-    requires few_more { room ≤ 32 }
+    requires few_more { room ≤ 56 }
     ensures on { ExpandsOn T.before T.up (RefusesAt T.up T.refuses) times room slot.row.items result.1 result.2 result.0.items }
     ensures few { length result.0.items + result.2 ≤ length slot.row.items + room }
     ensures spare { IsSpareRow result.3.items (deque_capacity result.3) }
@@ -126,7 +126,7 @@ fn keep<T: Tree>(worked: &mut Vec<VecDeque<Piece<T>>>, row: VecDeque<Piece<T>>)
 }
 
 /// A job worked on, place after place, with so many expansions and room for so many pieces in all: each place with what the ones
-/// before have left, room for 32 pieces at most. The memory that an expansion leaves serves the next ones of the job.
+/// before have left, room for 56 pieces at most. The memory that an expansion leaves serves the next ones of the job.
 pub fn work<T: ReusingTree, G: Gate>(
     alloc: Global,
     gate: &G,
@@ -134,7 +134,7 @@ pub fn work<T: ReusingTree, G: Gate>(
     times: usize,
     room: usize,
 ) -> Job<T>
-    requires room { room ≤ 32 }
+    requires room { room ≤ 56 }
     requires fit { IsJobFit job }
     ensures { IsWorked T.before T.up (RefusesAt T.up T.refuses) times room job result }
 {
@@ -160,7 +160,7 @@ pub fn work<T: ReusingTree, G: Gate>(
         keep(&mut worked, row);
         spare = empty;
         left = fewer;
-        free = less.min(32);
+        free = less.min(56);
     }
     Job {
         slots,

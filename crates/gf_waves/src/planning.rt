@@ -22,7 +22,7 @@ pub fn spare_slots<T: Tree>(alloc: Global, count: usize) -> Result<Vec<Slot<T>>,
 {
     let mut slots = Vec::with_capacity(alloc, count)?;
     while slots.len() < count {
-        let row = VecDeque::with_capacity(alloc, 40)?;
+        let row = VecDeque::with_capacity(alloc, 64)?;
         if slots.push(Slot { row }).is_err() {
             unreachable!();
         }
@@ -52,7 +52,7 @@ pub fn spare_jobs<T: Tree>(
         let slots = Vec::with_capacity(alloc, places)?;
         let worked = Vec::with_capacity(alloc, places)?;
         let number = first.saturating_add(jobs.len() as u64);
-        let spare = VecDeque::with_capacity(alloc, 40)?;
+        let spare = VecDeque::with_capacity(alloc, 64)?;
         let job = Job {
             slots,
             worked,
@@ -93,7 +93,7 @@ fn take<T: Tree>(job: &mut VecDeque<Piece<T>>, piece: Piece<T>, walkers: usize) 
 /// Takes the pieces of a place out of a row: up to its first walker, and at most eight.
 fn cut<T: Tree>(row: &mut VecDeque<Piece<T>>, slot: &mut VecDeque<Piece<T>>)
     requires empty { slot.old.items ≡ [] }
-    requires room { 40 ≤ deque_capacity slot.old }
+    requires room { 64 ≤ deque_capacity slot.old }
     ensures job { slot.new.items ≡ first_job 8 1 row.old.items }
     ensures rest { row.new.items ≡ behind_job 8 1 row.old.items }
     ensures few { length slot.new.items ≤ 8 }

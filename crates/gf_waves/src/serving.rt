@@ -49,7 +49,7 @@ fn due<T: Tree>(workers: u32, row: &VecDeque<Piece<T>>) -> usize
     (workers as usize).min(free / 4).min(walkers)
 }
 
-/// How many pieces each job may add: at most 32, and no more than its share of the free places.
+/// How many pieces each job may add: at most 56, and no more than its share of the free places.
 fn room<T: Tree>(workers: u32, row: &VecDeque<Piece<T>>, due: usize) -> usize
     requires workers { workers ≤ 64 }
     requires some { 0 < due }
@@ -57,17 +57,17 @@ fn room<T: Tree>(workers: u32, row: &VecDeque<Piece<T>>, due: usize) -> usize
     requires fits { due * 4 ≤ most_pieces workers - length row.now.items }
     ensures is { result ≡ room_at workers row.now.items }
     ensures fits { due * result ≤ most_pieces workers - length row.now.items }
-    ensures few { result ≤ 32 }
+    ensures few { result ≤ 56 }
 {
     let free = ((workers as usize + 1) * 128).saturating_sub(row.len());
-    (free / due).min(32)
+    (free / due).min(56)
 }
 
-/// How many expansions each job makes: one more than there were jobs before, and at most 64.
+/// How many expansions each job makes: eight, and sixteen for each job before, of which 16 count at most.
 fn times(jobs: u64) -> usize
     ensures is { result ≡ times_at jobs }
 {
-    jobs.saturating_add(1).min(64) as usize
+    jobs.min(16) as usize * 16 + 8
 }
 
 /// The refusal that stands for want of memory. Any call of any tree may be refused so.

@@ -30,12 +30,12 @@ where
     T::Error: Send,
     T::Store: Send,
     requires some { 1 ≤ workers }
-    requires room { room ≤ 32 }
+    requires room { room ≤ 56 }
     requires fit { AreFitAt jobs.old }
     ensures { AreWorkedAt T.before T.up (RefusesAt T.up T.refuses) times room jobs.old jobs.new }
 {
     let each = |_: usize, job: &mut Job<T>|
-        requires { (room ≤ 32) × IsJobFit job.now }
+        requires { (room ≤ 56) × IsJobFit job.now }
         ensures { IsWorked T.before T.up (RefusesAt T.up T.refuses) times room job.entry.now job.exit.now }
     {
         let none = Job {
@@ -66,14 +66,14 @@ where
     T::Error: Send,
     T::Store: Send,
     requires some { 1 ≤ workers }
-    requires room { room ≤ 32 }
+    requires room { room ≤ 56 }
     requires fit { AreFitAt jobs.old.items }
     ensures { AreWorkedAt T.before T.up (RefusesAt T.up T.refuses) times room jobs.old.items jobs.new.items }
 {
     work_all(rt, alloc, gate, jobs.as_mut_slice(), workers, times, room);
 }
 
-/// A wave: the first pieces of the row are dealt out to `due` jobs, sixteen walkers to each; each job makes `times` expansions and has room for `room`
+/// A wave: the first pieces of the row are dealt out to `due` jobs, twelve walkers to each; each job makes `times` expansions and has room for `room`
 /// pieces more.
 ///
 /// # Errors
@@ -98,10 +98,10 @@ where
     requires few_workers { workers ≤ 64 }
     requires due { 0 < due }
     requires few_jobs { due ≤ workers }
-    requires few_more { room ≤ 32 }
+    requires few_more { room ≤ 56 }
     requires fits { length row.old.items + due * room ≤ (workers + 1) * 128 }
     requires refused { AreRefusals (RefusesAt T.up T.refuses) row.old.items }
-    ensures waved { OnOk result (IsWaved T.before T.up (RefusesAt T.up T.refuses) (due * 16) (replicate due (times, room)) row.old.items row.new.items) }
+    ensures waved { OnOk result (IsWaved T.before T.up (RefusesAt T.up T.refuses) (due * 12) (replicate due (times, room)) row.old.items row.new.items) }
     ensures counted { OnOk result (jobs.new ≡ job_number (jobs.old + due)) }
     ensures few { length row.new.items ≤ (workers + 1) * 128 }
     ensures refused { AreRefusals (RefusesAt T.up T.refuses) row.new.items }
@@ -109,7 +109,7 @@ where
     ensures uncounted { OnErr result (jobs.new ≡ jobs.old) }
 {
     let alloc = *row.allocator();
-    let places = due * 16;
+    let places = due * 12;
     let spares = spare_slots(alloc, places)?;
     let mut slots = Vec::with_capacity(alloc, places)?;
     let mut shared = spare_jobs(alloc, due, places, *jobs)?;

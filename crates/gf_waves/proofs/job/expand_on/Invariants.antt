@@ -11,8 +11,8 @@ invariant-loop-left g l = record {
       ExpandsOn g.T.Tree.before g.T.Tree.up (RefusesAt g.T.Tree.up g.T.Tree.refuses) l.left n l.row.items j i news →
       ExpandsOn g.T.Tree.before g.T.Tree.up (RefusesAt g.T.Tree.up g.T.Tree.refuses) l.fn.times l.fn.room l.fn.slot.row.items j i (l.done.items ++ news);
   few : length l.done.items + length l.row.items ≤ length l.fn.slot.row.items + l.fn.room;
-  room : 40 ≤ deque_capacity l.row;
-  room_for_done : 40 ≤ deque_capacity l.done;
+  room : 64 ≤ deque_capacity l.row;
+  room_for_done : 64 ≤ deque_capacity l.done;
 }
 
 abbrev pub decreases-loop-left : goal.decreases-loop-left

@@ -48,7 +48,7 @@ loop-alloc-preserved g c =
     let news = c.keep.new.worked.items in
     let some : 0 < length l.slots.items = search rules in
     let slots : l.slots.items ≡ slot ∷ rest = first_out l.slots.items rest slot some c.remove.ensures.value c.remove.ensures.items in
-    let less : c.min-free.result ≡ min c.expand_on-row.result.2 32 = search rules in
+    let less : c.min-free.result ≡ min c.expand_on-row.result.2 56 = search rules in
     record {
       on = worked_more g.T.Tree.before g.T.Tree.up (RefusesAt g.T.Tree.up g.T.Tree.refuses) c.args.times c.args.room l.left l.free c.expand_on-row.result.1
           c.expand_on-row.result.2 c.min-free.result c.args.job.slots.items l.slots.items rest slot

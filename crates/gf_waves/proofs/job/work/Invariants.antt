@@ -12,7 +12,7 @@ invariant-loop-alloc g l = record {
   on : GoesOn g.T.Tree.before g.T.Tree.up (RefusesAt g.T.Tree.up g.T.Tree.refuses) l.fn.times l.fn.room l.fn.job.slots.items (map (λ d. d.items) l.worked.items)
       l.left l.free l.slots.items;
   fit : AreFit l.slots.items;
-  few : l.free ≤ 32;
+  few : l.free ≤ 56;
   room : length l.slots.items + length l.worked.items ≤ vec_capacity l.worked;
   spare : IsSpareRow l.spare.items (deque_capacity l.spare);
 }

@@ -9,7 +9,7 @@ invariant-loop-pieces g l = record {
   first : l.slot.items ++ first_job l.pieces l.walkers l.row.items ≡ first_job 8 1 l.fn.row.items;
   behind : behind_job l.pieces l.walkers l.row.items ≡ behind_job 8 1 l.fn.row.items;
   few : length l.slot.items + l.pieces ≤ 8;
-  room : 40 ≤ deque_capacity l.slot;
+  room : 64 ≤ deque_capacity l.slot;
   kept : deque_capacity l.fn.slot ≤ deque_capacity l.slot;
 }
 

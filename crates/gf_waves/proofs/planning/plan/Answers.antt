@@ -29,7 +29,7 @@ loop-spare-preserved g c =
     let less : length l.spares.items ≡ suc (length fewer) = omega (arith, long, push) in
     let kept = c.cut.ensures.room in
     let cap = spare.1 in
-    let enough : 40 ≤ deque_capacity c.cut.new.slot = omega (arith, kept, cap) in
+    let enough : 64 ≤ deque_capacity c.cut.new.slot = omega (arith, kept, cap) in
     record {
       spare = both.0;
       planned = goes_place (length c.args.spares.items) c.args.row.now.items (length l.spares.items) (length fewer) l.row.items c.cut.new.row.items

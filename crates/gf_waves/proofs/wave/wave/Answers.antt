@@ -34,7 +34,7 @@ returns-clause-waved g c =
     let up = g.T.Tree.up in
     let refuses = RefusesAt up g.T.Tree.refuses in
     let e = c.work_jobs.ensures in
-    subst (IsWaved lt up refuses (c.args.due * 16) (replicate c.args.due (c.args.times, c.args.room)) c.args.row.now.items) (sym c.merge.ensures)
+    subst (IsWaved lt up refuses (c.args.due * 12) (replicate c.args.due (c.args.times, c.args.room)) c.args.row.now.items) (sym c.merge.ensures)
     (wave_of lt up refuses c.args.due c.args.times c.args.room (length c.in_ok-spares.spares.items) c.args.row.now.items c.plan.new.row.items
     c.plan.new.slots.items
     c.deal.new.jobs.items c.work_jobs.new.jobs.items (length c.in_ok-shared.shared.items) c.in_ok-spares.ensures.count c.plan.ensures c.deal.ensures.dealt
@@ -47,7 +47,7 @@ returns-clause-refused g c =
     let refuses = RefusesAt up g.T.Tree.refuses in
     let e = c.work_jobs.ensures in
     subst (AreRefusals refuses) (sym c.merge.ensures)
-    (waved_refusals lt up refuses (c.args.due * 16) (replicate c.args.due (c.args.times, c.args.room)) c.args.row.now.items _
+    (waved_refusals lt up refuses (c.args.due * 12) (replicate c.args.due (c.args.times, c.args.room)) c.args.row.now.items _
     (wave_of lt up refuses c.args.due c.args.times c.args.room (length c.in_ok-spares.spares.items) c.args.row.now.items c.plan.new.row.items
     c.plan.new.slots.items
     c.deal.new.jobs.items c.work_jobs.new.jobs.items (length c.in_ok-shared.shared.items) c.in_ok-spares.ensures.count c.plan.ensures c.deal.ensures.dealt
