@@ -237,12 +237,12 @@ module _ {T N L E : Type 0} (lt : L → L → Type 0) (up : T → N → L → N 
       let sorted = subst (AreSorted early) (over_both later nodes k.0 k.1 k.2) s in
       subst (λ r. Orders later r nodes) (sym h.4) (subst (Orders later (h.0 ++ h.1)) (sym k.2) (order_both later h.0 h.1 k.0 k.1
       (on_order b.0 b.1 (first_job 8 1 olds) h.2 h.3 h.0 h.5 (k.1 ++ later) k.0 among.0 sorted k.3)
-      (waved_order m (jobs ++ (h.2, min h.3 32) ∷ []) (behind_job 8 1 olds) h.1 h.6 later k.1 among.1 (sorted_right early k.0 (k.1 ++ later) sorted) k.4)))
+      (waved_order m (jobs ++ (h.2, min h.3 56) ∷ []) (behind_job 8 1 olds) h.1 h.6 later k.1 among.1 (sorted_right early k.0 (k.1 ++ later) sorted) k.4)))
 
   readied_order : (workers jobs next : ℕ) (olds worked : List (Piece T N L E)) → IsReadied lt up refuses workers jobs olds next worked → (nodes : List N) →
       AreAmong In Is olds → AreSorted early (nodes ++ []) → Orders [] olds nodes → Orders [] worked nodes
   readied_order workers jobs next olds worked (inl h) nodes a s l =
-      waved_order (due_at workers olds * 16) (replicate (due_at workers olds) (times_at jobs, room_at workers olds)) olds worked h.3 [] nodes a s l
+      waved_order (due_at workers olds * 12) (replicate (due_at workers olds) (times_at jobs, room_at workers olds)) olds worked h.3 [] nodes a s l
   readied_order workers jobs next olds worked (inr h) nodes a s l = subst (λ r. Orders [] r nodes) (sym h.2) l
 
   -- ---- an answer
