@@ -155,8 +155,8 @@ module _ (n : ℕ) (bs : List MarkedPolynomial) (two : AreMarkedBinomials (Conta
   cone_narrow rows c pairs x (IsConeRefusal.at_rays s h q) = absurd (cc)
   cone_narrow rows c pairs x (IsConeRefusal.at_faces cut faces i f (IsFaceRefusal.at_face g r h)) =
       saturation_narrow cut.ambient h.0 pairs x
-      (forms_at_variables _ bs h.0 h.1 (λ b k. binomial-marked b (two b k)) cut.ambient there)
-      (forms_at_binomials _ bs h.0 h.1 (λ b k. binomial-marked b (two b k))) h.2
+      (forms_at_variables _ bs h.0 h.1.forms (λ b k. binomial-marked b (two b k)) cut.ambient there)
+      (forms_at_binomials _ bs h.0 h.1.forms (λ b k. binomial-marked b (two b k))) h.2
     where
       there : (b : MarkedPolynomial) → Contains bs b → IsInVariables cut.ambient b.poly
       there = subst (λ (m : ℕ). (b : MarkedPolynomial) → Contains bs b → IsInVariables m b.poly) (sym i.ambient) inside

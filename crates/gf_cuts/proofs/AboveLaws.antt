@@ -3,7 +3,7 @@ use Rattle.std.proofs.Common.{◌≡◌, ◌↔◌, ℕ, ◌+◌, ◌<◌, List,
 use Rattle.std.proofs.Common.{arith, sym, refl, ap, ◌∙◌, subst, Contains, inl, inr}
 use Rattle.std.proofs.lemmas.Int.{ints}
 use Rattle.std.proofs.lemmas.List.{take_more, get_or_default}
-use Rattle.std.proofs.lemmas.List.Elements.{All-push, Contains-append_left, Contains-append_right, Contains-append_cases, Contains-push}
+use Rattle.std.proofs.lemmas.List.Elements.{All-push, Contains-append_left, Contains-append_right, Contains-append_cases, Contains-push, Contains-get_or}
 use Rattle.gf_int_theory.proofs.ListLaws.{Contains-last, all_by}
 use Rattle.gf_vec.specs.Vector.{dot, vector_sum, opposite}
 use Rattle.gf_gordan.specs.Alternative.{AreRows}
@@ -13,6 +13,7 @@ use Rattle.gf_fans_theory.proofs.FanLaws.{is_in, up_in, zero_in}
 use Rattle.gf_patterns_theory.specs.PatternRows.{vector_difference, point_at}
 use Rattle.gf_patterns_theory.proofs.RowLaws.{dot_minus, minus_long}
 use Rattle.gf_levels_theory.specs.Parts.{IsAbove, IsPartOver}
+use Rattle.gf_cuts.specs.Drawn.{IsDifferenceOf}
 use Rattle.gf_cuts.specs.Heights.{AreRowsOver}
 
 -- ---- differences
@@ -27,11 +28,13 @@ sum_turned (x ∷ xs) (y ∷ ys) = ap (λ z. z ∷ vector_sum xs (opposite ys)) 
 
 -- h is the difference of a and b
 pub record IsDifference (a b h : List ℤ) : Type 0 where
+  pub is : h ≡ vector_difference a b
   pub long : length h ≡ length a
   pub value : (v : List ℤ) → dot h v ≡ dot a v -ℤ dot b v
 
 pub is_difference : (a b h : List ℤ) → length a ≡ length b → h ≡ vector_difference a b → IsDifference a b h
 is_difference a b h l e = record {
+  is = e;
   long = ap length e ∙ minus_long (length a) a b refl (sym l);
   value = λ v. ap (λ z. dot z v) e ∙ dot_minus a b v l;
 }
@@ -54,6 +57,16 @@ pub point_difference : (n : ℕ) (A : List (List ℤ)) (x y : ℕ) → AreRows n
 point_difference n A x y w lx ly =
     is_difference (point_at A x) (point_at A y) (vector_difference (point_at A x) (point_at A y)) (w x [] lx ∙ sym (w y [] ly)) refl
 
+-- of two of the points
+pub drawn_at : (A : List (List ℤ)) (x y : ℕ) (h : List ℤ) → x < length A → y < length A → IsDifference (point_at A x) (point_at A y) h → IsDifferenceOf A h
+drawn_at A x y h lx ly d = record {
+  high = point_at A x;
+  low = point_at A y;
+  of_high = Contains-get_or A x [] lx;
+  of_low = Contains-get_or A y [] ly;
+  is = d.is;
+}
+
 -- the difference as the only row
 pub only_row : (A : List (List ℤ)) (x y : ℕ) (a b h : List ℤ) (out new : List (List ℤ)) → x < length A → y < length A → a ≡ get_or A x a →
     b ≡ get_or A y b → h ≡ vector_difference a b → out ≡ [] → new ≡ out ++ h ∷ [] → new ≡ vector_difference (point_at A x) (point_at A y) ∷ []
@@ -66,6 +79,7 @@ only_row A x y a b h out new lx ly e f q none n =
 pub over_none : (A : List (List ℤ)) (top : ℕ) → AreRowsOver A top [] []
 over_none A top = record {
   wide = λ n w. all_by (λ t. length t ≡ n) [] (λ t k. absurd (none_in t k));
+  drawn = λ h k. absurd (none_in h k);
   says = λ v. ((λ f x k. absurd (none_in x k)), (λ f h k. absurd (none_in h k)));
 }
 
@@ -79,6 +93,7 @@ pub over_left : (A : List (List ℤ)) (top : ℕ) (places : List ℕ) (rows : Li
     AreRowsOver A top (take k places) rows → AreRowsOver A top (take (k + 1) places) rows
 over_left A top places rows x k l e q r = subst (λ z. AreRowsOver A top z rows) (sym (next_place places x k l e)) (record {
   wide = r.wide;
+  drawn = r.drawn;
   says = λ v. (
     (λ f y i. elim (Contains-last (take k places) x y i) [
       | inl j ↦ (r.says v).0 f y j
@@ -94,13 +109,14 @@ up_below a b h e u = omega (arith, ints, e, u)
 below_up : (a b h : ℤ) → h ≡ a -ℤ b → b ≤ℤ a → pos 0 ≤ℤ h
 below_up a b h e u = omega (arith, ints, e, u)
 
-pub over_more : (A : List (List ℤ)) (top : ℕ) (places : List ℕ) (rows new : List (List ℤ)) (h : List ℤ) (x k : ℕ) → top < length A → k < length places →
-    x ≡ get_or places k 0 → IsDifference (point_at A top) (point_at A x) h → new ≡ rows ++ h ∷ [] →
+pub over_more : (A : List (List ℤ)) (top : ℕ) (places : List ℕ) (rows new : List (List ℤ)) (h : List ℤ) (x k : ℕ) → top < length A → x < length A →
+    k < length places → x ≡ get_or places k 0 → IsDifference (point_at A top) (point_at A x) h → new ≡ rows ++ h ∷ [] →
     AreRowsOver A top (take k places) rows → AreRowsOver A top (take (k + 1) places) new
-over_more A top places rows new h x k lt l e d n r =
+over_more A top places rows new h x k lt lx l e d n r =
     subst (λ z. AreRowsOver A top (take (k + 1) places) z) (sym n) (subst (λ z. AreRowsOver A top z (rows ++ h ∷ []))
     (sym (next_place places x k l e)) (record {
       wide = λ m w. All-push (λ t. length t ≡ m) rows h (r.wide m w) (d.long ∙ w top [] lt);
+      drawn = λ g i. elim (Contains-last rows h g i) [ inl j ↦ r.drawn g j | inr s ↦ subst (IsDifferenceOf A) (sym s) (drawn_at A top x h lt lx d) ];
       says = λ v. (
         (λ f y i. elim (Contains-last (take k places) x y i) [
           | inl j ↦ (r.says v).0 (λ g kg. f g (first_in rows h g kg)) y j

@@ -7,3 +7,4 @@ pub mod TiedLaws  -- the part of a cone on which two points are equally high, by
 pub mod LevelLaws  -- the parts of one cone in one list, and the levels of several cones
 pub mod LoopLaws  -- lists made in loops, one element further
 pub mod OuterLaws  -- cones that hold others
+pub mod DrawnLaws  -- parts of cones whose rows are those of the cones, and differences of points

@@ -6,6 +6,7 @@ use Rattle.gf_duality_theory.specs.Rays.{IsRays}
 use Rattle.gf_rays.specs.Cones.{RowsAndRays}
 use Rattle.gf_levels_theory.specs.Generators.{generators}
 use Rattle.gf_levels_theory.specs.Parts.{IsAbove}
+use Rattle.gf_cuts.specs.Drawn.{IsDifferenceOf}
 
 -- its rays and its lineality basis are those of its rows
 abbrev pub HasItsRays : RowsAndRays → Type 0
@@ -67,7 +68,8 @@ pub record AreTiedPlaces (xs ys : List ℤ) (count : ℕ) (places : List ℕ) : 
   pub each : (k : ℕ) → Contains places k → (k < count) × (slice_index_or xs k (pos 0) ≡ slice_index_or ys k (pos 0))
   pub every : (k : ℕ) → k < count → slice_index_or xs k (pos 0) ≡ slice_index_or ys k (pos 0) → Contains places k
 
--- rows that are negative nowhere exactly where none of the points at these places is above the one at top
+-- rows that are negative nowhere exactly where none of the points at these places is above the one at top; each is one of the points less one of them
 pub record AreRowsOver (A : List (List ℤ)) (top : ℕ) (places : List ℕ) (rows : List (List ℤ)) : Type 0 where
   pub wide : (n : ℕ) → AreRows n A → AreRows n rows
+  pub drawn : (h : List ℤ) → Contains rows h → IsDifferenceOf A h
   pub says : (v : List ℤ) → ((h : List ℤ) → Contains rows h → pos 0 ≤ℤ dot h v) ↔ IsAbove A top places v

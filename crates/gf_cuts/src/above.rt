@@ -4,6 +4,7 @@ ghost use Rattle.gf_gordan.specs.Alternative.{AreRows};
 ghost use Rattle.gf_rays.specs.Cones.{rows_of};
 ghost use Rattle.gf_patterns_theory.specs.PatternRows.{vector_difference};
 ghost use Rattle.gf_levels_theory.specs.Parts.{IsPartOver};
+ghost use Rattle.gf_cuts.specs.Drawn.{IsDrawnFrom};
 ghost use Rattle.gf_cuts.specs.Heights.{AreRowsOver};
 
 use crate::error::CutError;
@@ -63,6 +64,7 @@ pub(crate) fn part_over(
     requires places { All (λ x. x < length points.now) places.now }
     ensures ambient { IfOk result (λ p. p.ambient ≡ cone.now.ambient) }
     ensures part { IfOk result (λ p. IsPartOver cone.now.ambient points.now top places.now (rows_of cone.now) (rows_of p)) }
+    ensures rows { IfOk result (λ p. IsDrawnFrom points.now (rows_of cone.now) (rows_of p)) }
 {
     let rows = rows_over(alloc, points, top, places)?;
     Ok(cone.with_more(&rows)?)

@@ -3,6 +3,7 @@ ghost use Rattle.std.specs.Prelude.{◌≡◌, IfOk, All, map};
 ghost use Rattle.gf_gordan.specs.Alternative.{AreRows};
 ghost use Rattle.gf_rays.specs.Cones.{RowsAndRays, rows_of};
 ghost use Rattle.gf_levels_theory.specs.Levels.{IsLevel};
+ghost use Rattle.gf_cuts.specs.Drawn.{AreDrawnFrom};
 
 use crate::error::CutError;
 use crate::inside::{joined, outer};
@@ -16,6 +17,7 @@ use std::alloc::Global;
 ///
 /// # Errors
 /// An operation that leaves the range; want of memory.
+#[tactic(auto, using(crate::proofs::DrawnLaws::drawn_none))]
 fn parts_of_all(
     members: Members,
     alloc: Global,
@@ -27,6 +29,7 @@ fn parts_of_all(
     requires ambient { All (λ (c : RowsAndRays). c.ambient ≡ n) cones.items }
     ensures ambient { IfOk result (λ out. All (λ (c : RowsAndRays). c.ambient ≡ n) out.items) }
     ensures level { IfOk result (λ out. IsLevel members n points.now (map rows_of cones.items) (map rows_of out.items)) }
+    ensures rows { IfOk result (λ out. AreDrawnFrom points.now (map rows_of cones.items) (map rows_of out.items)) }
 {
     let mut out = Vec::new(alloc);
     for cone in cones {
@@ -56,6 +59,7 @@ pub fn level(
     requires ambient { All (λ (c : RowsAndRays). c.ambient ≡ n) cones.items }
     ensures ambient { IfOk result (λ out. All (λ (c : RowsAndRays). c.ambient ≡ n) out.items) }
     ensures level { IfOk result (λ out. IsLevel members n points.now (map rows_of cones.items) (map rows_of out.items)) }
+    ensures rows { IfOk result (λ out. AreDrawnFrom points.now (map rows_of cones.items) (map rows_of out.items)) }
 {
     let parts = parts_of_all(members, alloc, n, points, cones)?;
     Ok(outer(alloc, n, parts)?)

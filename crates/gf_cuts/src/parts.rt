@@ -3,6 +3,7 @@ ghost use Rattle.std.specs.Prelude.{◌≡◌, ◌<◌, [], ◌∷◌, ℕ, All,
 ghost use Rattle.std.specs.List.{AllZip};
 ghost use Rattle.gf_gordan.specs.Alternative.{AreRows};
 ghost use Rattle.gf_rays.specs.Cones.{RowsAndRays, rows_of};
+ghost use Rattle.gf_cuts.specs.Drawn.{AreDrawnFrom};
 ghost use Rattle.gf_cuts.specs.Heights.{table, HasItsRays};
 ghost use Rattle.gf_levels_theory.specs.Levels.{IsLevel};
 ghost use Rattle.gf_levels_theory.specs.Parts.{IsTopOn, AreTops, IsTiePart, AreTieParts, AreTopParts, AreOfTop, AreOfTops};
@@ -36,6 +37,7 @@ fn alone(alloc: Global, cone: Rays) -> Result<Vec<Rays>, AllocError>
 ///
 /// # Errors
 /// An operation that leaves the range; want of memory.
+#[tactic(auto, using(crate::proofs::DrawnLaws::drawn_none))]
 fn tie_parts(
     alloc: Global,
     points: &[IntVec],
@@ -52,6 +54,7 @@ fn tie_parts(
     ensures ambient { IfOk result (λ out. All (λ (p : RowsAndRays). p.ambient ≡ cone.now.ambient) out.items) }
     ensures parts { IfOk result (λ out. AllZip (λ (x : ℕ) (p : RowsAndRays). IsTiePart cone.now.ambient points.now top x (rows_of cone.now) (rows_of p))
         places.now out.items) }
+    ensures rows { IfOk result (λ out. AreDrawnFrom points.now (rows_of cone.now ∷ []) (map rows_of out.items)) }
 {
     let mut out = Vec::with_capacity(alloc, places.len())?;
     for x in places {
@@ -79,6 +82,7 @@ fn all_tie_parts(
     requires highest { IsTopOn cone.ambient points.now top (rows_of cone) }
     ensures ambient { IfOk result (λ out. All (λ (p : RowsAndRays). p.ambient ≡ cone.ambient) out.items) }
     ensures parts { IfOk result (λ out. AreTieParts cone.ambient points.now top (rows_of cone) (map rows_of out.items)) }
+    ensures rows { IfOk result (λ out. AreDrawnFrom points.now (rows_of cone ∷ []) (map rows_of out.items)) }
 {
     let marks = mark_rows(alloc, rows, top)?;
     let others = places_but(alloc, points.len(), top)?;
@@ -108,6 +112,7 @@ fn top_parts(
     requires highest { IsTopOn cone.ambient points.now top (rows_of cone) }
     ensures ambient { IfOk result (λ out. All (λ (p : RowsAndRays). p.ambient ≡ cone.ambient) out.items) }
     ensures parts { IfOk result (λ out. AreTopParts members cone.ambient points.now top (rows_of cone) (map rows_of out.items)) }
+    ensures rows { IfOk result (λ out. AreDrawnFrom points.now (rows_of cone ∷ []) (map rows_of out.items)) }
 {
     match members {
         Members::One => Ok(alone(alloc, cone)?),
@@ -133,6 +138,7 @@ fn parts_over(
     requires tops { AreTops cone.now.ambient points.now (rows_of cone.now) tops.now }
     ensures ambient { IfOk result (λ out. All (λ (p : RowsAndRays). p.ambient ≡ cone.now.ambient) out.items) }
     ensures parts { IfOk result (λ out. AreOfTop members cone.now.ambient points.now (rows_of cone.now) tops.now top (map rows_of out.items)) }
+    ensures rows { IfOk result (λ out. AreDrawnFrom points.now (rows_of cone.now ∷ []) (map rows_of out.items)) }
 {
     let part = part_over(alloc, points, cone, top, tops)?;
     let rows = table(alloc, points, &part)?;
@@ -143,6 +149,7 @@ fn parts_over(
 ///
 /// # Errors
 /// An operation that leaves the range; want of memory.
+#[tactic(auto, using(crate::proofs::DrawnLaws::drawn_none))]
 fn all_parts_over(
     members: Members,
     alloc: Global,
@@ -155,6 +162,7 @@ fn all_parts_over(
     requires tops { AreTops cone.now.ambient points.now (rows_of cone.now) tops.now }
     ensures ambient { IfOk result (λ out. All (λ (p : RowsAndRays). p.ambient ≡ cone.now.ambient) out.items) }
     ensures parts { IfOk result (λ out. AreOfTops members cone.now.ambient points.now (rows_of cone.now) tops.now tops.now (map rows_of out.items)) }
+    ensures rows { IfOk result (λ out. AreDrawnFrom points.now (rows_of cone.now ∷ []) (map rows_of out.items)) }
 {
     let mut out = Vec::new(alloc);
     for top in tops {
@@ -177,6 +185,7 @@ pub(crate) fn parts_of(
     requires { AreRows cone.ambient points.now }
     ensures ambient { IfOk result (λ out. All (λ (p : RowsAndRays). p.ambient ≡ cone.ambient) out.items) }
     ensures level { IfOk result (λ out. IsLevel members cone.ambient points.now (rows_of cone ∷ []) (map rows_of out.items)) }
+    ensures rows { IfOk result (λ out. AreDrawnFrom points.now (rows_of cone ∷ []) (map rows_of out.items)) }
 {
     let rows = table(alloc, points, &cone)?;
     let kept = tops(alloc, points, &cone, &rows)?;

@@ -4,6 +4,7 @@ ghost use Rattle.gf_gordan.specs.Alternative.{AreRows};
 ghost use Rattle.gf_patterns_theory.specs.PatternRows.{point_at, vector_difference};
 ghost use Rattle.gf_rays.specs.Cones.{rows_of};
 ghost use Rattle.gf_levels_theory.specs.Parts.{IsTopOn, IsTiePart};
+ghost use Rattle.gf_cuts.specs.Drawn.{IsDrawnFrom};
 ghost use Rattle.gf_cuts.specs.Heights.{table, AreTiedPlaces};
 
 use crate::above::difference;
@@ -79,6 +80,7 @@ pub(crate) fn tie_part(
     requires highest { IsTopOn cone.now.ambient points.now top (rows_of cone.now) }
     ensures ambient { IfOk result (λ p. p.ambient ≡ cone.now.ambient) }
     ensures part { IfOk result (λ p. IsTiePart cone.now.ambient points.now top x (rows_of cone.now) (rows_of p)) }
+    ensures rows { IfOk result (λ p. IsDrawnFrom points.now (rows_of cone.now) (rows_of p)) }
 {
     let rays = cone.rays();
     let numbers = tied_places(alloc, &rows[top], &rows[x], rays.len())?;

@@ -13,7 +13,7 @@ use Rattle.gf_rays.specs.Cones.{RowsAndRays}
 use Rattle.gf_rays.specs.declared.faces.Face.{Face}
 use Rattle.gf_initial_monomials.specs.declared.error.InitialError.{InitialError}
 use Rattle.gf_initial_monomials.specs.declared.error.InitialError.TheVariants.{Cone, Wide, Entry, Saturation, Memory}
-use Rattle.gf_initial_monomials.specs.Outcomes.{AreFormsAt, PassesAt, vector_of}
+use Rattle.gf_initial_monomials.specs.Outcomes.{AreKeptFormsAt, PassesAt, vector_of}
 use Rattle.gf_initial_monomials.specs.Refusals.{IsVectorRefusal, IsRefusedAtFace, IsFaceRefusal, IsConeRefusal}
 use Rattle.gf_initial_monomials.specs.Limits.{IsMemoryWanted, IsFaceWithinLimits, AreFacesWithinLimits}
 use Rattle.gf_initial_monomials.proofs.OutcomeLaws.{reached_in}
@@ -29,7 +29,7 @@ none_first e (s ∷ steps) n (inl h) = fits_not_wide s e h.0 n.0 h.1
 none_first e (s ∷ steps) n (inr h) = none_first e steps n.1 h.1
 
 vector_memory : (n : ℕ) (bs : List MarkedPolynomial) (v : List ℤ) (pairs : ℕ) (e : InitialError) → AreBounded v →
-    ((forms : List Terms) → AreFormsAt v bs forms → AreStepsWithinLimits n forms pairs) → IsVectorRefusal n bs v pairs e → IsMemoryWanted e
+    ((forms : List Terms) → AreKeptFormsAt n v bs forms → AreStepsWithinLimits n forms pairs) → IsVectorRefusal n bs v pairs e → IsMemoryWanted e
 vector_memory n bs v pairs (Cone s) b w h = absurd h
 vector_memory n bs v pairs (Wide s) b w h = absurd h
 vector_memory n bs v pairs (Entry i x) b w h = let past = h.0.past in let small = b i (pos 0) h.0.inside in absurd (omega (arith, past, small))

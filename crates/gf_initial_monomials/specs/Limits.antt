@@ -15,7 +15,7 @@ use Rattle.gf_rays.specs.Sums.{adding_steps}
 use Rattle.gf_rays.specs.declared.faces.Face.{Face}
 use Rattle.gf_initial_monomials.specs.declared.error.InitialError.{InitialError}
 use Rattle.gf_initial_monomials.specs.declared.error.InitialError.TheVariants.{Cone, Wide, Entry, Saturation, Memory}
-use Rattle.gf_initial_monomials.specs.Outcomes.{AreFormsAt, IsCutBy, vector_of}
+use Rattle.gf_initial_monomials.specs.Outcomes.{AreKeptFormsAt, IsCutBy, vector_of}
 
 -- memory ran out, in a saturation or elsewhere
 abbrev pub IsMemoryWanted : InitialError → Type 0
@@ -30,7 +30,7 @@ IsMemoryWanted Memory = Unit {0}
 pub record IsFaceWithinLimits (bs : List MarkedPolynomial) (c : RowsAndRays) (pairs : ℕ) (f : Face) : Type 0 where
   pub sums : NoneWide (adding_steps (zeros c.ambient) (numbered c.rays f.rays))
   pub entries : AreBounded (vector_of c f)
-  pub runs : (forms : List Terms) → AreFormsAt (vector_of c f) bs forms → AreStepsWithinLimits c.ambient forms pairs
+  pub runs : (forms : List Terms) → AreKeptFormsAt c.ambient (vector_of c f) bs forms → AreStepsWithinLimits c.ambient forms pairs
 
 -- no operation of finding the rays of the intersection of the cone c with the cone of these rows leaves the range, and each face of the
 -- intersection is within its limits

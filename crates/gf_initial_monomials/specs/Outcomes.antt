@@ -4,6 +4,7 @@
 use Rattle.std.specs.Prelude.{◌≡◌, ℕ, ◌++◌, ◌<◌, Bool, true, false, List, ℤ, Option, Some, None, Contains, length, take, slice_index_or}
 use Rattle.gf_poly.specs.Polynomial.{Terms}
 use Rattle.gf_poly.specs.Marking.{MarkedPolynomial, polys}
+use Rattle.gf_buchberger.specs.Jobs.{HaveRingVariables}
 use Rattle.gf_duality_theory.specs.Rays.{IsRays}
 use Rattle.gf_duality_theory.specs.Faces.{Rows, sum_of}
 use Rattle.gf_fans_theory.specs.FaceLists.{numbered}
@@ -20,6 +21,11 @@ pub record AreFormsAt (v : List ℤ) (bs : List MarkedPolynomial) (fs : List Ter
   pub parts : List MarkedPolynomial
   pub are_parts : AreInitialParts v bs parts
   pub polys_are : polys parts ≡ fs
+
+-- they are, and each of their terms has n exponents
+pub record AreKeptFormsAt (n : ℕ) (v : List ℤ) (bs : List MarkedPolynomial) (fs : List Terms) : Type 0 where
+  pub forms : AreFormsAt v bs fs
+  pub variables : HaveRingVariables n fs
 
 -- the ideal of the initial forms of bs at v has a polynomial with a single term
 pub record HasMonomialAt (n : ℕ) (bs : List MarkedPolynomial) (v : List ℤ) : Type 0 where

@@ -19,7 +19,7 @@ use Rattle.gf_rays.specs.Sums.{adding_steps}
 use Rattle.gf_rays.specs.declared.faces.Face.{Face}
 use Rattle.gf_initial_monomials.specs.declared.error.InitialError.{InitialError}
 use Rattle.gf_initial_monomials.specs.declared.error.InitialError.TheVariants.{Cone, Wide, Entry, Saturation, Memory}
-use Rattle.gf_initial_monomials.specs.Outcomes.{AreFormsAt, IsReached, IsCutBy, PassesAt, vector_of}
+use Rattle.gf_initial_monomials.specs.Outcomes.{AreKeptFormsAt, IsReached, IsCutBy, PassesAt, vector_of}
 
 -- ---- refusals of other crates
 
@@ -47,7 +47,7 @@ abbrev pub IsVectorRefusal : ℕ → List MarkedPolynomial → List ℤ → ℕ 
 IsVectorRefusal n bs v pairs (Cone s) = ⊥
 IsVectorRefusal n bs v pairs (Wide w) = ⊥
 IsVectorRefusal n bs v pairs (Entry i x) = IsFirstWideEntry v i × (x ≡ get_or v i (pos 0))
-IsVectorRefusal n bs v pairs (Saturation r) = (forms : List Terms) × AreFormsAt v bs forms × IsSaturateRefusal n forms pairs r
+IsVectorRefusal n bs v pairs (Saturation r) = (forms : List Terms) × AreKeptFormsAt n v bs forms × IsSaturateRefusal n forms pairs r
 IsVectorRefusal n bs v pairs Memory = Unit {0}
 
 -- why the face f of the cone c can't be tested: the first partial sum of its rays that leaves the range; or a refusal at the sum

@@ -1,11 +1,12 @@
 //! The fan of polynomials a level at a time: cones are cut by one polynomial after the other, and their faces are found once.
-ghost use Rattle.std.specs.Prelude.{◌≡◌, ◌≢◌, ◌++◌, ◌<◌, ◌^◌, [], ◌∷◌, List, ℤ, All, IfOk, map};
+ghost use Rattle.std.specs.Prelude.{◌≡◌, ◌≢◌, ◌++◌, ◌<◌, ◌^◌, [], ◌∷◌, List, ℤ, All, Contains, IfOk, map};
 ghost use Rattle.gf_poly.specs.Polynomial.{HasVariables};
 ghost use Rattle.gf_rays.specs.Cones.{rows_of};
 ghost use Rattle.gf_fan.specs.Pairs.{AreOfAmbient};
 ghost use Rattle.gf_patterns_theory.specs.Patterns.{points, HavePoints};
 ghost use Rattle.gf_patterns_theory.specs.PatternFans.{whole_space, IsFanOfPatterns};
 ghost use Rattle.gf_patterns_theory.specs.Refinements.{HaveEntries};
+ghost use Rattle.gf_tropical.specs.DifferenceRows.{HaveDifferenceRows, IsByDifferences};
 ghost use Rattle.gf_tropical.specs.Kinds.{IsAdmittedBy, members_by};
 ghost use Rattle.gf_tropical.specs.Making.{IsFanBy};
 ghost use Rattle.gf_tropical.specs.Refusals.{NoneIsZero};
@@ -60,6 +61,8 @@ fn cut(kind: Kind, alloc: Global, n: u32, f: &Poly, cones: Vec<Rays>) -> Result<
     ensures ambient { IfOk result (λ out. AreOfAmbient n out.items) }
     ensures fan { IfOk result (λ out. (As : List (List (List ℤ))) → HavePoints As → IsFanOfPatterns (IsAdmittedBy kind) n As (map rows_of cones.items) →
         IsFanOfPatterns (IsAdmittedBy kind) n (As ++ points f.now ∷ []) (map rows_of out.items)) }
+    ensures rows { IfOk result (λ out. (As : List (List (List ℤ))) → Contains As (points f.now) → HaveDifferenceRows As (map rows_of cones.items) →
+        HaveDifferenceRows As (map rows_of out.items)) }
 {
     levels_are_of_patterns();
     let tops = vertex_points(alloc, n, f.terms())?;
@@ -74,6 +77,7 @@ fn all_cut(kind: Kind, alloc: Global, n: u32, set: &[Poly]) -> Result<Vec<Rays>,
     requires not_zero { NoneIsZero set.now }
     ensures ambient { IfOk result (λ out. AreOfAmbient n out.items) }
     ensures fan { IfOk result (λ out. IsFanOfPatterns (IsAdmittedBy kind) n (map points set.now) (map rows_of out.items)) }
+    ensures rows { IfOk result (λ out. HaveDifferenceRows (map points set.now) (map rows_of out.items)) }
 {
     let mut cones = whole(alloc, n)?;
     'cutting: for i in 0..set.len() {
@@ -96,7 +100,8 @@ pub(crate) fn fan_by_levels(
     requires ambient { n < 2 ^ 31 }
     requires variables { All (HasVariables n) set.now }
     requires not_zero { NoneIsZero set.now }
-    ensures { IfOk result (IsFanBy kind n (map points set.now)) }
+    ensures fan { IfOk result (IsFanBy kind n (map points set.now)) }
+    ensures rows { IfOk result (IsByDifferences (map points set.now)) }
 {
     fans_are_cone_lists();
     let cones = all_cut(kind, alloc, n, set)?;

@@ -8,7 +8,7 @@ use Rattle.gf_patterns_theory.specs.Patterns.{points}
 use Rattle.gf_tropical.specs.TropicalFans.{IsPrevarietyFan}
 use Rattle.gf_tropical_basis_test.specs.declared.verdict.Verdict.{Verdict}
 use Rattle.gf_tropical_basis_test.specs.declared.error.BasisTestError.{BasisTestError}
-use Rattle.gf_tropical_basis_test.specs.Verdicts.{IsFirstVerdict, HaveBasesOutcome, maximal_rows, outcome_of}
+use Rattle.gf_tropical_basis_test.specs.Verdicts.{IsFirstVerdict, HaveBasesOutcome, IsTestFan, maximal_rows, outcome_of}
 use Rattle.gf_tropical_basis_test.specs.Refusals.{IsVerdictRefusal, AreBasesRefused}
 
 pub all_have : (n : ℕ) (fs : List Terms) → HaveRingVariables n fs → All (HasVariables n) fs
@@ -18,6 +18,6 @@ pub first_of : (n m : ℕ) (fs : List Terms) (h : FanLists) (verdict : Verdict) 
     HaveBasesOutcome m fs (maximal_rows h) (outcome_of verdict) → IsFirstVerdict n fs verdict
 first_of n m fs h verdict e p o = record { fan = h; is_fan = p; outcome = subst (λ k. HaveBasesOutcome k fs (maximal_rows h) (outcome_of verdict)) e o }
 
-pub refused_at_bases : (n m : ℕ) (fs : List Terms) (h : FanLists) (pairs : ℕ) (r : BasisTestError) → m ≡ n → IsPrevarietyFan n (map points fs) h →
+pub refused_at_bases : (n m : ℕ) (fs : List Terms) (h : FanLists) (pairs : ℕ) (r : BasisTestError) → m ≡ n → IsTestFan n fs h →
     AreBasesRefused m fs (maximal_rows h) pairs r → IsVerdictRefusal n fs pairs r
 refused_at_bases n m fs h pairs r e p a = IsVerdictRefusal.at_bases h p (subst (λ k. AreBasesRefused k fs (maximal_rows h) pairs r) e a)

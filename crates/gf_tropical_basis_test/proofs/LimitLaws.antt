@@ -1,13 +1,11 @@
 -- Where nothing leaves its limits, only memory may be wanting. To cite: test_memory.
 use Rattle.std.specs.Prelude.{None}
-use Rattle.std.proofs.Common.{◌≡◌, ℕ, List, [], ℤ, map, Contains, refl, sym, subst}
+use Rattle.std.proofs.Common.{◌≡◌, ℕ, List, [], ℤ, Contains, refl, sym, subst}
 use Rattle.gf_poly.specs.Polynomial.{Terms}
 use Rattle.gf_poly.specs.Marking.{MarkedPolynomial, MarkedPolynomials}
 use Rattle.gf_duality_theory.specs.Faces.{Rows}
 use Rattle.gf_fan.specs.FanLists.{FanLists}
-use Rattle.gf_patterns_theory.specs.Patterns.{points}
 use Rattle.gf_tropical.specs.Systems.{IsPairSystem}
-use Rattle.gf_tropical.specs.TropicalFans.{IsPrevarietyFan}
 use Rattle.gf_tropical.specs.declared.error.TropicalError.{TropicalError}
 use Rattle.gf_tropical.specs.declared.error.TropicalError.TheVariants as tropical
 use Rattle.gf_tropical.specs.Refusals.{IsTropicalRefusal, IsTropicalWithinLimits}
@@ -23,7 +21,7 @@ use Rattle.gf_initial_monomials.proofs.LimitLaws.{only_memory, wanted}
 use Rattle.gf_initial_monomials.proofs.OutcomeLaws.{reached_in}
 use Rattle.gf_tropical_basis_test.specs.declared.error.BasisTestError.{BasisTestError}
 use Rattle.gf_tropical_basis_test.specs.declared.error.BasisTestError.TheVariants.{Memory}
-use Rattle.gf_tropical_basis_test.specs.Verdicts.{HasBasisOutcome, maximal_rows}
+use Rattle.gf_tropical_basis_test.specs.Verdicts.{HasBasisOutcome, IsTestFan, maximal_rows}
 use Rattle.gf_tropical_basis_test.specs.Refusals.{IsRefusedWithBasis, AreBasesRefused, IsVerdictRefusal}
 use Rattle.gf_tropical_basis_test.specs.Limits.{HasNoMemory, IsTestWithinLimits}
 
@@ -43,7 +41,7 @@ at_basis n cones bs pairs e w (IsRefusedWithBasis.no_memory q) = wanted e q
 no_memory : (e : BasisTestError) → e ≡ Memory → HasNoMemory e
 no_memory e q = subst HasNoMemory (sym q) tt
 
-at_bases : (n : ℕ) (fs : List Terms) (h : FanLists) (pairs : ℕ) (e : BasisTestError) → IsTestWithinLimits n fs pairs → IsPrevarietyFan n (map points fs) h →
+at_bases : (n : ℕ) (fs : List Terms) (h : FanLists) (pairs : ℕ) (e : BasisTestError) → IsTestWithinLimits n fs pairs → IsTestFan n fs h →
     AreBasesRefused n fs (maximal_rows h) pairs e → HasNoMemory e
 at_bases n fs h pairs e w p (AreBasesRefused.at_basis bases b r l k x q) =
     let node : IsNodeIn (ideal_by n fs) b =

@@ -78,5 +78,5 @@ tests_of_monomials_stay_within_limits fans searches n b budget e hn hb v up shor
   root = ruled_within_limits Degree MonomialOrder.deglex n (unit_monomial e ∷ []) budget
       (record { each = λ f c. subst (HasVariables n) (sym (only (unit_monomial e) f c)) v }) (monomials_stay_within_limits MonomialOrder.deglex e budget short);
   search = searches.monomials (ideal_by n (unit_monomial e ∷ [])) budget (one_monomial e);
-  faces = λ h d normals c p node a m. absurd (no_cone_of n e h c p m);
+  faces = λ h d normals c p node a m. absurd (no_cone_of n e h c p.prevariety m);
 }

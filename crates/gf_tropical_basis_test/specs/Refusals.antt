@@ -1,5 +1,5 @@
 -- Why there is no verdict.
-use Rattle.std.specs.Prelude.{◌≡◌, ℕ, List, ℤ, None, map}
+use Rattle.std.specs.Prelude.{◌≡◌, ℕ, List, ℤ, None}
 use Rattle.gf_poly.specs.Polynomial.{Terms}
 use Rattle.gf_poly.specs.Marking.{MarkedPolynomial, MarkedPolynomials}
 use Rattle.gf_exponents_theory.specs.SixOrders.{MonomialOrder}
@@ -9,11 +9,9 @@ use Rattle.gf_buchberger.specs.Ruled.{AreRuledRunsWithinLimits}
 use Rattle.gf_buchberger.specs.Bases.{IsBasisRefusal, IsWantOfMemory}
 use Rattle.gf_duality_theory.specs.Faces.{Rows}
 use Rattle.gf_fan.specs.FanLists.{FanLists}
-use Rattle.gf_patterns_theory.specs.Patterns.{points}
 use Rattle.gf_tropical.specs.declared.error.TropicalError.{TropicalError}
 use Rattle.gf_tropical.specs.Refusals.{IsTropicalRefusal}
 use Rattle.gf_tropical.specs.Systems.{IsPairSystem}
-use Rattle.gf_tropical.specs.TropicalFans.{IsPrevarietyFan}
 use Rattle.gf_facets_theory.specs.Normals.{AreNormals}
 use Rattle.gf_reverse_theory.specs.Lists.{IsListFor}
 use Rattle.gf_tree.specs.Ideals.{ideal_by}
@@ -25,7 +23,7 @@ use Rattle.gf_initial_monomials.specs.Outcomes.{IsReached, HasOutcome}
 use Rattle.gf_initial_monomials.specs.Refusals.{IsConeRefusal}
 use Rattle.gf_tropical_basis_test.specs.declared.error.BasisTestError.{BasisTestError}
 use Rattle.gf_tropical_basis_test.specs.declared.error.BasisTestError.TheVariants.{Prevariety, Root, Search, Initial, Memory}
-use Rattle.gf_tropical_basis_test.specs.Verdicts.{HasBasisOutcome, maximal_rows}
+use Rattle.gf_tropical_basis_test.specs.Verdicts.{HasBasisOutcome, IsTestFan, maximal_rows}
 
 -- ---- one basis
 
@@ -48,10 +46,10 @@ pub data AreBasesRefused (n : ℕ) (fs : List Terms) (cones : List Rows) (pairs 
 -- ---- the test
 
 -- a refusal of the prevariety; of the first basis, by deglex, which is want of memory where the run by the rule of the program stays within its limits; of
--- the bases, with the maximal cones of the prevariety; or memory runs out
+-- the bases, with the maximal cones of the prevariety by differences of exponents; or memory runs out
 pub data IsVerdictRefusal (n : ℕ) (fs : List Terms) (pairs : ℕ) (e : BasisTestError) : Type 0 where
   at_prevariety : (r : TropicalError) → IsTropicalRefusal IsPairSystem n fs r → e ≡ Prevariety r → IsVerdictRefusal n fs pairs e
   at_root : (r : BasisError) → IsBasisRefusal MonomialOrder.deglex n fs pairs r
       × (AreRuledRunsWithinLimits Degree MonomialOrder.deglex fs pairs → IsWantOfMemory r) → e ≡ Root r → IsVerdictRefusal n fs pairs e
-  at_bases : (h : FanLists) → IsPrevarietyFan n (map points fs) h → AreBasesRefused n fs (maximal_rows h) pairs e → IsVerdictRefusal n fs pairs e
+  at_bases : (h : FanLists) → IsTestFan n fs h → AreBasesRefused n fs (maximal_rows h) pairs e → IsVerdictRefusal n fs pairs e
   no_memory : e ≡ Memory → IsVerdictRefusal n fs pairs e

@@ -9,6 +9,7 @@ use Rattle.gf_fan.specs.MaximalCones.{maximal_of}
 use Rattle.gf_refine.specs.FanRows.{cone_rows}
 use Rattle.gf_patterns_theory.specs.Patterns.{points, IsOnPrevariety}
 use Rattle.gf_tropical.specs.TropicalFans.{IsPrevarietyFan}
+use Rattle.gf_tropical.specs.DifferenceRows.{IsByDifferences}
 use Rattle.gf_facets_theory.specs.Normals.{AreNormals}
 use Rattle.gf_reverse_theory.specs.Lists.{IsListFor}
 use Rattle.gf_tree.specs.Ideals.{ideal_by}
@@ -26,6 +27,11 @@ IsVerdict n fs Yes = (w : List ℤ) → length w ≡ n → IsOnPrevariety (map p
 IsVerdict n fs (No v) = (length v ≡ n) × IsOnPrevariety (map points fs) v × (IsMonomialFree n fs v → ⊥)
 
 -- ---- the first vector that fails
+
+-- the fan of the prevariety of fs, with maximal cones whose rows are differences of two exponents of one polynomial
+pub record IsTestFan (n : ℕ) (fs : List Terms) (h : FanLists) : Type 0 where
+  pub prevariety : IsPrevarietyFan n (map points fs) h
+  pub rows : IsByDifferences (map points fs) h
 
 -- the rows of the maximal cones of a fan, in order
 abbrev pub maximal_rows : FanLists → List Rows

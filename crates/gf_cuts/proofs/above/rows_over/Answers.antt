@@ -23,7 +23,7 @@ loop-x-preserved c =
     let l : x < length A = c.requires.places i 0 c.loop-x-test.true in
     elim c.if-x-top.branch [
       | then-x-top+in_ok-difference+in_ok-push w ↦
-          rw w.out-is (over_more A c.args.top places c.loop-x.out.items _ w.in_ok-difference.field-0 x i c.requires.top c.loop-x-test.true refl
+          rw w.out-is (over_more A c.args.top places c.loop-x.out.items _ w.in_ok-difference.field-0 x i c.requires.top l c.loop-x-test.true refl
           (difference_at c.requires.wide.0 A c.args.top x w.index-points-top.result w.index-points-x.result w.in_ok-difference.field-0 c.requires.wide.1
           c.requires.top l w.index-points-top.is w.index-points-x.is w.in_ok-difference.ensures) w.in_ok-push.ensures.items c.loop-x.invariant)
       | else-x-top w ↦ rw w.out-is (over_left A c.args.top places c.loop-x.out.items x i c.loop-x-test.true refl w.if-x-top.false c.loop-x.invariant)

@@ -3,6 +3,7 @@ use Rattle.gf_rays.specs.Cones.{RowsAndRays, rows_of}
 use Rattle.gf_levels_theory.specs.Levels.{IsLevel}
 use Rattle.gf_cuts.proofs.LevelLaws.{level_next, all_joined}
 use Rattle.gf_cuts.proofs.OuterLaws.{taken, taken_ambient}
+use Rattle.gf_cuts.proofs.DrawnLaws.{drawn_next}
 use Rattle.gf_cuts.proofs.levels.parts_of_all.Goals as goal
 
 pub loop-cone-preserved : goal.loop-cone-preserved
@@ -20,5 +21,7 @@ loop-cone-preserved c =
       level = level_next c.args.members n c.args.points.now v x c.loop-cone.out.items c.in_ok-parts.parts.items c.in_ok-out.out.items
           (subst (λ m. IsLevel c.args.members m c.args.points.now (rows_of x ∷ []) (map rows_of c.in_ok-parts.parts.items)) own c.in_ok-parts.ensures.level)
           c.in_ok-out.ensures c.loop-cone.invariant.level;
+      rows = drawn_next c.args.points.now v x c.loop-cone.out.items c.in_ok-parts.parts.items c.in_ok-out.out.items c.in_ok-out.ensures
+          c.loop-cone.invariant.rows c.in_ok-parts.ensures.rows;
       whole = taken v rest new c.args.cones.items x e c.loop-cone.invariant.whole;
     }

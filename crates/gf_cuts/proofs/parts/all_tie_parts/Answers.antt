@@ -5,6 +5,7 @@ use Rattle.gf_rays.specs.Cones.{RowsAndRays, rows_of}
 use Rattle.gf_levels_theory.specs.Parts.{IsTiePart}
 use Rattle.gf_cuts.specs.Heights.{row_at, AreZero}
 use Rattle.gf_cuts.proofs.TieLaws.{marked_of, even_rows, rows_long, others_inside, kept_points, kept_marks, kept_parts, whole_part}
+use Rattle.gf_cuts.proofs.DrawnLaws.{drawn_alone}
 use Rattle.gf_cuts.proofs.parts.all_tie_parts.Goals as goal
 
 pub mark_rows-requires-clause-place : goal.mark_rows-requires-clause-place
@@ -79,3 +80,6 @@ returns-clause-parts c =
     (λ out s. kept_parts cone A c.args.rows.now marks c.args.top (length A) others kept out.items marked
     (subst (λ (z : List ℕ). AllZip (λ (x : ℕ) (p : RowsAndRays). IsTiePart cone.ambient A c.args.top x (rows_of cone) (rows_of p)) z out.items)
     c.deref-5.ensures.value s)) c.tie_parts.ensures.parts
+
+pub returns-then-is_some_zero-clause-rows : goal.returns-then-is_some_zero-clause-rows
+returns-then-is_some_zero-clause-rows c = drawn_alone c.args.points.now c.args.cone c.in_ok-alone.field-0.items c.in_ok-alone.ensures

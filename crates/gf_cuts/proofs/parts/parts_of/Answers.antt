@@ -7,6 +7,7 @@ use Rattle.gf_levels_theory.specs.Generators.{AreOuter}
 use Rattle.gf_levels_theory.proofs.PartLaws.{parts_level}
 use Rattle.gf_levels_theory.proofs.LevelLaws.{outer_level}
 use Rattle.gf_cuts.proofs.LevelLaws.{only_top, highest_alone, level_alone}
+use Rattle.gf_cuts.proofs.DrawnLaws.{drawn_outer}
 use Rattle.gf_cuts.proofs.parts.parts_of.Goals as goal
 
 pub top_parts-requires-clause-highest : goal.top_parts-requires-clause-highest
@@ -44,3 +45,7 @@ returns-clause-level c =
     outer_level c.args.members n A (cone ∷ []) parts out
     (parts_level c.args.members n A cone parts kept c.requires c.in_ok-kept.ensures.tops c.in_ok-kept.ensures.inside all)
     (subst (λ (m : ℕ). AreOuter m parts out) c.ambient.ensures c.in_ok-outer.ensures.outer)
+
+pub returns-clause-rows : goal.returns-clause-rows
+returns-clause-rows c = drawn_outer c.ambient.result c.args.points.now (rows_of c.args.cone ∷ []) (map rows_of c.in_ok-parts.parts.items)
+    (map rows_of c.in_ok-outer.field-0.items) c.in_ok-outer.ensures.outer c.in_ok-parts.ensures.rows

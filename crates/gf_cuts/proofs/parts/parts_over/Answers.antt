@@ -4,6 +4,7 @@ use Rattle.gf_gordan.specs.Alternative.{AreRows}
 use Rattle.gf_rays.specs.Cones.{RowsAndRays, rows_of}
 use Rattle.gf_levels_theory.specs.Parts.{IsTopOn, AreTopParts}
 use Rattle.gf_levels_theory.proofs.PartLaws.{top_on}
+use Rattle.gf_cuts.proofs.DrawnLaws.{drawn_below}
 use Rattle.gf_cuts.proofs.parts.parts_over.Goals as goal
 
 pub table-requires : goal.table-requires
@@ -34,3 +35,8 @@ returns-clause-parts c = IfOk-weaker c.top_parts.result _ _
       parts = subst (λ n. AreTopParts c.args.members n c.args.points.now c.args.top (rows_of c.in_ok-part.part) (map rows_of out.items))
           c.in_ok-part.ensures.ambient s;
     }) c.top_parts.ensures.parts
+
+pub returns-clause-rows : goal.returns-clause-rows
+returns-clause-rows c = IfOk-weaker c.top_parts.result _ _
+    (λ out s. drawn_below c.args.points.now (rows_of c.args.cone.now) (rows_of c.in_ok-part.part) (map rows_of out.items) c.in_ok-part.ensures.rows s)
+    c.top_parts.ensures.rows

@@ -5,7 +5,8 @@ use Rattle.gf_fans_theory.specs.FaceLists.{numbered}
 use Rattle.gf_patterns_theory.specs.PatternRows.{point_at, vector_difference}
 use Rattle.gf_rays.specs.Cones.{rows_of}
 use Rattle.gf_cuts.specs.Heights.{HasItsRays}
-use Rattle.gf_cuts.proofs.AboveLaws.{point_difference}
+use Rattle.gf_cuts.proofs.AboveLaws.{point_difference, drawn_at}
+use Rattle.gf_cuts.proofs.DrawnLaws.{drawn_tie}
 use Rattle.gf_cuts.proofs.HeightLaws.{table_long}
 use Rattle.gf_cuts.proofs.TiedLaws.{rays_fit, tied_as, tied_inside, tied_rays, tie_by, one_row}
 use Rattle.gf_cuts.proofs.ties.tie_part.Goals as goal
@@ -77,3 +78,14 @@ returns-clause-part c =
     let e = c.in_ok-part.ensures.rows in
     tie_by cone.ambient A c.args.top c.args.x (rows_of cone) (rows_of c.in_ok-part.field-0) h c.deref.result.now
     (point_difference cone.ambient A c.args.top c.args.x c.requires.wide c.requires.top c.requires.place) (c.deref.ensures.value ∙ c.in_ok-zero.ensures) e.1 e.2
+
+pub returns-clause-rows : goal.returns-clause-rows
+returns-clause-rows c =
+    let cone = c.args.cone.now in
+    let A = c.args.points.now in
+    let h : List ℤ = vector_difference (point_at A c.args.top) (point_at A c.args.x) in
+    let e = c.in_ok-part.ensures.rows in
+    drawn_tie A (rows_of cone) (rows_of c.in_ok-part.field-0) h c.deref.result.now
+    (drawn_at A c.args.top c.args.x h c.requires.top c.requires.place
+    (point_difference cone.ambient A c.args.top c.args.x c.requires.wide c.requires.top c.requires.place))
+    (c.deref.ensures.value ∙ c.in_ok-zero.ensures) e.1 e.2

@@ -30,7 +30,7 @@ returns-in_ok-keep-in-Ok-false-clause-ok c = subst (TellsMonomial c.args.basis.n
 pub returns-in-Err-clause-err : goal.returns-in-Err-clause-err
 returns-in-Err-clause-err c = (
   c.in_ok-forms.forms.items,
-  c.in_ok-forms.ensures.forms,
+  record { forms = c.in_ok-forms.ensures.forms; variables = c.in_ok-forms.ensures.variables },
   subst (λ m. IsSaturateRefusal m c.in_ok-forms.forms.items c.args.pairs c.in-Err.refusal) c.variables.ensures
       (subst (λ (z : List Terms). IsSaturateRefusal c.variables.result z c.args.pairs c.in-Err.refusal) c.deref-2.ensures.value c.in-Err.ensures.err),
 )

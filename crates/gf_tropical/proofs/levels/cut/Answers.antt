@@ -9,6 +9,7 @@ use Rattle.gf_patterns_theory.proofs.PointLaws.{points_distinct}
 use Rattle.gf_levels_theory.specs.Levels.{IsLevel}
 use Rattle.gf_levels_theory.specs.VertexPoints.{AreVertexPoints}
 use Rattle.gf_tropical.proofs.CutLaws.{level_patterns}
+use Rattle.gf_tropical.proofs.DifferenceRowLaws.{of_cut}
 use Rattle.gf_tropical.proofs.levels.cut.Goals as goal
 
 pub vertex_points-requires-clause-variables : goal.vertex_points-requires-clause-variables
@@ -34,3 +35,10 @@ returns-clause-fan c = λ As some p.
     (subst (AreVertexPoints c.args.n (points c.terms.result.now)) (sym c.deref.ensures.value) c.in_ok-tops.ensures.points)) some
     (subst (λ z. HaveEntries c.args.n (map rows_of z)) c.deref-2.ensures.value c.have_entries.ensures) p
     (subst (λ m. IsLevel m c.args.n c.deref.result.now cs ps) c.members.ensures c.in_ok-out.ensures.level)
+
+pub returns-clause-rows : goal.returns-clause-rows
+returns-clause-rows c = λ As listed old.
+    let f = c.args.f.now in
+    of_cut c.args.n As (points f) c.deref.result.now (map rows_of c.args.cones.items) (map rows_of c.in_ok-out.out.items) listed
+    (subst (λ z. AreVertexPoints c.args.n (points z) c.deref.result.now) c.terms.ensures.value
+    (subst (AreVertexPoints c.args.n (points c.terms.result.now)) (sym c.deref.ensures.value) c.in_ok-tops.ensures.points)) c.in_ok-out.ensures.rows old

@@ -82,7 +82,7 @@ returns-clause-err g c =
     let node = subst (λ m. IsNodeIn (ideal_by m c.args.set.now) c.in_ok-start.start) (sym b.variables)
     (start_of_ideal c.args.n c.args.set.now c.in_ok-start.start c.requires.variables b).0 in
     IfErr-weaker c.at_bases.result _ _ (λ e f. refused_at_bases c.args.n c.in_ok-start.start.variables c.args.set.now c.in_ok-fan.fan c.args.pairs e b.variables
-    c.in_ok-fan.ensures.ok (f c.args.set.now node)) c.at_bases.ensures.err
+    (record { prevariety = c.in_ok-fan.ensures.ok; rows = c.in_ok-fan.ensures.rows }) (f c.args.set.now node)) c.at_bases.ensures.err
 
 pub returns-clause-zero : goal.returns-clause-zero
 returns-clause-zero g c = λ i z. let e = c.in_ok-fan.ensures.zero_always i z in cc
