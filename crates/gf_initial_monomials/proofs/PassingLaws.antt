@@ -1,5 +1,5 @@
--- Vectors that passed at a basis. To cite: among, one_more, of_none, passed_none, passed_on, still_known, found_passes, passed_more, known_in_cut,
--- passed_by_cut.
+-- Vectors that passed at a basis. To cite: among, one_more, of_none, passed_none, passed_on, still_known, found_passes, passed_more, known_in_part,
+-- passed_by_part.
 use Rattle.std.proofs.Common.{◌≡◌, ◌∙◌, ◌⊎◌, if◌then◌else◌, ℕ, Bool, true, false, List, [], ◌∷◌, ◌++◌, ℤ, All, Contains, length, refl, sym, ap, subst, inl, inr}
 use Rattle.std.specs.Bool.{Decides}
 use Rattle.std.specs.List.{list_any}
@@ -20,7 +20,8 @@ use Rattle.gf_fans_theory.proofs.FanLaws.{is_in, up_in, of_part}
 use Rattle.gf_rays.specs.Cones.{RowsAndRays, rows_of}
 use Rattle.gf_rays.specs.Faces.{AreFaces, IsPartBy}
 use Rattle.gf_rays.specs.declared.faces.Face.{Face}
-use Rattle.gf_initial_monomials.specs.Outcomes.{HasNoMonomialAt, TellsMonomial, PassesAt, IsCutBy, vector_of}
+use Rattle.gf_initial_monomials.specs.Outcomes.{HasNoMonomialAt, TellsMonomial, PassesAt, vector_of}
+use Rattle.gf_initial_monomials.specs.Cuts.{with_rows, IsPartAs}
 use Rattle.gf_initial_monomials.specs.Passing.{AreKnownIn, HasPassedIn, ArePassedIn}
 
 -- ---- the set of vectors
@@ -94,20 +95,21 @@ passed_more n bs c faces f v b old now next e a k q t tells more p u m = elim (m
           none = subst (TellsMonomial n bs v) t tells;
         }
 
--- ---- in what a cone and rows share
+-- ---- in the part of a cone on which none of some rows is negative
 
-in_rows : (c : Rows) (n : ℕ) (rows : List (List ℤ)) (d : RowsAndRays) (v : List ℤ) → IsCutBy c n rows d → IsInCone (rows_of d) v → IsInCone (cone_of rows) v
-in_rows c n rows d v k i = is_in (cone_of rows) v
-    (λ h m. up_in (rows_of d) v h i (subst (λ (z : List (List ℤ)). Contains z h) (sym k.inequalities) (Contains-append_right c.inequalities rows h m)))
+in_rows : (c : Rows) (n : ℕ) (rows : List (List ℤ)) (d : RowsAndRays) (v : List ℤ) → IsPartAs c n rows d → length v ≡ n → IsInCone (rows_of d) v →
+    IsInCone (cone_of rows) v
+in_rows c n rows d v k l i =
+    is_in (cone_of rows) v (λ h m. up_in (with_rows c rows) v h ((k.same v l).0 i) (Contains-append_right c.inequalities rows h m))
     (λ e m. absurd (none_in e m))
 
-pub known_in_cut : (n : ℕ) (bs : List MarkedPolynomial) (c : Rows) (rows : List (List ℤ)) (d : RowsAndRays) (vs : List (List ℤ)) → IsCutBy c n rows d →
+pub known_in_part : (n : ℕ) (bs : List MarkedPolynomial) (c : Rows) (rows : List (List ℤ)) (d : RowsAndRays) (vs : List (List ℤ)) → IsPartAs c n rows d →
     AreKnownIn n bs (cone_of rows) vs → AreKnownIn n bs (rows_of d) vs
-known_in_cut n bs c rows d vs k known v m l i = known v m l (in_rows c n rows d v k i)
+known_in_part n bs c rows d vs k known v m l i = known v m l (in_rows c n rows d v k l i)
 
-pub passed_by_cut : (n : ℕ) (bs : List MarkedPolynomial) (c : Rows) (rows : List (List ℤ)) (d : RowsAndRays) (old new : List (List ℤ)) → IsCutBy c n rows d →
+pub passed_by_part : (n : ℕ) (bs : List MarkedPolynomial) (c : Rows) (rows : List (List ℤ)) (d : RowsAndRays) (old new : List (List ℤ)) → IsPartAs c n rows d →
     ArePassedIn n bs (rows_of d) old new → ArePassedIn n bs (cone_of rows) old new
-passed_by_cut n bs c rows d old new k p v m = elim (p v m) [
+passed_by_part n bs c rows d old new k p v m = elim (p v m) [
   | inl o ↦ inl o
-  | inr h ↦ inr (record { long = h.long; inside = in_rows c n rows d v k h.inside; none = h.none })
+  | inr h ↦ inr (record { long = h.long; inside = in_rows c n rows d v k h.long h.inside; none = h.none })
 ]

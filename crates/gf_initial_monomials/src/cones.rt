@@ -1,15 +1,17 @@
 //! The intersection of a cone with the closed cone of a basis.
-ghost use Rattle.std.specs.Prelude.{◌≡◌, ◌++◌, ◌<◌, IfOk, IfErr};
+ghost use Rattle.std.specs.Prelude.{◌≡◌, ◌++◌, ◌<◌, List, ℤ, IfOk, IfErr};
 ghost use Rattle.gf_gordan.specs.Alternative.{AreRows};
 ghost use Rattle.gf_gordan.specs.Steps.{Failed};
-ghost use Rattle.gf_duality_theory.specs.Faces.{cone_of};
+ghost use Rattle.gf_duality_theory.specs.Faces.{Rows, cone_of};
 ghost use Rattle.gf_rays.specs.Cones.{rows_of};
 ghost use Rattle.gf_rays.specs.Reached.{IsRaysStep};
 ghost use Rattle.gf_initial_monomials.specs.Outcomes.{IsCutBy, HasOutcome};
+ghost use Rattle.gf_initial_monomials.specs.Cuts.{AreCutting, IsPartAs};
 ghost use Rattle.gf_initial_monomials.specs.Passing.{AreKnownIn, ArePassedIn};
 ghost use Rattle.gf_initial_monomials.specs.Refusals.{IsConeRefusal};
 ghost use Rattle.gf_initial_monomials.specs.Limits.{AreFacesWithinLimits, IsMemoryWanted};
 
+use crate::cutting::cutting;
 use crate::error::InitialError;
 use crate::faces::at_faces;
 use crate::passed::Passed;
@@ -33,23 +35,53 @@ fn cut_anew(alloc: Global, cone: &Rays, rows: &[IntVec]) -> Result<Rays, GordanE
     Rays::of(alloc, cone.ambient(), &inequalities, cone.equations())
 }
 
-/// The part of a cone on which none of the rows is negative: by a double description that begins with the rays of the cone, and where that is
-/// refused, by one of all rows.
+/// The part of a cone on which none of the rows is negative: by a double description that begins with the rays of the cone, and takes in
+/// those rows alone that may cut something off; where that is refused, by one of all rows.
 ///
 /// # Errors
 /// `Cone`: an operation of finding its rays by all rows leaves its range. `Memory`: memory runs out.
-fn cut_by(alloc: Global, cone: &Rays, rows: &[IntVec]) -> Result<Rays, GordanError>
-    requires { AreRows cone.now.ambient rows.now }
-    ensures ok { IfOk result (IsCutBy (rows_of cone.now) cone.now.ambient rows.now) }
+fn cut_by(alloc: Global, cone: &Rays, rows: &[IntVec], more: &[IntVec]) -> Result<Rays, GordanError>
+    requires rows { AreRows cone.now.ambient rows.now }
+    requires more { AreCutting cone.now.ambient (rows_of cone.now) rows.now more.now }
+    ensures ok { IfOk result (IsPartAs (rows_of cone.now) cone.now.ambient rows.now) }
     ensures err { IfErr result (Failed (IsRaysStep cone.now.ambient (cone.now.inequalities ++ rows.now) cone.now.equations)) }
 {
-    match cone.with_more(rows) {
+    match cone.with_more(more) {
         Ok(cut) => Ok(cut),
         Err(_) => cut_anew(alloc, cone, rows),
     }
 }
 
-/// The first vector that fails of the intersection of the cone with the cone of the rows.
+/// The first vector that fails of a cone inside the closed cone of the basis, whichever rows the cone is given by.
+///
+/// # Errors
+/// Those of `at_cone` at its faces.
+fn at_part(
+    alloc: Global,
+    basis: &MarkedSet,
+    part: &Rays,
+    pairs: u64,
+    seen: &mut Seen,
+    passed: &mut Passed,
+) -> Result<Option<IntVec>, InitialError>
+    requires room { basis.now.variables < ROOM }
+    requires ambient { part.now.ambient ≡ basis.now.variables }
+    requires seen { seen.old ≡ basis.now.variables }
+    requires known { AreKnownIn basis.now.variables basis.now.items (rows_of part.now) passed.old }
+    ensures seen { seen.new ≡ seen.old }
+    ensures passed { IfOk result (λ _. ArePassedIn basis.now.variables basis.now.items (rows_of part.now) passed.old passed.new) }
+    ensures ok { IfOk result (λ v. (c : Rows) (rows : List (List ℤ)) → IsPartAs c basis.now.variables rows part.now →
+        HasOutcome basis.now.variables basis.now.items rows c v) }
+    ensures err { IfErr result (λ e. (c : Rows) (rows : List (List ℤ)) → IsPartAs c basis.now.variables rows part.now →
+        IsConeRefusal basis.now.variables basis.now.items rows c pairs e) }
+{
+    part.rays();
+    let faces = part.faces()?;
+    at_faces(alloc, basis, part, &faces, pairs, seen, passed)
+}
+
+/// The first vector that fails of the intersection of the cone with the cone of the rows. Where none of the rows cuts anything off the cone,
+/// the intersection is the cone itself, and no double description is needed.
 ///
 /// # Errors
 /// Those of `at_cone`.
@@ -72,9 +104,12 @@ fn first_failing(
     ensures ok { IfOk result (HasOutcome basis.now.variables basis.now.items normals.now (rows_of cone.now)) }
     ensures err { IfErr result (IsConeRefusal basis.now.variables basis.now.items normals.now (rows_of cone.now) pairs) }
 {
-    let cut = cut_by(alloc, cone, normals)?;
-    let faces = cut.faces()?;
-    at_faces(alloc, basis, &cut, &faces, pairs, seen, passed)
+    let more = cutting(alloc, cone, normals)?;
+    if more.is_empty() {
+        return at_part(alloc, basis, cone, pairs, seen, passed);
+    }
+    let cut = cut_by(alloc, cone, normals, &more)?;
+    at_part(alloc, basis, &cut, pairs, seen, passed)
 }
 
 /// The first vector that fails of a cone and a Gröbner basis, whose `normals` are those of its closed cone; none if all pass. For each face

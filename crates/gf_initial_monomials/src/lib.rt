@@ -5,6 +5,7 @@
 #![tactic(auto)]
 
 mod cones;
+mod cutting;
 mod error;
 mod faces;
 mod forms;
