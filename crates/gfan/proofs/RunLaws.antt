@@ -21,10 +21,11 @@ use Rattle.gf_frame.proofs.LoadingLaws.{loaded_known, unloaded_known, unloaded_o
 use Rattle.gf_frame.proofs.ProgramLaws.{done_as, stopped_as}
 use Rattle.gfan_common.specs.declared.refused.Refused.{Refused}
 use Rattle.gfan_common.specs.Refused.{IsUnnamed, IsNamedBy, IsRingOf, IsOfSource, without_names}
-use Rattle.gfan.specs.Commands.{list_options, command_of, IsPastReach}
+use Rattle.gfan.specs.Commands.{command_of, IsPastReach}
 use Rattle.gfan.specs.Run.{ReadWhole, IsRingOfInput, IsRingOfFile, IsOfSources, IsOfLoaded}
 use Rattle.gfan_common.proofs.PerformedLaws.{of_unnamed}
 use Rattle.gfan_lists.proofs.PastLaws.{past_refused, past_unanswered}
+use Rattle.gfan_lists.specs.Ways.{ways_of, list_options}
 use Rattle.gfan_lists.specs.ListCommand.{list_sources}
 use Rattle.gfan.proofs.CommandLaws.{lawful}
 use Rattle.gfan_interactive.specs.Interactive.{IsConversed, IsNotConversed}
@@ -162,12 +163,12 @@ takes_turns job options is = inr (subst (λ j. TakesTurns (command_of j).writing
 job_refused : (job : Job) (texts : List (List ℕ)) (most : ℕ) (d : Refusal) → IsPastReach job texts most → IsRefusedOn (command_of job) texts d →
     (d ≡ refusals.ListLimit most) ⊎ (d ≡ refusals.Memory)
 job_refused (jobs.Bases o) texts most d p h =
-    past_refused o.from_basis (is_some o.within) (is_some o.after) (list_sources o.within o.after) (list_options o) texts most p d h
+    past_refused (ways_of o) (list_sources o.within o.after) (list_options o) texts most p d h
 job_refused _ texts most d p h = absurd p
 
 job_unanswered : (job : Job) (texts : List (List ℕ)) (most : ℕ) (text : List ℕ) → IsPastReach job texts most → IsAnswered (command_of job) texts text → ⊥
 job_unanswered (jobs.Bases o) texts most text p a =
-    past_unanswered o.from_basis (is_some o.within) (is_some o.after) (list_sources o.within o.after) (list_options o) texts most p text a
+    past_unanswered (ways_of o) (list_sources o.within o.after) (list_options o) texts most p text a
 job_unanswered _ texts most text p a = p
 
 past_alone : (job : Job) (texts : List (List ℕ)) (most : ℕ) → IsPastReach job texts most → TakesTurns (command_of job).writing → ⊥

@@ -1,15 +1,15 @@
 -- The command of each job.
-use Rattle.std.specs.Prelude.{◌≡◌, ℕ, Bool, List, [], ◌∷◌, None, is_some}
+use Rattle.std.specs.Prelude.{◌≡◌, ℕ, Bool, List, [], ◌∷◌, None}
 use Rattle.gf_front.specs.declared.command_line.Job.{Job}
 use Rattle.gf_front.specs.declared.command_line.Job.TheVariants as jobs
 use Rattle.gf_front.specs.declared.plain.PlainCommand.{PlainCommand}
 use Rattle.gf_front.specs.declared.plain.PlainCommand.TheVariants as plains
-use Rattle.gf_front.specs.declared.options.BasesOptions.{BasesOptions}
 use Rattle.gf_frame.specs.Loading.{Origin}
 use Rattle.gf_frame.specs.Commands.{Command, IsAnswered}
 use Rattle.gfan_lists.specs.declared.bases.ListOptions.{ListOptions}
 use Rattle.gfan_sets.specs.Buchberger.{buchberger_command}
-use Rattle.gfan_lists.specs.ListCommand.{list_sources, AreTextsPast, list_command}
+use Rattle.gfan_lists.specs.Ways.{ways_of, list_options}
+use Rattle.gfan_lists.specs.ListCommand.{AreTextsPast, bases_command}
 use Rattle.gfan_sets.specs.Marked.{marked_command}
 use Rattle.gfan_sets.specs.Containment.{containment_command}
 use Rattle.gfan_sets.specs.LeadingTerms.{leading_terms_command}
@@ -27,13 +27,9 @@ use Rattle.gfan_fans.specs.Tropical.{tropical_command}
 use Rattle.gfan_fans.specs.BasisTest.{intersection_command}
 use Rattle.gfan_fans.specs.CommonRefinement.{refinement_command}
 use Rattle.gfan_fans.specs.MigrateFan.{migrate_fan_command}
-use Rattle.gfan_lists.specs.Generated.{generated_command}
+use Rattle.gfan_generated.specs.Generated.{generated_command}
 use Rattle.gfan_sets.specs.Saturation.{saturation_command}
 use Rattle.gfan_interactive.specs.Interactive.{interactive_command}
-
--- the options on which the list of `_bases` depends: not the files that are read, nor the number of workers
-abbrev pub list_options : BasesOptions → ListOptions
-list_options o = record { limit = o.limit; pairs = o.pairs; certified = o.certificates }
 
 -- the job of `_bases` with these options, for all positive weights, from a basis or from generators
 abbrev pub list_job : Bool → ListOptions → ℕ → Job
@@ -65,7 +61,7 @@ plain_command plains.MigrateFan = migrate_fan_command
 abbrev pub command_of : Job → Command
 command_of (jobs.Plain c) = plain_command c
 command_of (jobs.Buchberger o) = buchberger_command o
-command_of (jobs.Bases o) = list_command o.from_basis (is_some o.within) (is_some o.after) (list_sources o.within o.after) (list_options o)
+command_of (jobs.Bases o) = bases_command o
 command_of (jobs.LeadingTerms o) = leading_terms_command o
 command_of (jobs.WeightVector o) = weight_vector_command o
 command_of (jobs.GroebnerCone o) = groebner_cone_command o
@@ -86,5 +82,5 @@ IsAnswerTo job source text = IsAnswered (command_of job) (source ∷ []) text
 
 -- the job is `_bases`, its list continues after its limit, and no operation until then leaves its limits
 abbrev pub IsPastReach : Job → List (List ℕ) → ℕ → Type 0
-IsPastReach (jobs.Bases o) texts most = AreTextsPast o.from_basis (is_some o.within) (is_some o.after) (list_options o) texts most
+IsPastReach (jobs.Bases o) texts most = AreTextsPast (ways_of o) (list_options o) texts most
 IsPastReach _ texts most = ⊥

@@ -13,10 +13,9 @@
 //! line as a walk over bases; `_generated` reads nothing, and sums up the bases of an ideal; `_saturation` reads a ring and a set, and
 //! writes the reduced basis by deglex of the saturation of its ideal by the product of the variables.
 //!
-//! Start at `run`. `specs/Commands.antt` has the command of each job, and `specs/` of `gfan_sets`, `gfan_fans`, `gfan_lists` and
-//! `gfan_interactive` have their outputs.
+//! Start at `run`. `specs/Commands.antt` has the command of each job, and `specs/` of `gfan_sets`, `gfan_fans`, `gfan_lists`,
+//! `gfan_generated` and `gfan_interactive` have their outputs.
 #![tactic(auto)]
 
 mod commands;
-pub mod laws;
 pub mod run;

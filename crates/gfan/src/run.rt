@@ -10,11 +10,11 @@ ghost use Rattle.gf_frame.specs.Seen.{seen, output_seen};
 ghost use Rattle.gf_frame.specs.Runs.{AreGivenTexts};
 ghost use Rattle.gf_frame.specs.Programs.{IsRunDone, IsRunRefused, RunClauses, IsRefusedWith, AskForNoInput, AskForNoFile};
 ghost use Rattle.gfan.specs.Commands.{command_of, IsPastReach};
-ghost use Rattle.gfan.specs.PlainInputs.{IsOnBinomials};
+ghost use Rattle.gfan_plain_theory.specs.PlainInputs.{IsOnBinomials};
 ghost use Rattle.gfan.specs.Run.{IsOfSources, IsTold};
 
-use crate::commands::{perform, texts_for};
-use gf_front::{Job, Refusal, Status};
+use crate::commands::{Work, perform_list, texts_for, work_for, write_text};
+use gf_front::{Refusal, Status};
 use gf_outside::{Files, Sink, Source};
 use gf_waves::Gate;
 use gfan_common::refused::Refused;
@@ -51,11 +51,11 @@ fn outcome<R: Threads + Sync, S: Source, K: Sink, F: Files, G: Gate>(
 {
     let job = gf_front::words(alloc, words)?;
     let texts = texts_for(alloc, &job, input, files)?;
-    match &job {
-        Job::Interactive(given) => {
-            interactive::perform(alloc, &texts[0], given.pairs, input, output)
-        }
-        other => perform(rt, alloc, other, &texts, output, gate),
+    let work = work_for(rt, alloc, &job, &texts)?;
+    match work {
+        Work::Text(text) => write_text(&text, output),
+        Work::List(given) => perform_list(rt, alloc, given, &texts, output, gate),
+        Work::Turns(given) => interactive::perform(alloc, &texts[0], given.pairs, input, output),
     }
 }
 

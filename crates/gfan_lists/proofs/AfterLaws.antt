@@ -55,7 +55,7 @@ use Rattle.gf_front.specs.declared.refusal.Refusal.TheVariants as refusals
 use Rattle.gf_items.specs.Refusals.{IsExactRefusal, IsOfTest, IsOfNumbers, TellsSame}
 use Rattle.gf_items.proofs.CheckLaws.{IsCheckedOnce}
 use Rattle.gfan_common.specs.Forms.{generators_of}
-use Rattle.gfan_lists.specs.BasesWriting.{StartsIn}
+use Rattle.gf_lists_theory.specs.Starts.{StartsIn}
 use Rattle.gfan_common.specs.CheckedSets.{of_check}
 use Rattle.gfan_common.specs.Refused.{IsNamedBy}
 use Rattle.gfan_lists.specs.After.{IsFirstDifference, IsOtherRing, same_names, IsBasisTaken, LeaveZero, IsFirstOutside, IsSomeOutside, IsListedBy, IsUnlisted}
@@ -124,12 +124,12 @@ names_check found names = record { once = once; apart = apart; kind = kind }
 
 -- ---- the region
 
-pub cut_one : (is_cut : Bool) (n : ℕ) (rows : List (List ℤ)) (k j : Region) → IsRegionCut is_cut n rows k → IsRegionCut is_cut n rows j → k ≡ j
+pub cut_one : (in_region : Bool) (n : ℕ) (rows : List (List ℤ)) (k j : Region) → IsRegionCut in_region n rows k → IsRegionCut in_region n rows j → k ≡ j
 cut_one false n rows k j p q = p ∙ sym q
 cut_one true n rows k j p q = regions_are_one.one n rows k j p q
 
 -- it has a root, and rows of its width
-pub cut_region : (is_cut : Bool) (n : ℕ) (rows : List (List ℤ)) (k : Region) → IsRegionCut is_cut n rows k → IsRegion n k
+pub cut_region : (in_region : Bool) (n : ℕ) (rows : List (List ℤ)) (k : Region) → IsRegionCut in_region n rows k → IsRegion n k
 cut_region false n rows k i = subst (IsRegion n) (sym i) (all_positive-region n)
 cut_region true n rows k i = i.region
 

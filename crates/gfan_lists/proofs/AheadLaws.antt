@@ -1,7 +1,7 @@
 -- The bases that are taken out of a list before those in front of them are written.
 -- To cite: kept_here, next_kept, way_kept, end_kept, one_ahead, ahead_push, ahead_left, ahead_ideal, ahead_variables, ahead_worked, ahead_fewer,
 -- popped_ahead, popped_fewer. The rest are steps.
-use Rattle.std.specs.Prelude.{◌≡◌, ℕ, suc, ◌+◌, ◌-◌, ◌<◌, ◌≤◌, Bool, false, List, [], ◌∷◌, ◌++◌, length, slice_index_or}
+use Rattle.std.specs.Prelude.{◌≡◌, ℕ, suc, ◌+◌, ◌-◌, ◌<◌, ◌≤◌, Bool, false, List, [], ◌∷◌, ◌++◌, length}
 use Rattle.std.specs.Prelude.{Option, None, Some, IfSome, MatchOption, option_to_list}
 use Rattle.std.specs.List.{All}
 use Rattle.std.proofs.Common.{arith, refl, sym, ap, ap₂, ◌∙◌, subst}

@@ -40,17 +40,18 @@ use Rattle.gfan_lists.specs.declared.bases.Room.{Room}
 use Rattle.gfan_lists.specs.declared.bases.Room.TheVariants.{Endless, Limited}
 use Rattle.gfan_common.specs.Forms.{generators_of}
 use Rattle.gfan_common.specs.Causes.{of_weight_error, of_tree}
-use Rattle.gfan_lists.specs.BasesList.{AreAllBasesIn}
+use Rattle.gf_lists_theory.specs.BasesList.{AreAllBasesIn}
 use Rattle.gfan_lists.specs.Certificates.{IsItemTextIn, IsItemRefusalIn}
 use Rattle.gfan_lists.specs.Bases.{AreItemTextsIn, IsWithinLimit, list_text, begun_text, IsFullTextBehind, IsStoppedAt}
 use Rattle.gfan_lists.specs.Bases.{IsBegunWhereBehind}
 use Rattle.gfan_lists.specs.BasesWriting.{basis_piece, IsBasisWritten, IsUnwritten, IsBasisUnwritten, HasRoomFor, IsOneLess, IsFull}
-use Rattle.gfan_lists.specs.BasesWriting.{StartsIn, GoesOnBehind, IsListWrittenBehind, IsListBegunBehind, IsListStoppedBehind}
+use Rattle.gf_lists_theory.specs.Starts.{StartsIn}
+use Rattle.gfan_lists.specs.BasesWriting.{GoesOnBehind, IsListWrittenBehind, IsListBegunBehind, IsListStoppedBehind}
 use Rattle.gfan_lists.specs.BasesWriting.{end_piece, is_none_of, IsUnderWay}
 use Rattle.gfan_common.specs.Refused.{IsUnnamed, without_names}
 use Rattle.gfan_common.proofs.WrittenSetLaws.{in_ring}
 use Rattle.gfan_common.proofs.CauseLaws.{unnamed_weight}
-use Rattle.gfan_lists.proofs.BasesListLaws.{among_left, among_right, root_marks, all_bases_in}
+use Rattle.gf_lists_theory.proofs.BasesListLaws.{among_left, among_right, root_marks, all_bases_in}
 use Rattle.gfan_lists.proofs.CertificateLaws.{AllZip-append, items_exist}
 use Rattle.gfan_lists.proofs.BasesTextLaws.{begun_next, whole_begun, prefix_on, prefix_piece, prefix_begun}
 

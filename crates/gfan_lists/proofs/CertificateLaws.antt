@@ -12,7 +12,7 @@ use Rattle.gf_weights.specs.declared.certificates.FacetWitness.{FacetWitness}
 use Rattle.gf_weights.proofs.UniqueLaws.{one_weight, one_facets}
 use Rattle.gf_weights.proofs.WitnessesExist.{weight_exists, facets_exist}
 use Rattle.gf_reverse_search.specs.Listing.{Among}
-use Rattle.gfan_lists.specs.BasesList.{IsGivenIn}
+use Rattle.gf_lists_theory.specs.BasesList.{IsGivenIn}
 use Rattle.gfan_lists.specs.Certificates.{certificates_text, IsCertificatesTextIn, IsItemTextIn}
 use Rattle.gfan_lists.specs.Bases.{AreItemTextsIn}
 

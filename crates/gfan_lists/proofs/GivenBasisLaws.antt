@@ -34,9 +34,9 @@ use Rattle.gf_tree.specs.Ideals.{ideal_by}
 use Rattle.gf_tree.specs.Parents.{ideal_of, IsRootFor}
 use Rattle.gf_tree.specs.Refusals.{IsTreeRefusal, IsWayRefused}
 use Rattle.gf_tree.proofs.RefusalLaws.{refusal_moved, way_refused}
-use Rattle.gfan_lists.specs.BasesWriting.{StartsAt}
+use Rattle.gf_lists_theory.specs.Starts.{StartsAt}
 use Rattle.gfan_lists.specs.GivenBasis.{IsReducedFrom}
-use Rattle.gfan_lists.proofs.BasesListLaws.{given_node, node_given, start_of_root}
+use Rattle.gf_lists_theory.proofs.BasesListLaws.{given_node, node_given, start_of_root}
 
 -- ---- the basis reduced
 

@@ -1,5 +1,3 @@
-pub mod BasesListLaws  -- the list of all bases, and what it has
-pub mod OneListLaws  -- an ideal has one list of all bases
 pub mod PartsLaws  -- parts of a list make it up
 pub mod CertificateLaws  -- what stands for a basis is one text, and what its certificates show
 pub mod BasesTextLaws  -- pieces that follow one another are the text of the list
@@ -11,7 +9,6 @@ pub mod GivenBasisLaws  -- a marked Gröbner basis is reduced, and taken up to t
 pub mod WithinLaws  -- the region of a file, and refusals before anything is written
 pub mod RootLaws  -- why a list has no first basis
 pub mod WideRootLaws  -- an entry of the root of a region that is too great
-pub mod SummaryLaws  -- how a list is summed up
 pub mod AfterLaws  -- the basis that a list goes on behind is taken, and listed below the root, in one way
 pub mod StartLaws  -- what follows some bases of a list, and why it isn't started after one
 pub mod ListCommandLaws  -- the command `_bases` is lawful

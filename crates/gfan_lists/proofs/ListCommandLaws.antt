@@ -1,6 +1,6 @@
 -- `_bases`: it is read in one way, each refusal of it is told in one way, and the command is lawful.
 -- To cite: list_read, IsBehindKept, IsListSaid, said_list, said_kept, said_inside; names_apart; unstarted_unlisted, unstarted_within, unstarted_told;
--- cut_rows, checked_list, list_lawful. The rest are steps.
+-- cut_rows, checked_list, bases_lawful. The rest are steps.
 use Rattle.std.specs.Prelude.{◌≡◌, ◌⊎◌, ℕ, Bool, true, false, List, [], ◌∷◌, ◌++◌, length, Option, Some, None, ℤ}
 use Rattle.std.proofs.Common.{sym, ap, ◌∙◌, subst, inl, inr}
 use Rattle.gf_poly.specs.Polynomial.{Terms}
@@ -11,6 +11,7 @@ use Rattle.gf_gordan.specs.Alternative.{AreRows}
 use Rattle.gf_reduced.proofs.GroebnerLaws.{polys_variables}
 use Rattle.gf_facets_theory.specs.Regions.{Region}
 use Rattle.gf_weights.specs.Roots.{IsRegionOf}
+use Rattle.gf_front.specs.declared.options.BasesOptions.{BasesOptions}
 use Rattle.gf_front.specs.declared.refusal.Refusal.{Refusal}
 use Rattle.gf_front.specs.declared.refusal.Refusal.TheVariants as refusals
 use Rattle.gf_items.specs.Items.{from}
@@ -26,13 +27,15 @@ use Rattle.gf_frame.proofs.CommandLaws.{IsLawful, as_told}
 use Rattle.gf_frame.proofs.ReadingLaws.{one_once, more_once}
 use Rattle.gf_frame.proofs.SoundLaws.{work_apart, writing_kind}
 use Rattle.gfan_lists.specs.declared.bases.ListOptions.{ListOptions}
-use Rattle.gfan_lists.specs.BasesList.{AreAllBasesIn}
+use Rattle.gfan_lists.specs.Ways.{Ways, ways_of, list_options}
+use Rattle.gf_lists_theory.specs.BasesList.{AreAllBasesIn}
 use Rattle.gfan_common.specs.Forms.{generators_of}
 use Rattle.gfan_common.specs.Refused.{IsNamedBy}
 use Rattle.gfan_lists.specs.Within.{of_region, IsNoRegion}
 use Rattle.gfan_lists.specs.After.{Given, names_given, generators_given, reading_given, IsBasisGiven, with_none, reading_cut, IsRegionCut}
-use Rattle.gfan_lists.specs.ListCommand.{Behind, AreSameNames, IsOtherNames, IsFront, reading_behind, ListValue, reading_list, list_sources, checks_list}
-use Rattle.gfan_lists.specs.ListCommand.{IsUnstarted, IsEarlyCause, IsListCause, IsStartedWithin, IsListWithin, list_command}
+use Rattle.gfan_lists.specs.ListCommand.{Behind, AreSameNames, IsOtherNames, IsFront, reading_behind, ListValue, names_in, ideal_in, reading_list}
+use Rattle.gfan_lists.specs.ListCommand.{list_sources, checks_for, checks_list, IsUnstartedFrom, IsUnstarted, IsEarlyCause, IsListCause, IsStartedWithin}
+use Rattle.gfan_lists.specs.ListCommand.{IsListWithin, list_command, bases_command}
 use Rattle.gfan_common.proofs.ReadSetLaws.{IsSetKept, one_kept, set_variables, set_kept, marked_kept}
 use Rattle.gfan_common.proofs.ToolFormLaws.{each_check}
 use Rattle.gfan_lists.proofs.WithinLaws.{region_work, no_region_same, no_region_there, region_numbers}
@@ -47,7 +50,7 @@ given_read : (from_basis : Bool) → AreReadOnce (reading_given from_basis)
 given_read false = one_once _ (ring_and_once a_set (vector_where false ∷ []))
 given_read true = one_once _ (ring_and_once a_marked_set [])
 
-behind_read : {A : Type 0} (is_behind : Bool) (others : Reading A) → AreReadOnce others → AreReadOnce (reading_behind is_behind others)
+behind_read : {A : Type 0} (after_basis : Bool) (others : Reading A) → AreReadOnce others → AreReadOnce (reading_behind after_basis others)
 behind_read {A} false others rest = record {
   once = once;
   apart = λ texts a e h k n. rest.apart texts a.1 e h k n;
@@ -71,22 +74,23 @@ none_read {A} others rest = record {
         let two : b.1 ≡ a.1 = rest.once texts a.1 b.1 h.1 k.1 in
         λ i. (one i, two i)
 
-cut_read : {A : Type 0} (is_cut : Bool) (others : Reading A) → AreReadOnce others → AreReadOnce (reading_cut is_cut others)
+cut_read : {A : Type 0} (in_region : Bool) (others : Reading A) → AreReadOnce others → AreReadOnce (reading_cut in_region others)
 cut_read false others rest = none_read others rest
 cut_read true others rest = more_once vectors_alone (items_once vector_list [] []) others rest
 
-pub list_read : (from_basis is_cut is_behind : Bool) → AreReadOnce (reading_list from_basis is_cut is_behind)
-list_read from_basis is_cut is_behind =
-    cut_read is_cut (reading_behind is_behind (reading_given from_basis)) (behind_read is_behind (reading_given from_basis) (given_read from_basis))
+pub list_read : (ways : Ways) → AreReadOnce (reading_list ways)
+list_read ways =
+    cut_read ways.in_region (reading_behind ways.after_basis (reading_given ways.from_basis))
+    (behind_read ways.after_basis (reading_given ways.from_basis) (given_read ways.from_basis))
 
 -- the set of the file of a basis has the variables of its ring
-abbrev pub IsBehindKept : (is_behind : Bool) → Behind is_behind → Type 0
+abbrev pub IsBehindKept : (after_basis : Bool) → Behind after_basis → Type 0
 IsBehindKept false s = Unit {0}
 IsBehindKept true s = IsSetKept (length s.0) s.1
 
 -- what the texts say: so it is with the file of the basis, and the last of them says what is given
-pub record IsListSaid (from_basis is_behind : Bool) (v : Behind is_behind × Given from_basis) : Type 0 where
-  pub behind : IsBehindKept is_behind v.0
+pub record IsListSaid (from_basis after_basis : Bool) (v : Behind after_basis × Given from_basis) : Type 0 where
+  pub behind : IsBehindKept after_basis v.0
   pub source : List ℕ
   pub read : (reading_given from_basis).IsRead (source ∷ []) v.1
 
@@ -99,8 +103,8 @@ said_input true [] v h = absurd h
 said_input true (t ∷ []) v h = (t, h)
 said_input true (t ∷ (u ∷ us)) v h = absurd h
 
-said_behind : (from_basis is_behind : Bool) (texts : List (List ℕ)) (v : Behind is_behind × Given from_basis) →
-    (reading_behind is_behind (reading_given from_basis)).IsRead texts v → IsListSaid from_basis is_behind v
+said_behind : (from_basis after_basis : Bool) (texts : List (List ℕ)) (v : Behind after_basis × Given from_basis) →
+    (reading_behind after_basis (reading_given from_basis)).IsRead texts v → IsListSaid from_basis after_basis v
 said_behind from_basis false texts v h =
     let s = said_input from_basis texts v.1 h in record { behind = tt; source = s.0; read = s.1 }
 said_behind from_basis true [] v h = absurd h
@@ -108,11 +112,15 @@ said_behind from_basis true (t ∷ ts) v h =
     let s = said_input from_basis ts v.1 h.1 in
     record { behind = one_kept v.0.0 (from t h.0.read.behind) h.0.end v.0.1 h.0.read.two; source = s.0; read = s.1 }
 
-pub said_list : (from_basis is_cut is_behind : Bool) (texts : List (List ℕ)) (v : ListValue from_basis is_behind) →
-    (reading_list from_basis is_cut is_behind).IsRead texts v → IsListSaid from_basis is_behind v.1
-said_list from_basis false is_behind texts v h = said_behind from_basis is_behind texts v.1 h.1
-said_list from_basis true is_behind [] v h = absurd h
-said_list from_basis true is_behind (t ∷ ts) v h = said_behind from_basis is_behind ts v.1 h.1
+said_cut : (from_basis in_region after_basis : Bool) (texts : List (List ℕ)) (v : List (List ℤ) × (Behind after_basis × Given from_basis)) →
+    (reading_cut in_region (reading_behind after_basis (reading_given from_basis))).IsRead texts v → IsListSaid from_basis after_basis v.1
+said_cut from_basis false after_basis texts v h = said_behind from_basis after_basis texts v.1 h.1
+said_cut from_basis true after_basis [] v h = absurd h
+said_cut from_basis true after_basis (t ∷ ts) v h = said_behind from_basis after_basis ts v.1 h.1
+
+pub said_list : (ways : Ways) (texts : List (List ℕ)) (v : ListValue ways) → (reading_list ways).IsRead texts v →
+    IsListSaid ways.from_basis ways.after_basis v.1
+said_list ways texts v h = said_cut ways.from_basis ways.in_region ways.after_basis texts v h
 
 pub said_kept : (from_basis : Bool) (source : List ℕ) (v : Given from_basis) → (reading_given from_basis).IsRead (source ∷ []) v → IsGivenKept from_basis v
 said_kept false source v r = tt
@@ -132,69 +140,73 @@ cut_rows n rows k i = subst (AreRows n) i.same i.region.widths
 
 -- ---- the names of the rings
 
-pub names_apart : (is_behind : Bool) (s : Behind is_behind) (names : List (List ℕ)) (r : Refusal) → AreSameNames is_behind s names →
-    IsOtherNames is_behind s names r → ⊥
+pub names_apart : (after_basis : Bool) (s : Behind after_basis) (names : List (List ℕ)) (r : Refusal) → AreSameNames after_basis s names →
+    IsOtherNames after_basis s names r → ⊥
 names_apart false s names r e h = h
 names_apart true s names r e h = (names_check s.0 names).apart r e h
 
-names_told : (is_behind : Bool) (s : Behind is_behind) (names : List (List ℕ)) (r d : Refusal) → IsOtherNames is_behind s names r →
-    IsOtherNames is_behind s names d → TellsSame r d ⊎ IsOfNumbers d
+names_told : (after_basis : Bool) (s : Behind after_basis) (names : List (List ℕ)) (r d : Refusal) → IsOtherNames after_basis s names r →
+    IsOtherNames after_basis s names d → TellsSame r d ⊎ IsOfNumbers d
 names_told false s names r d h k = absurd h
 names_told true s names r d h k = as_told r d (inl ((names_check s.0 names).once r d h k))
 
-names_kind : {A : Type 0} (writing : Writing A) (is_behind : Bool) (s : Behind is_behind) (names : List (List ℕ)) (r : Refusal) →
-    IsOtherNames is_behind s names r → IsOfWriting writing r
+names_kind : {A : Type 0} (writing : Writing A) (after_basis : Bool) (s : Behind after_basis) (names : List (List ℕ)) (r : Refusal) →
+    IsOtherNames after_basis s names r → IsOfWriting writing r
 names_kind writing false s names r h = absurd h
 names_kind writing true s names (refusals.OtherRing i) h = tt
 names_kind writing true s names _ h = absurd h
 
 -- ---- as the list is started in a region
 
-module _ (from_basis is_cut : Bool) (k : Region) (v : Given from_basis) (pairs : ℕ) where
-  unstarted_work : (is_behind : Bool) (s : Behind is_behind) (r : Refusal) → IsUnstarted from_basis is_cut is_behind pairs k v s r → IsOfWork r
-  unstarted_work false s r h = unrooted_work from_basis is_cut v k pairs r h
-  unstarted_work true s r h = start_work from_basis is_cut k v s.1 pairs r h
+module _ (ways : Ways) (k : Region) (v : Given ways.from_basis) (pairs : ℕ) where
+  abbrev ring : List (List ℕ)
+  ring = names_given ways.from_basis v
 
-  pub unstarted_unlisted : (is_behind : Bool) (s : Behind is_behind) (r : Refusal) → IsUnstarted from_basis is_cut is_behind pairs k v s r → (most : ℕ) →
+  abbrev ideal : List Terms
+  ideal = generators_given ways.from_basis v
+
+  unstarted_work : (after_basis : Bool) (s : Behind after_basis) (r : Refusal) → IsUnstartedFrom ways after_basis pairs k v s r → IsOfWork r
+  unstarted_work false s r h = unrooted_work ways.from_basis ways.in_region v k pairs r h
+  unstarted_work true s r h = start_work ways k v s.1 pairs r h
+
+  pub unstarted_unlisted : (after_basis : Bool) (s : Behind after_basis) (r : Refusal) → IsUnstartedFrom ways after_basis pairs k v s r → (most : ℕ) →
       r ≡ refusals.ListLimit most → ⊥
-  unstarted_unlisted false s r h most l = unrooted_unlisted from_basis is_cut v k pairs r h most l
-  unstarted_unlisted true s r h most l = start_unlisted from_basis is_cut k v s.1 pairs r h most l
+  unstarted_unlisted false s r h most l = unrooted_unlisted ways.from_basis ways.in_region v k pairs r h most l
+  unstarted_unlisted true s r h most l = start_unlisted ways k v s.1 pairs r h most l
 
-  module _ (input : IsGivenKept from_basis v) where
-    unstarted_same : (is_behind : Bool) (s : Behind is_behind) (r d : Refusal) → IsBehindKept is_behind s →
-        AreSameNames is_behind s (names_given from_basis v) → IsOfTest r → IsUnstarted from_basis is_cut is_behind pairs k v s r →
-        IsUnstarted from_basis is_cut is_behind pairs k v s d → TellsSame r d ⊎ IsOfNumbers d
-    unstarted_same false s r d kept e t h g = unrooted_same from_basis is_cut v k pairs r d input t h g
+  module _ (input : IsGivenKept ways.from_basis v) where
+    unstarted_same : (after_basis : Bool) (s : Behind after_basis) (r d : Refusal) → IsBehindKept after_basis s →
+        AreSameNames after_basis s ring → IsOfTest r → IsUnstartedFrom ways after_basis pairs k v s r → IsUnstartedFrom ways after_basis pairs k v s d →
+        TellsSame r d ⊎ IsOfNumbers d
+    unstarted_same false s r d kept e t h g = unrooted_same ways.from_basis ways.in_region v k pairs r d input t h g
     unstarted_same true s r d kept e t h g =
-        start_same from_basis is_cut k v s.1 (kept.0 ∙ ap length e) (set_variables (length s.0) s.1 kept) input pairs r d t h g
+        start_same ways k v s.1 (kept.0 ∙ ap length e) (set_variables (length s.0) s.1 kept) input pairs r d t h g
 
-    unstarted_refutes : (is_behind : Bool) (s : Behind is_behind) (front list : List MarkedPolynomials) (r : Refusal) → IsBehindKept is_behind s →
-        AreSameNames is_behind s (names_given from_basis v) → IsOfTest r → IsUnstarted from_basis is_cut is_behind pairs k v s r →
-        IsBasisGiven from_basis v → IsFront is_behind s k front →
-        AreAllBasesIn (length (names_given from_basis v)) k (generators_given from_basis v) (front ++ list) → ⊥
-    unstarted_refutes false s front list r kept e t h g f all = unrooted_refutes from_basis is_cut v k pairs r input t h g
+    unstarted_refutes : (after_basis : Bool) (s : Behind after_basis) (front list : List MarkedPolynomials) (r : Refusal) → IsBehindKept after_basis s →
+        AreSameNames after_basis s ring → IsOfTest r → IsUnstartedFrom ways after_basis pairs k v s r → IsBasisGiven ways.from_basis v →
+        IsFront after_basis s k front → AreAllBasesIn (length ring) k ideal (front ++ list) → ⊥
+    unstarted_refutes false s front list r kept e t h g f all = unrooted_refutes ways.from_basis ways.in_region v k pairs r input t h g
     unstarted_refutes true s front list r kept e t h g f all =
-        start_refutes from_basis is_cut k v s.1 (kept.0 ∙ ap length e) (set_variables (length s.0) s.1 kept) input pairs f.0 f.1 list r t h f.2 g
-        (subst (λ (l : List MarkedPolynomials). AreAllBasesIn (length (names_given from_basis v)) k (generators_given from_basis v) (l ++ list)) f.3 all)
+        start_refutes ways k v s.1 (kept.0 ∙ ap length e) (set_variables (length s.0) s.1 kept) input pairs f.0 f.1 list r t h f.2 g
+        (subst (λ (l : List MarkedPolynomials). AreAllBasesIn (length ring) k ideal (l ++ list)) f.3 all)
 
-    pub unstarted_within : (is_behind : Bool) (s : Behind is_behind) (r : Refusal) → IsBehindKept is_behind s →
-        AreSameNames is_behind s (names_given from_basis v) → IsStartedWithin from_basis is_cut is_behind pairs k v s →
-        IsUnstarted from_basis is_cut is_behind pairs k v s r → r ≡ refusals.Memory
-    unstarted_within false s r kept e w h = unrooted_within from_basis is_cut v k pairs r input w h
+    pub unstarted_within : (after_basis : Bool) (s : Behind after_basis) (r : Refusal) → IsBehindKept after_basis s →
+        AreSameNames after_basis s ring → IsStartedWithin ways after_basis pairs k v s → IsUnstartedFrom ways after_basis pairs k v s r → r ≡ refusals.Memory
+    unstarted_within false s r kept e w h = unrooted_within ways.from_basis ways.in_region v k pairs r input w h
     unstarted_within true s r kept e w h =
-        start_within from_basis is_cut k v s.1 (kept.0 ∙ ap length e) (set_variables (length s.0) s.1 kept) input pairs r w h
+        start_within ways k v s.1 (kept.0 ∙ ap length e) (set_variables (length s.0) s.1 kept) input pairs r w h
 
-    unstarted_named : (is_behind : Bool) (s : Behind is_behind) (r : Refusal) → IsBehindKept is_behind s → AreSameNames is_behind s (names_given from_basis v) →
-        IsUnstarted from_basis is_cut is_behind pairs k v s r → IsNamedBy (Some (names_given from_basis v)) r
-    unstarted_named false s r kept e h = unrooted_named from_basis is_cut v k pairs r input h
+    unstarted_named : (after_basis : Bool) (s : Behind after_basis) (r : Refusal) → IsBehindKept after_basis s → AreSameNames after_basis s ring →
+        IsUnstartedFrom ways after_basis pairs k v s r → IsNamedBy (Some ring) r
+    unstarted_named false s r kept e h = unrooted_named ways.from_basis ways.in_region v k pairs r input h
     unstarted_named true s r kept e h =
-        start_named from_basis is_cut pairs k v s.1 r (subst (λ (names : List (List ℕ)). IsSetKept (length names) s.1) e kept) input h
+        start_named ways pairs k v s.1 r (subst (λ (names : List (List ℕ)). IsSetKept (length names) s.1) e kept) input h
 
-    pub unstarted_told : (is_behind : Bool) (s : Behind is_behind) (r : Refusal) → IsBehindKept is_behind s →
-        AreSameNames is_behind s (names_given from_basis v) → IsUnstarted from_basis is_cut is_behind pairs k v s r ⊎ (r ≡ refusals.Memory) →
-        IsNamedBy (Some (names_given from_basis v)) r
-    unstarted_told is_behind s r kept e (inl h) = unstarted_named is_behind s r kept e h
-    unstarted_told is_behind s r kept e (inr m) = subst (IsNamedBy (Some (names_given from_basis v))) (sym m) (λ lent is. tt)
+    pub unstarted_told : (after_basis : Bool) (s : Behind after_basis) (r : Refusal) → IsBehindKept after_basis s →
+        AreSameNames after_basis s ring → IsUnstartedFrom ways after_basis pairs k v s r ⊎ (r ≡ refusals.Memory) →
+        IsNamedBy (Some ring) r
+    unstarted_told after_basis s r kept e (inl h) = unstarted_named after_basis s r kept e h
+    unstarted_told after_basis s r kept e (inr m) = subst (IsNamedBy (Some ring)) (sym m) (λ lent is. tt)
 
 -- ---- the command
 
@@ -209,68 +221,65 @@ no_region_numbers : (n : ℕ) (rows : List (List ℤ)) (k : Region) (r : Refusal
 no_region_numbers n rows k r p (w, (e, h, q)) = subst IsOfNumbers (sym q) (region_numbers n rows k e p h)
 
 -- where there is a file of vectors, the region is that which they cut out
-of_cut : (is_cut : Bool) (n : ℕ) (rows : List (List ℤ)) (k : Region) → is_cut ≡ true → IsRegionCut is_cut n rows k → IsRegionOf n rows k
-of_cut is_cut n rows k e i = subst (λ c. IsRegionCut c n rows k) e i
+of_cut : (in_region : Bool) (n : ℕ) (rows : List (List ℤ)) (k : Region) → in_region ≡ true → IsRegionCut in_region n rows k → IsRegionOf n rows k
+of_cut in_region n rows k e i = subst (λ c. IsRegionCut c n rows k) e i
 
-module _ (from_basis is_cut is_behind : Bool) (o : ListOptions) (v : ListValue from_basis is_behind) where
+module _ (ways : Ways) (o : ListOptions) (v : ListValue ways) where
   abbrev n : ℕ
-  n = length (names_given from_basis v.1.1)
+  n = length (names_in ways v)
 
   abbrev fs : List Terms
-  fs = generators_given from_basis v.1.1
+  fs = ideal_in ways v
 
-  cause_kind : (sources : List Origin) (r : Refusal) → IsListCause from_basis is_cut is_behind o v r →
-      IsOfWriting (list_command from_basis is_cut is_behind sources o).writing r
-  cause_kind sources r (IsListCause.early (IsEarlyCause.at_region c h)) = writing_kind (list_command from_basis is_cut is_behind sources o).writing r
+  cause_kind : (sources : List Origin) (r : Refusal) → IsListCause ways o v r → IsOfWriting (list_command ways sources o).writing r
+  cause_kind sources r (IsListCause.early (IsEarlyCause.at_region c h)) = writing_kind (list_command ways sources o).writing r
       (no_region_work n v.0 r h) (λ most e. tt)
   cause_kind sources r (IsListCause.early (IsEarlyCause.at_names k c i h)) =
-      names_kind (list_command from_basis is_cut is_behind sources o).writing is_behind v.1.0 (names_given from_basis v.1.1) r h
-  cause_kind sources r (IsListCause.early (IsEarlyCause.at_start k i e h)) = writing_kind (list_command from_basis is_cut is_behind sources o).writing r
-      (unstarted_work from_basis is_cut k v.1.1 o.pairs is_behind v.1.0 r h) (λ most x. tt)
-  cause_kind sources r (IsListCause.going k front i e g t h) = writing_kind (list_command from_basis is_cut is_behind sources o).writing r
+      names_kind (list_command ways sources o).writing ways.after_basis v.1.0 (names_in ways v) r h
+  cause_kind sources r (IsListCause.early (IsEarlyCause.at_start k i e h)) = writing_kind (list_command ways sources o).writing r
+      (unstarted_work ways k v.1.1 o.pairs ways.after_basis v.1.0 r h) (λ most x. tt)
+  cause_kind sources r (IsListCause.going k front i e g t h) = writing_kind (list_command ways sources o).writing r
       (going_behind_work front o n k fs r h) (λ most x. tt)
 
-  module _ (said : IsListSaid from_basis is_behind v.1) where
-    input : IsGivenKept from_basis v.1.1
-    input = said_kept from_basis said.source v.1.1 said.read
+  module _ (said : IsListSaid ways.from_basis ways.after_basis v.1) where
+    input : IsGivenKept ways.from_basis v.1.1
+    input = said_kept ways.from_basis said.source v.1.1 said.read
 
     no_region_fixed : (r : Refusal) → IsFixed r → IsNoRegion n v.0 r → IsOfTest r
     no_region_fixed r f h = fixed_cause r (no_region_work n v.0 r h) f
 
-    start_fixed : (k : Region) (r : Refusal) → IsFixed r → IsUnstarted from_basis is_cut is_behind o.pairs k v.1.1 v.1.0 r → IsOfTest r
-    start_fixed k r f h = fixed_cause r (unstarted_work from_basis is_cut k v.1.1 o.pairs is_behind v.1.0 r h) f
+    start_fixed : (k : Region) (r : Refusal) → IsFixed r → IsUnstarted ways o.pairs k v.1.1 v.1.0 r → IsOfTest r
+    start_fixed k r f h = fixed_cause r (unstarted_work ways k v.1.1 o.pairs ways.after_basis v.1.0 r h) f
 
-    moved : (k j : Region) (r : Refusal) → IsRegionCut is_cut n v.0 k → IsRegionCut is_cut n v.0 j →
-        IsUnstarted from_basis is_cut is_behind o.pairs j v.1.1 v.1.0 r → IsUnstarted from_basis is_cut is_behind o.pairs k v.1.1 v.1.0 r
-    moved k j r i m h = subst (λ (z : Region). IsUnstarted from_basis is_cut is_behind o.pairs z v.1.1 v.1.0 r) (sym (cut_one is_cut n v.0 k j i m)) h
+    moved : (k j : Region) (r : Refusal) → IsRegionCut ways.in_region n v.0 k → IsRegionCut ways.in_region n v.0 j →
+        IsUnstarted ways o.pairs j v.1.1 v.1.0 r → IsUnstarted ways o.pairs k v.1.1 v.1.0 r
+    moved k j r i m h = subst (λ (z : Region). IsUnstarted ways o.pairs z v.1.1 v.1.0 r) (sym (cut_one ways.in_region n v.0 k j i m)) h
 
-    early_same : (r d : Refusal) → IsFixed r → IsEarlyCause from_basis is_cut is_behind o v r → IsEarlyCause from_basis is_cut is_behind o v d →
-        TellsSame r d ⊎ IsOfNumbers d
+    early_same : (r d : Refusal) → IsFixed r → IsEarlyCause ways o v r → IsEarlyCause ways o v d → TellsSame r d ⊎ IsOfNumbers d
     early_same r d f (IsEarlyCause.at_region c h) (IsEarlyCause.at_region a g) = no_region_same n v.0 r d (no_region_fixed r f h) h g
     early_same r d f (IsEarlyCause.at_region c h) (IsEarlyCause.at_names k a i g) = absurd (no_region_there n v.0 k r (no_region_fixed r f h) h i)
     early_same r d f (IsEarlyCause.at_region c h) (IsEarlyCause.at_start k i e g) =
-        absurd (no_region_there n v.0 k r (no_region_fixed r f h) h (of_cut is_cut n v.0 k c i))
+        absurd (no_region_there n v.0 k r (no_region_fixed r f h) h (of_cut ways.in_region n v.0 k c i))
     early_same r d f (IsEarlyCause.at_names k c i h) (IsEarlyCause.at_region a g) = inr (no_region_numbers n v.0 k d i g)
-    early_same r d f (IsEarlyCause.at_names k c i h) (IsEarlyCause.at_names j a m g) = names_told is_behind v.1.0 (names_given from_basis v.1.1) r d h g
+    early_same r d f (IsEarlyCause.at_names k c i h) (IsEarlyCause.at_names j a m g) = names_told ways.after_basis v.1.0 (names_in ways v) r d h g
     early_same r d f (IsEarlyCause.at_names k c i h) (IsEarlyCause.at_start j m e g) =
-        absurd (names_apart is_behind v.1.0 (names_given from_basis v.1.1) r e h)
-    early_same r d f (IsEarlyCause.at_start k i e h) (IsEarlyCause.at_region a g) = inr (no_region_numbers n v.0 k d (of_cut is_cut n v.0 k a i) g)
+        absurd (names_apart ways.after_basis v.1.0 (names_in ways v) r e h)
+    early_same r d f (IsEarlyCause.at_start k i e h) (IsEarlyCause.at_region a g) = inr (no_region_numbers n v.0 k d (of_cut ways.in_region n v.0 k a i) g)
     early_same r d f (IsEarlyCause.at_start k i e h) (IsEarlyCause.at_names j a m g) =
-        absurd (names_apart is_behind v.1.0 (names_given from_basis v.1.1) d e g)
+        absurd (names_apart ways.after_basis v.1.0 (names_in ways v) d e g)
     early_same r d f (IsEarlyCause.at_start k i e h) (IsEarlyCause.at_start j m w g) =
-        unstarted_same from_basis is_cut k v.1.1 o.pairs input is_behind v.1.0 r d said.behind e (start_fixed k r f h) h (moved k j d i m g)
+        unstarted_same ways k v.1.1 o.pairs input ways.after_basis v.1.0 r d said.behind e (start_fixed k r f h) h (moved k j d i m g)
 
-    early_refutes : (k : Region) (front list : List MarkedPolynomials) (r : Refusal) → IsFixed r → IsEarlyCause from_basis is_cut is_behind o v r →
-        IsRegionCut is_cut n v.0 k → AreSameNames is_behind v.1.0 (names_given from_basis v.1.1) → IsBasisGiven from_basis v.1.1 →
-        IsFront is_behind v.1.0 k front → AreAllBasesIn n k fs (front ++ list) → ⊥
+    early_refutes : (k : Region) (front list : List MarkedPolynomials) (r : Refusal) → IsFixed r → IsEarlyCause ways o v r →
+        IsRegionCut ways.in_region n v.0 k → AreSameNames ways.after_basis v.1.0 (names_in ways v) → IsBasisGiven ways.from_basis v.1.1 →
+        IsFront ways.after_basis v.1.0 k front → AreAllBasesIn n k fs (front ++ list) → ⊥
     early_refutes k front list r f (IsEarlyCause.at_region c h) i e g t all =
-        no_region_there n v.0 k r (no_region_fixed r f h) h (of_cut is_cut n v.0 k c i)
-    early_refutes k front list r f (IsEarlyCause.at_names j c m h) i e g t all = names_apart is_behind v.1.0 (names_given from_basis v.1.1) r e h
+        no_region_there n v.0 k r (no_region_fixed r f h) h (of_cut ways.in_region n v.0 k c i)
+    early_refutes k front list r f (IsEarlyCause.at_names j c m h) i e g t all = names_apart ways.after_basis v.1.0 (names_in ways v) r e h
     early_refutes k front list r f (IsEarlyCause.at_start j m w h) i e g t all =
-        unstarted_refutes from_basis is_cut k v.1.1 o.pairs input is_behind v.1.0 front list r said.behind e (start_fixed j r f h) (moved k j r i m h) g t all
+        unstarted_refutes ways k v.1.1 o.pairs input ways.after_basis v.1.0 front list r said.behind e (start_fixed j r f h) (moved k j r i m h) g t all
 
-    cause_same : (r d : Refusal) → IsFixed r → IsListCause from_basis is_cut is_behind o v r → IsListCause from_basis is_cut is_behind o v d →
-        TellsSame r d ⊎ IsOfNumbers d
+    cause_same : (r d : Refusal) → IsFixed r → IsListCause ways o v r → IsListCause ways o v d → TellsSame r d ⊎ IsOfNumbers d
     cause_same r d f (IsListCause.early h) (IsListCause.early g) = early_same r d f h g
     cause_same r d f (IsListCause.early h) (IsListCause.going k front i e g t c) =
         let all = going_list front o n k fs d c in
@@ -278,19 +287,19 @@ module _ (from_basis is_cut is_behind : Bool) (o : ListOptions) (v : ListValue f
     cause_same r d f (IsListCause.going k front i e g t c) l =
         absurd (going_behind_untested front o n k fs r (fixed_cause r (going_behind_work front o n k fs r c) f) c)
 
-    cause_refutes : (k : Region) (front list : List MarkedPolynomials) (r : Refusal) → IsFixed r → IsListCause from_basis is_cut is_behind o v r →
-        IsRegionCut is_cut n v.0 k → AreSameNames is_behind v.1.0 (names_given from_basis v.1.1) → IsBasisGiven from_basis v.1.1 →
-        IsFront is_behind v.1.0 k front → AreAllBasesIn n k fs (front ++ list) → ⊥
+    cause_refutes : (k : Region) (front list : List MarkedPolynomials) (r : Refusal) → IsFixed r → IsListCause ways o v r →
+        IsRegionCut ways.in_region n v.0 k → AreSameNames ways.after_basis v.1.0 (names_in ways v) → IsBasisGiven ways.from_basis v.1.1 →
+        IsFront ways.after_basis v.1.0 k front → AreAllBasesIn n k fs (front ++ list) → ⊥
     cause_refutes k front list r f (IsListCause.early h) i e g t all = early_refutes k front list r f h i e g t all
     cause_refutes k front list r f (IsListCause.going j before m w a b c) i e g t all =
         going_behind_untested before o n j fs r (fixed_cause r (going_behind_work before o n j fs r c) f) c
 
-    cause_within : (r : Refusal) → IsListWithin from_basis is_cut is_behind o v → IsListCause from_basis is_cut is_behind o v r → r ≡ refusals.Memory
+    cause_within : (r : Refusal) → IsListWithin ways o v → IsListCause ways o v r → r ≡ refusals.Memory
     cause_within r w (IsListCause.early (IsEarlyCause.at_region c (x, (e, h, q)))) = q ∙ ap of_region (w.region c e h)
     cause_within r w (IsListCause.early (IsEarlyCause.at_names k c i h)) =
-        absurd (names_apart is_behind v.1.0 (names_given from_basis v.1.1) r w.names h)
+        absurd (names_apart ways.after_basis v.1.0 (names_in ways v) r w.names h)
     cause_within r w (IsListCause.early (IsEarlyCause.at_start k i e h)) =
-        unstarted_within from_basis is_cut k v.1.1 o.pairs input is_behind v.1.0 r said.behind e (w.list k i).start h
+        unstarted_within ways k v.1.1 o.pairs input ways.after_basis v.1.0 r said.behind e (w.list k i).start h
     cause_within r w (IsListCause.going k front i e g t c) =
         going_behind_within front o n k fs r (w.list k i).tree (λ list all. (w.list k i).few front list t all) (w.list k i).certificates c
 
@@ -300,25 +309,30 @@ sources_once None (Some name) = λ h. h
 sources_once (Some name) None = λ h. h
 sources_once (Some name) (Some other) = λ h. h
 
-pub checked_list : (from_basis is_cut is_behind : Bool) (v : ListValue from_basis is_behind) → AreCheckedOnce (checks_list from_basis is_cut is_behind v)
-checked_list from_basis true is_behind v = each_check (length (names_given from_basis v.1.1)) v.0
-checked_list from_basis false true v = (names_check v.1.0.0 (names_given from_basis v.1.1), tt)
-checked_list from_basis false false v = tt
+checked_for : (in_region after_basis : Bool) (rows : List (List ℤ)) (s : Behind after_basis) (names : List (List ℕ)) →
+    AreCheckedOnce (checks_for in_region after_basis rows s names)
+checked_for true after_basis rows s names = each_check (length names) rows
+checked_for false true rows s names = (names_check s.0 names, tt)
+checked_for false false rows s names = tt
 
-pub list_lawful : (from_basis is_cut is_behind : Bool) (within after : Option (List ℕ)) (o : ListOptions) →
-    IsLawful (list_command from_basis is_cut is_behind (list_sources within after) o)
-list_lawful from_basis is_cut is_behind within after o = record {
+pub checked_list : (ways : Ways) (v : ListValue ways) → AreCheckedOnce (checks_list ways v)
+checked_list ways v = checked_for ways.in_region ways.after_basis v.0 v.1.0 (names_in ways v)
+
+list_lawful : (ways : Ways) (within after : Option (List ℕ)) (o : ListOptions) → IsLawful (list_command ways (list_sources within after) o)
+list_lawful ways within after o = record {
   input = sources_once within after;
-  reading = list_read from_basis is_cut is_behind;
-  checks = λ texts v h. checked_list from_basis is_cut is_behind v;
-  work = λ texts v r h w. cause_kind from_basis is_cut is_behind o v (list_sources within after) r w;
-  within = λ texts v r h w k. cause_within from_basis is_cut is_behind o v (said_list from_basis is_cut is_behind texts v h) r w k;
-  tests = λ texts v r d h f w k. cause_same from_basis is_cut is_behind o v (said_list from_basis is_cut is_behind texts v h) r d f w k;
-  answers = λ texts v r text h f w a. cause_refutes from_basis is_cut is_behind o v (said_list from_basis is_cut is_behind texts v h) a.0 a.4.0 a.4.2.list r f w
-      a.1 a.2 a.3 a.4.1 a.4.2.are_all;
+  reading = list_read ways;
+  checks = λ texts v h. checked_list ways v;
+  work = λ texts v r h w. cause_kind ways o v (list_sources within after) r w;
+  within = λ texts v r h w k. cause_within ways o v (said_list ways texts v h) r w k;
+  tests = λ texts v r d h f w k. cause_same ways o v (said_list ways texts v h) r d f w k;
+  answers = λ texts v r text h f w a. cause_refutes ways o v (said_list ways texts v h) a.0 a.4.0 a.4.2.list r f w a.1 a.2 a.3 a.4.1 a.4.2.are_all;
   wholes = λ texts v r text h f w a.
-      let all = full_list a.4.0 o (names_given from_basis v.1.1) a.0 (generators_given from_basis v.1.1) text a.4.2 in
-      cause_refutes from_basis is_cut is_behind o v (said_list from_basis is_cut is_behind texts v h) a.0 a.4.0 all.0 r f w a.1 a.2 a.3 a.4.1 all.1;
+      let all = full_list a.4.0 o (names_in ways v) a.0 (ideal_in ways v) text a.4.2 in
+      cause_refutes ways o v (said_list ways texts v h) a.0 a.4.0 all.0 r f w a.1 a.2 a.3 a.4.1 all.1;
   turns = tt;
   apart = λ t. absurd t;
 }
+
+pub bases_lawful : (o : BasesOptions) → IsLawful (bases_command o)
+bases_lawful o = list_lawful (ways_of o) o.within o.after (list_options o)

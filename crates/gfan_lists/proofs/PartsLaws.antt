@@ -5,13 +5,13 @@ use Rattle.std.proofs.Common.{refl, sym, ap, ◌∙◌, subst, inl, append_assoc
 use Rattle.gf_poly.specs.Marking.{MarkedPolynomials}
 use Rattle.gf_reverse_search.specs.Listing.{Among}
 use Rattle.gf_reverse_search.specs.Whole.{EachOnce}
-use Rattle.gfan_lists.specs.BasesList.{AreAllBasesIn}
+use Rattle.gf_lists_theory.specs.BasesList.{AreAllBasesIn}
 use Rattle.gfan_lists.specs.Bases.{AreItemTextsIn}
 use Rattle.gfan_lists.specs.Certificates.{IsItemTextIn}
 use Rattle.gfan_lists.specs.Parts.{PartsAreJoined}
-use Rattle.gfan_lists.proofs.BasesListLaws.{among_right}
+use Rattle.gf_lists_theory.proofs.BasesListLaws.{among_right}
 use Rattle.gfan_lists.proofs.CertificateLaws.{AllZip-append}
-use Rattle.gfan_lists.proofs.OneListLaws.{one_list_in}
+use Rattle.gf_lists_theory.proofs.OneListLaws.{one_list_in}
 
 -- what comes behind a basis that comes once
 pub behind_once : (xs ys us vs : List MarkedPolynomials) (b : MarkedPolynomials) → EachOnce (xs ++ b ∷ us) → xs ++ b ∷ us ≡ ys ++ b ∷ vs → us ≡ vs

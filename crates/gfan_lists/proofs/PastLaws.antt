@@ -15,15 +15,14 @@ use Rattle.gf_items.proofs.CheckLaws.{first_apart}
 use Rattle.gf_frame.specs.Loading.{Origin}
 use Rattle.gf_frame.specs.Commands.{IsAnswered, IsUnanswered, IsRefusedOn}
 use Rattle.gfan_lists.specs.declared.bases.ListOptions.{ListOptions}
-use Rattle.gfan_lists.specs.BasesList.{AreAllBasesIn}
+use Rattle.gf_lists_theory.specs.BasesList.{AreAllBasesIn}
 use Rattle.gfan_common.specs.Causes.{of_tree, of_weight_error}
 use Rattle.gfan_lists.specs.Bases.{IsWithinLimit, IsGoingCauseBehind, AreItemTextsIn, IsTextBehind, list_text}
 use Rattle.gfan_lists.specs.Within.{of_region}
-use Rattle.gfan_lists.specs.After.{names_given, generators_given}
-use Rattle.gfan_lists.specs.ListCommand.{Behind, IsFront, ListValue, reading_list, checks_list, IsListAnswer, IsUnstarted, IsEarlyCause, IsListCause}
-use Rattle.gfan_lists.specs.ListCommand.{IsListPast}
-use Rattle.gfan_lists.specs.ListCommand.{AreTextsPast, list_command}
-use Rattle.gfan_lists.proofs.OneListLaws.{one_list_in}
+use Rattle.gfan_lists.specs.Ways.{Ways}
+use Rattle.gfan_lists.specs.ListCommand.{Behind, IsFront, ListValue, names_in, ideal_in, reading_list, checks_list, IsListAnswer, IsUnstarted}
+use Rattle.gfan_lists.specs.ListCommand.{IsEarlyCause, IsListCause, IsListPast, AreTextsPast, list_command}
+use Rattle.gf_lists_theory.proofs.OneListLaws.{one_list_in}
 use Rattle.gfan_lists.proofs.PartsLaws.{behind_once}
 use Rattle.gfan_lists.proofs.CertificateLaws.{items_one}
 use Rattle.gfan_lists.proofs.AfterLaws.{cut_one, cut_region, taken_once}
@@ -41,8 +40,8 @@ same_behind n k fs front before rest list b c v g q all other =
     (subst (λ x. AreAllBasesIn n k fs ((before ++ x ∷ []) ++ list)) (sym q) other) in
     behind_once front before rest list b one.once (one_list_in n k fs (front ++ b ∷ rest) (before ++ b ∷ list) v g one two)
 
-pub front_rest : (is_behind : Bool) (s : Behind is_behind) (n : ℕ) (k : Region) (fs : List Terms) (front before rest list : List MarkedPolynomials) →
-    AreInVariables n fs → IsRegion n k → IsFront is_behind s k front → IsFront is_behind s k before → AreAllBasesIn n k fs (front ++ rest) →
+pub front_rest : (after_basis : Bool) (s : Behind after_basis) (n : ℕ) (k : Region) (fs : List Terms) (front before rest list : List MarkedPolynomials) →
+    AreInVariables n fs → IsRegion n k → IsFront after_basis s k front → IsFront after_basis s k before → AreAllBasesIn n k fs (front ++ rest) →
     AreAllBasesIn n k fs (before ++ list) → rest ≡ list
 front_rest false s n k fs front before rest list v g f h all other =
     one_list_in n k fs rest list v g (subst (λ (l : List MarkedPolynomials). AreAllBasesIn n k fs (l ++ rest)) f all)
@@ -53,33 +52,31 @@ front_rest true s n k fs front before rest list v g f h all other =
     (subst (λ (l : List MarkedPolynomials). AreAllBasesIn n k fs (l ++ list)) h.3 other)
 
 -- two answers for what is read, both with certificates or both without, are one text
-answers_one : (from_basis is_cut is_behind : Bool) (o u : ListOptions) (texts : List (List ℕ)) (v : ListValue from_basis is_behind) (text same : List ℕ) →
-    (reading_list from_basis is_cut is_behind).IsRead texts v → u.certified ≡ o.certified → IsListAnswer from_basis is_cut is_behind o v text →
-    IsListAnswer from_basis is_cut is_behind u v same → text ≡ same
-answers_one from_basis is_cut is_behind o u texts v text same read as_one x y =
-    let ring = names_given from_basis v.1.1 in
-    let fs = generators_given from_basis v.1.1 in
-    let said = said_list from_basis is_cut is_behind texts v read in
-    let regions : y.0 ≡ x.0 = cut_one is_cut (length ring) v.0 y.0 x.0 y.1 x.1 in
+answers_one : (ways : Ways) (o u : ListOptions) (texts : List (List ℕ)) (v : ListValue ways) (text same : List ℕ) →
+    (reading_list ways).IsRead texts v → u.certified ≡ o.certified → IsListAnswer ways o v text →
+    IsListAnswer ways u v same → text ≡ same
+answers_one ways o u texts v text same read as_one x y =
+    let ring = names_in ways v in
+    let fs = ideal_in ways v in
+    let said = said_list ways texts v read in
+    let regions : y.0 ≡ x.0 = cut_one ways.in_region (length ring) v.0 y.0 x.0 y.1 x.1 in
     let theirs : IsTextBehind y.4.0 o.certified u.limit ring x.0 fs same =
     subst (λ (c : Bool). IsTextBehind y.4.0 c u.limit ring x.0 fs same) as_one
     (subst (λ (k : Region). IsTextBehind y.4.0 u.certified u.limit ring k fs same) regions y.4.2) in
     let lists : x.4.2.list ≡ theirs.list =
-    front_rest is_behind v.1.0 (length ring) x.0 fs x.4.0 y.4.0 x.4.2.list theirs.list (said_inside from_basis said.source v.1.1 said.read)
-    (cut_region is_cut (length ring) v.0 x.0 x.1) x.4.1 (subst (λ (k : Region). IsFront is_behind v.1.0 k y.4.0) regions y.4.1) x.4.2.are_all
+    front_rest ways.after_basis v.1.0 (length ring) x.0 fs x.4.0 y.4.0 x.4.2.list theirs.list (said_inside ways.from_basis said.source v.1.1 said.read)
+    (cut_region ways.in_region (length ring) v.0 x.0 x.1) x.4.1 (subst (λ (k : Region). IsFront ways.after_basis v.1.0 k y.4.0) regions y.4.1) x.4.2.are_all
     theirs.are_all in
     let items = items_one o.certified ring x.0 x.4.2.list x.4.2.items theirs.items x.4.2.are_items
     (subst (λ (l : List MarkedPolynomials). AreItemTextsIn o.certified ring x.0 l theirs.items) (sym lists) theirs.are_items) in
     x.4.2.is_text ∙ ap (list_text ring) items ∙ sym theirs.is_text
 
 -- two runs that write the whole list for the same texts have written the same text
-pub one_list_text : (from_basis is_cut is_behind : Bool) (sources others : List Origin) (o u : ListOptions) (texts : List (List ℕ)) (text same : List ℕ) →
-    u.certified ≡ o.certified → IsAnswered (list_command from_basis is_cut is_behind sources o) texts text →
-    IsAnswered (list_command from_basis is_cut is_behind others u) texts same → text ≡ same
-one_list_text from_basis is_cut is_behind sources others o u texts text same as_one a b =
-    answers_one from_basis is_cut is_behind o u texts a.value text same a.read as_one a.answer.is_answer
-    (subst (λ (z : ListValue from_basis is_behind). IsListAnswer from_basis is_cut is_behind u z same)
-    ((list_read from_basis is_cut is_behind).once texts a.value b.value a.read b.read) b.answer.is_answer)
+pub one_list_text : (ways : Ways) (sources others : List Origin) (o u : ListOptions) (texts : List (List ℕ)) (text same : List ℕ) →
+    u.certified ≡ o.certified → IsAnswered (list_command ways sources o) texts text → IsAnswered (list_command ways others u) texts same → text ≡ same
+one_list_text ways sources others o u texts text same as_one a b =
+    answers_one ways o u texts a.value text same a.read as_one a.answer.is_answer
+    (subst (λ (z : ListValue ways). IsListAnswer ways u z same) ((list_read ways).once texts a.value b.value a.read b.read) b.answer.is_answer)
 
 -- ---- refused at the limit, or for want of memory
 
@@ -93,24 +90,24 @@ within_most : (limit : Option ℕ) (most : ℕ) (list : List MarkedPolynomials) 
 within_most None most list e w = cc
 within_most (Some n) most list e w = let same : n ≡ most = cc in omega arith
 
-module _ (from_basis is_cut is_behind : Bool) (o : ListOptions) (texts : List (List ℕ)) (v : ListValue from_basis is_behind)
-    (read : (reading_list from_basis is_cut is_behind).IsRead texts v) (most : ℕ) (w : IsListPast from_basis is_cut is_behind o v most) where
+module _ (ways : Ways) (o : ListOptions) (texts : List (List ℕ)) (v : ListValue ways) (read : (reading_list ways).IsRead texts v) (most : ℕ)
+    (w : IsListPast ways o v most) where
   abbrev n : ℕ
-  n = length (names_given from_basis v.1.1)
+  n = length (names_in ways v)
 
   abbrev fs : List Terms
-  fs = generators_given from_basis v.1.1
+  fs = ideal_in ways v
 
-  said_all : IsListSaid from_basis is_behind v.1
-  said_all = said_list from_basis is_cut is_behind texts v read
+  said_all : IsListSaid ways.from_basis ways.after_basis v.1
+  said_all = said_list ways texts v read
 
-  rest_is : (front list : List MarkedPolynomials) → IsFront is_behind v.1.0 w.region front → AreAllBasesIn n w.region fs (front ++ list) →
+  rest_is : (front list : List MarkedPolynomials) → IsFront ways.after_basis v.1.0 w.region front → AreAllBasesIn n w.region fs (front ++ list) →
       w.going.past.list ≡ list
   rest_is front list t all =
-      front_rest is_behind v.1.0 n w.region fs w.front front w.going.past.list list (said_inside from_basis said_all.source v.1.1 said_all.read)
-      (cut_region is_cut n v.0 w.region w.is_region) w.is_front t w.going.past.are_all all
+      front_rest ways.after_basis v.1.0 n w.region fs w.front front w.going.past.list list (said_inside ways.from_basis said_all.source v.1.1 said_all.read)
+      (cut_region ways.in_region n v.0 w.region w.is_region) w.is_front t w.going.past.are_all all
 
-  going_past : (front : List MarkedPolynomials) (r : Refusal) → IsFront is_behind v.1.0 w.region front → IsGoingCauseBehind front o n w.region fs r →
+  going_past : (front : List MarkedPolynomials) (r : Refusal) → IsFront ways.after_basis v.1.0 w.region front → IsGoingCauseBehind front o n w.region fs r →
       IsAtLimitOrMemory most r
   going_past front r t (IsGoingCauseBehind.in_tree e h q) =
       inr (q ∙ ap of_tree (w.going.calls h.written h.rest e (rest_is front (h.written ++ h.rest) t h.are_all)
@@ -123,46 +120,43 @@ module _ (from_basis is_cut is_behind : Bool) (o : ListOptions) (texts : List (L
       inr (c.uncertified.2 ∙ ap of_weight_error (w.going.certificates c.written c.rest c.basis (rest_is front (c.written ++ c.basis ∷ c.rest) t c.are_all)
       short c.certified c.uncertified.0 c.uncertified.1))
 
-  cause_past : (r : Refusal) → IsListCause from_basis is_cut is_behind o v r → IsAtLimitOrMemory most r
+  cause_past : (r : Refusal) → IsListCause ways o v r → IsAtLimitOrMemory most r
   cause_past r (IsListCause.early (IsEarlyCause.at_region c (x, (e, h, q)))) = inr (q ∙ ap of_region (w.limits c e h))
-  cause_past r (IsListCause.early (IsEarlyCause.at_names k c i h)) = absurd (names_apart is_behind v.1.0 (names_given from_basis v.1.1) r w.names h)
+  cause_past r (IsListCause.early (IsEarlyCause.at_names k c i h)) = absurd (names_apart ways.after_basis v.1.0 (names_in ways v) r w.names h)
   cause_past r (IsListCause.early (IsEarlyCause.at_start k i e h)) =
-      inr (unstarted_within from_basis is_cut w.region v.1.1 o.pairs (said_kept from_basis said_all.source v.1.1 said_all.read) is_behind v.1.0 r
-      said_all.behind e w.start (subst (λ (z : Region). IsUnstarted from_basis is_cut is_behind o.pairs z v.1.1 v.1.0 r)
-      (cut_one is_cut n v.0 k w.region i w.is_region) h))
+      inr (unstarted_within ways w.region v.1.1 o.pairs (said_kept ways.from_basis said_all.source v.1.1 said_all.read) ways.after_basis v.1.0 r
+      said_all.behind e w.start (subst (λ (z : Region). IsUnstarted ways o.pairs z v.1.1 v.1.0 r)
+      (cut_one ways.in_region n v.0 k w.region i w.is_region) h))
   cause_past r (IsListCause.going k front i e g t h) =
-      let same = cut_one is_cut n v.0 k w.region i w.is_region in
-      going_past front r (subst (λ (z : Region). IsFront is_behind v.1.0 z front) same t)
+      let same = cut_one ways.in_region n v.0 k w.region i w.is_region in
+      going_past front r (subst (λ (z : Region). IsFront ways.after_basis v.1.0 z front) same t)
       (subst (λ (z : Region). IsGoingCauseBehind front o n z fs r) same h)
 
-  no_answer : (text : List ℕ) → IsListAnswer from_basis is_cut is_behind o v text → ⊥
+  no_answer : (text : List ℕ) → IsListAnswer ways o v text → ⊥
   no_answer text a =
-      let same = cut_one is_cut n v.0 a.0 w.region a.1 w.is_region in
-      let t = subst (λ (z : Region). IsFront is_behind v.1.0 z a.4.0) same a.4.1 in
+      let same = cut_one ways.in_region n v.0 a.0 w.region a.1 w.is_region in
+      let t = subst (λ (z : Region). IsFront ways.after_basis v.1.0 z a.4.0) same a.4.1 in
       let all = subst (λ (z : Region). AreAllBasesIn n z fs (a.4.0 ++ a.4.2.list)) same a.4.2.are_all in
       past_limit o.limit most w.going.past.list w.going.past.is_limit w.going.past.longer
       (subst (IsWithinLimit o.limit) (sym (rest_is a.4.0 a.4.2.list t all)) a.4.2.few)
 
-module _ (from_basis is_cut is_behind : Bool) (sources : List Origin) (o : ListOptions) (texts : List (List ℕ)) (most : ℕ)
-    (p : AreTextsPast from_basis is_cut is_behind o texts most) where
-  once : (a : ListValue from_basis is_behind) → (reading_list from_basis is_cut is_behind).IsRead texts a → a ≡ p.0
-  once a h = (list_read from_basis is_cut is_behind).once texts p.0 a p.1 h
+module _ (ways : Ways) (sources : List Origin) (o : ListOptions) (texts : List (List ℕ)) (most : ℕ) (p : AreTextsPast ways o texts most) where
+  once : (a : ListValue ways) → (reading_list ways).IsRead texts a → a ≡ p.0
+  once a h = (list_read ways).once texts p.0 a p.1 h
 
-  pub past_refused : (d : Refusal) → IsRefusedOn (list_command from_basis is_cut is_behind sources o) texts d → IsAtLimitOrMemory most d
+  pub past_refused : (d : Refusal) → IsRefusedOn (list_command ways sources o) texts d → IsAtLimitOrMemory most d
   past_refused d (IsRefusedOn.in_text e h q) = elim (said e) [
     | inl m ↦ inr (q ∙ ap of_text m)
-    | inr n ↦ absurd ((list_read from_basis is_cut is_behind).apart texts p.0 e p.1 h n)
+    | inr n ↦ absurd ((list_read ways).apart texts p.0 e p.1 h n)
   ]
   past_refused d (IsRefusedOn.behind_text a k (IsUnanswered.in_form f)) =
-      absurd (first_apart (checks_list from_basis is_cut is_behind a) (checked_list from_basis is_cut is_behind a) d
-      (subst (λ (z : ListValue from_basis is_behind). AllHold (checks_list from_basis is_cut is_behind z)) (sym (once a k))
-      (formed_list from_basis is_cut is_behind p.0 p.2.region p.2.is_region p.2.names)) f)
+      absurd (first_apart (checks_list ways a) (checked_list ways a) d
+      (subst (λ (z : ListValue ways). AllHold (checks_list ways z)) (sym (once a k)) (formed_list ways p.0 p.2.region p.2.is_region p.2.names)) f)
   past_refused d (IsRefusedOn.behind_text a k (IsUnanswered.in_work g x)) =
-      cause_past from_basis is_cut is_behind o texts p.0 p.1 most p.2 d
-      (subst (λ (z : ListValue from_basis is_behind). IsListCause from_basis is_cut is_behind o z d) (once a k) x)
+      cause_past ways o texts p.0 p.1 most p.2 d (subst (λ (z : ListValue ways). IsListCause ways o z d) (once a k) x)
   past_refused d (IsRefusedOn.behind_text a k (IsUnanswered.no_memory m)) = inr m
   past_refused d (IsRefusedOn.no_memory m) = inr m
 
-  pub past_unanswered : (text : List ℕ) → IsAnswered (list_command from_basis is_cut is_behind sources o) texts text → ⊥
-  past_unanswered text a = no_answer from_basis is_cut is_behind o texts p.0 p.1 most p.2 text
-      (subst (λ (z : ListValue from_basis is_behind). IsListAnswer from_basis is_cut is_behind o z text) (once a.value a.read) a.answer.is_answer)
+  pub past_unanswered : (text : List ℕ) → IsAnswered (list_command ways sources o) texts text → ⊥
+  past_unanswered text a = no_answer ways o texts p.0 p.1 most p.2 text
+      (subst (λ (z : ListValue ways). IsListAnswer ways o z text) (once a.value a.read) a.answer.is_answer)

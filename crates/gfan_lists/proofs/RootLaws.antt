@@ -95,7 +95,7 @@ IsGivenKept true v = IsSetKept (length v.0) v.1
 kept_variables : (v : Given true) → IsGivenKept true v → HaveVariables v.1.variables v.1.items
 kept_variables v kept = set_variables (length v.0) v.1 kept
 
-pub unrooted_work : (from_basis is_cut : Bool) (v : Given from_basis) (k : Region) (pairs : ℕ) (r : Refusal) → IsUnrooted from_basis is_cut v k pairs r →
+pub unrooted_work : (from_basis in_region : Bool) (v : Given from_basis) (k : Region) (pairs : ℕ) (r : Refusal) → IsUnrooted from_basis in_region v k pairs r →
     IsOfWork r
 unrooted_work false false v k pairs r h = subst IsOfWork (sym h.2) (basis_work h.0)
 unrooted_work false true v k pairs r h = subst IsOfWork (sym h.2) (basis_work h.0)
@@ -104,8 +104,8 @@ unrooted_work true false v k pairs r (IsGivenRootRefusal.on_the_way u e g f h q)
 unrooted_work true true v k pairs r (IsGivenRegionRootRefusal.at_basis h) = reducing_work v.1 r h
 unrooted_work true true v k pairs r (IsGivenRegionRootRefusal.at_root u g f (e, h, q)) = subst IsOfWork (sym q) (basis_work e)
 
-pub unrooted_unlisted : (from_basis is_cut : Bool) (v : Given from_basis) (k : Region) (pairs : ℕ) (r : Refusal) → IsUnrooted from_basis is_cut v k pairs r →
-    (most : ℕ) → r ≡ refusals.ListLimit most → ⊥
+pub unrooted_unlisted : (from_basis in_region : Bool) (v : Given from_basis) (k : Region) (pairs : ℕ) (r : Refusal) →
+    IsUnrooted from_basis in_region v k pairs r → (most : ℕ) → r ≡ refusals.ListLimit most → ⊥
 unrooted_unlisted false false v k pairs r h most l = basis_not_listed h.0 most (sym l ∙ h.2)
 unrooted_unlisted false true v k pairs r h most l = basis_not_listed h.0 most (sym l ∙ h.2)
 unrooted_unlisted true false v k pairs r (IsGivenRootRefusal.at_basis h) most l = reducing_unlisted v.1 r h most l
@@ -113,8 +113,8 @@ unrooted_unlisted true false v k pairs r (IsGivenRootRefusal.on_the_way u e g f 
 unrooted_unlisted true true v k pairs r (IsGivenRegionRootRefusal.at_basis h) most l = reducing_unlisted v.1 r h most l
 unrooted_unlisted true true v k pairs r (IsGivenRegionRootRefusal.at_root u g f (e, h, q)) most l = basis_not_listed e most (sym l ∙ q)
 
-pub unrooted_numbers : (from_basis is_cut : Bool) (v : Given from_basis) (k : Region) (pairs : ℕ) (r : Refusal) → IsGivenKept from_basis v →
-    IsBasisGiven from_basis v → IsUnrooted from_basis is_cut v k pairs r → IsOfNumbers r
+pub unrooted_numbers : (from_basis in_region : Bool) (v : Given from_basis) (k : Region) (pairs : ℕ) (r : Refusal) → IsGivenKept from_basis v →
+    IsBasisGiven from_basis v → IsUnrooted from_basis in_region v k pairs r → IsOfNumbers r
 unrooted_numbers false false v k pairs r s g h = subst IsOfNumbers (sym h.2) (basis_numbers h.0)
 unrooted_numbers false true v k pairs r s g h = subst IsOfNumbers (sym h.2) (basis_numbers h.0)
 unrooted_numbers true false v k pairs r s g (IsGivenRootRefusal.at_basis h) = reducing_numbers v.1 (kept_variables v s) r g h
@@ -122,8 +122,8 @@ unrooted_numbers true false v k pairs r s g (IsGivenRootRefusal.on_the_way u e m
 unrooted_numbers true true v k pairs r s g (IsGivenRegionRootRefusal.at_basis h) = reducing_numbers v.1 (kept_variables v s) r g h
 unrooted_numbers true true v k pairs r s g (IsGivenRegionRootRefusal.at_root u m f (e, h, q)) = subst IsOfNumbers (sym q) (basis_numbers e)
 
-pub unrooted_refutes : (from_basis is_cut : Bool) (v : Given from_basis) (k : Region) (pairs : ℕ) (r : Refusal) → IsGivenKept from_basis v → IsOfTest r →
-    IsUnrooted from_basis is_cut v k pairs r → IsBasisGiven from_basis v → ⊥
+pub unrooted_refutes : (from_basis in_region : Bool) (v : Given from_basis) (k : Region) (pairs : ℕ) (r : Refusal) → IsGivenKept from_basis v → IsOfTest r →
+    IsUnrooted from_basis in_region v k pairs r → IsBasisGiven from_basis v → ⊥
 unrooted_refutes false false v k pairs r s t h g = basis_untested h.0 (subst IsOfTest h.2 t)
 unrooted_refutes false true v k pairs r s t h g = basis_untested h.0 (subst IsOfTest h.2 t)
 unrooted_refutes true false v k pairs r s t (IsGivenRootRefusal.at_basis h) g = reducing_refutes v.1 (kept_variables v s) r t h g
@@ -131,15 +131,15 @@ unrooted_refutes true false v k pairs r s t (IsGivenRootRefusal.on_the_way u e m
 unrooted_refutes true true v k pairs r s t (IsGivenRegionRootRefusal.at_basis h) g = reducing_refutes v.1 (kept_variables v s) r t h g
 unrooted_refutes true true v k pairs r s t (IsGivenRegionRootRefusal.at_root u m f (e, h, q)) g = basis_untested e (subst IsOfTest q t)
 
-pub unrooted_same : (from_basis is_cut : Bool) (v : Given from_basis) (k : Region) (pairs : ℕ) (r d : Refusal) → IsGivenKept from_basis v → IsOfTest r →
-    IsUnrooted from_basis is_cut v k pairs r → IsUnrooted from_basis is_cut v k pairs d → TellsSame r d ⊎ IsOfNumbers d
+pub unrooted_same : (from_basis in_region : Bool) (v : Given from_basis) (k : Region) (pairs : ℕ) (r d : Refusal) → IsGivenKept from_basis v → IsOfTest r →
+    IsUnrooted from_basis in_region v k pairs r → IsUnrooted from_basis in_region v k pairs d → TellsSame r d ⊎ IsOfNumbers d
 unrooted_same false false v k pairs r d s t h g = absurd (basis_untested h.0 (subst IsOfTest h.2 t))
 unrooted_same false true v k pairs r d s t h g = absurd (basis_untested h.0 (subst IsOfTest h.2 t))
 unrooted_same true false v k pairs r d s t h g = root_once v.1 (kept_variables v s) pairs r d t h g
 unrooted_same true true v k pairs r d s t h g = region_root_once v.1 (kept_variables v s) k pairs r d t h g
 
-pub unrooted_within : (from_basis is_cut : Bool) (v : Given from_basis) (k : Region) (pairs : ℕ) (r : Refusal) → IsGivenKept from_basis v →
-    IsRootWithin from_basis is_cut pairs k v → IsUnrooted from_basis is_cut v k pairs r → r ≡ refusals.Memory
+pub unrooted_within : (from_basis in_region : Bool) (v : Given from_basis) (k : Region) (pairs : ℕ) (r : Refusal) → IsGivenKept from_basis v →
+    IsRootWithin from_basis in_region pairs k v → IsUnrooted from_basis in_region v k pairs r → r ≡ refusals.Memory
 unrooted_within false false v k pairs r s w h = h.2 ∙ ap of_basis (h.1.by_rule w)
 unrooted_within false true v k pairs r s w h = h.2 ∙ ap of_basis (h.1.by_rule w)
 unrooted_within true false v k pairs r s w (IsGivenRootRefusal.at_basis h) = reducing_within v.1 (kept_variables v s) r w.0 h
@@ -147,8 +147,8 @@ unrooted_within true false v k pairs r s w (IsGivenRootRefusal.on_the_way u e g 
 unrooted_within true true v k pairs r s w (IsGivenRegionRootRefusal.at_basis h) = reducing_within v.1 (kept_variables v s) r w.0 h
 unrooted_within true true v k pairs r s w (IsGivenRegionRootRefusal.at_root u g f (e, h, q)) = q ∙ ap of_basis (h.by_rule (w.1 u f))
 
-pub unrooted_named : (from_basis is_cut : Bool) (v : Given from_basis) (k : Region) (pairs : ℕ) (r : Refusal) → IsGivenKept from_basis v →
-    IsUnrooted from_basis is_cut v k pairs r → IsNamedBy (Some (names_given from_basis v)) r
+pub unrooted_named : (from_basis in_region : Bool) (v : Given from_basis) (k : Region) (pairs : ℕ) (r : Refusal) → IsGivenKept from_basis v →
+    IsUnrooted from_basis in_region v k pairs r → IsNamedBy (Some (names_given from_basis v)) r
 unrooted_named false false v k pairs r s h = subst (IsNamedBy (Some v.0)) (sym h.2) (basis_named_by (Some v.0) h.0)
 unrooted_named false true v k pairs r s h = subst (IsNamedBy (Some v.0)) (sym h.2) (basis_named_by (Some v.0) h.0)
 unrooted_named true false v k pairs r s (IsGivenRootRefusal.at_basis h) = reducing_named v.0 v.1 r s.0 (kept_variables v s) h

@@ -1,7 +1,7 @@
 -- What follows some bases of a list, and why a list isn't started after the basis of a file: each refusal is told in one way.
 -- To cite: going_list, full_list, going_behind_work, going_behind_untested, going_behind_within; start_work, start_unlisted, start_refutes, start_same,
 -- start_within, start_named. The rest are steps.
-use Rattle.std.specs.Prelude.{◌≡◌, ◌⊎◌, ℕ, ◌<◌, Bool, List, [], ◌∷◌, ◌++◌, length, Option, Some, None, Err}
+use Rattle.std.specs.Prelude.{◌≡◌, ◌⊎◌, ℕ, ◌<◌, List, [], ◌∷◌, ◌++◌, length, Option, Some, None, Err}
 use Rattle.std.proofs.Common.{arith, refl, sym, ap, ◌∙◌, subst, inl, inr}
 use Rattle.gf_poly.specs.Polynomial.{Terms, HasVariables}
 use Rattle.gf_poly.specs.Marking.{MarkedPolynomials, HaveVariables, polys}
@@ -19,8 +19,9 @@ use Rattle.gf_front.specs.declared.refusal.Refusal.TheVariants as refusals
 use Rattle.gf_items.specs.Refusals.{IsOfTest, IsOfNumbers, TellsSame, IsOfWork}
 use Rattle.gf_frame.proofs.CommandLaws.{as_told}
 use Rattle.gfan_lists.specs.declared.bases.ListOptions.{ListOptions}
-use Rattle.gfan_lists.specs.BasesList.{AreAllBasesIn}
-use Rattle.gfan_lists.specs.BasesWriting.{StartsIn}
+use Rattle.gfan_lists.specs.Ways.{Ways}
+use Rattle.gf_lists_theory.specs.BasesList.{AreAllBasesIn}
+use Rattle.gf_lists_theory.specs.Starts.{StartsIn}
 use Rattle.gfan_common.specs.Causes.{of_tree, of_weight_error}
 use Rattle.gfan_lists.specs.Bases.{IsFullTextBehind, IsGoingCauseBehind, AreCertifiedWithinIn, IsWithinLimit}
 use Rattle.gfan_common.specs.CheckedSets.{of_check}
@@ -29,7 +30,7 @@ use Rattle.gfan_lists.specs.After.{IsBasisTaken, IsUnlisted, Given, names_given,
 use Rattle.gfan_lists.specs.After.{IsStartRefused, IsStartWithin}
 use Rattle.gfan_common.proofs.ReadSetLaws.{IsSetKept}
 use Rattle.gfan_common.proofs.CheckedSetLaws.{lent_terms, named_numbers, check_work, check_not_listed, poly_numbers, poly_untested}
-use Rattle.gfan_lists.proofs.BasesListLaws.{among_left, among_right, given_in_node}
+use Rattle.gf_lists_theory.proofs.BasesListLaws.{among_left, among_right, given_in_node}
 use Rattle.gfan_common.proofs.CauseLaws.{weight_work, weight_untested, tree_work, tree_untested, tree_no_limit, named_tree}
 use Rattle.gfan_common.proofs.CauseLaws.{numbers_untested}
 use Rattle.gfan_lists.proofs.AfterLaws.{beside_numbers, beside_once, named_beside, taken_once, starts_once, outside_once, inside_apart}
@@ -134,41 +135,44 @@ taken_refutes k s b e r v o t h q = numbers_untested (of_check e) (taken_numbers
 
 -- ---- in one region
 
-module _ (from_basis is_cut : Bool) (k : Region) (v : Given from_basis) (s : MarkedPolynomials) where
-  pub start_work : (pairs : ℕ) (r : Refusal) → IsStartRefused from_basis is_cut pairs k v s r → IsOfWork r
+module _ (ways : Ways) (k : Region) (v : Given ways.from_basis) (s : MarkedPolynomials) where
+  abbrev n : ℕ
+  n = length (names_given ways.from_basis v)
+
+  abbrev fs : List Terms
+  fs = generators_given ways.from_basis v
+
+  pub start_work : (pairs : ℕ) (r : Refusal) → IsStartRefused ways pairs k v s r → IsOfWork r
   start_work pairs r (IsStartRefused.at_basis e h q) = subst IsOfWork (sym q) (check_work e)
-  start_work pairs r (IsStartRefused.at_root b t u) = unrooted_work from_basis is_cut v k pairs r u
-  start_work pairs r (IsStartRefused.unlisted b root t g f u) = unlisted_work (generators_given from_basis v) s root b r u
+  start_work pairs r (IsStartRefused.at_root b t u) = unrooted_work ways.from_basis ways.in_region v k pairs r u
+  start_work pairs r (IsStartRefused.unlisted b root t g f u) = unlisted_work fs s root b r u
   start_work pairs r (IsStartRefused.on_the_way b root e t g f l h q) = subst IsOfWork (sym q) (tree_work e)
 
-  pub start_unlisted : (pairs : ℕ) (r : Refusal) → IsStartRefused from_basis is_cut pairs k v s r → (most : ℕ) → r ≡ refusals.ListLimit most → ⊥
+  pub start_unlisted : (pairs : ℕ) (r : Refusal) → IsStartRefused ways pairs k v s r → (most : ℕ) → r ≡ refusals.ListLimit most → ⊥
   start_unlisted pairs r (IsStartRefused.at_basis e h q) most l = check_not_listed e most (sym l ∙ q)
-  start_unlisted pairs r (IsStartRefused.at_root b t u) most l = unrooted_unlisted from_basis is_cut v k pairs r u most l
-  start_unlisted pairs r (IsStartRefused.unlisted b root t g f u) most l = unlisted_unlimited (generators_given from_basis v) s root b r u most l
+  start_unlisted pairs r (IsStartRefused.at_root b t u) most l = unrooted_unlisted ways.from_basis ways.in_region v k pairs r u most l
+  start_unlisted pairs r (IsStartRefused.unlisted b root t g f u) most l = unlisted_unlimited fs s root b r u most l
   start_unlisted pairs r (IsStartRefused.on_the_way b root e t g f x h q) most l = tree_no_limit e most (sym q ∙ l)
 
-  module _ (q : s.variables ≡ length (names_given from_basis v)) (kept : HaveVariables s.variables s.items) (input : IsGivenKept from_basis v) where
+  module _ (q : s.variables ≡ n) (kept : HaveVariables s.variables s.items) (input : IsGivenKept ways.from_basis v) where
     -- a basis that isn't listed is none of the ideal
     unlisted_refutes : (b c root : MarkedPolynomials) (r : Refusal) → IsOfTest r → IsBasisTaken k s b → IsBasisTaken k s c →
-        StartsIn (length (names_given from_basis v)) k (generators_given from_basis v) root →
-        IsNodeIn (ideal_within (length (names_given from_basis v)) (generators_given from_basis v) k) c → IsUnlisted (generators_given from_basis v)
-        s root b r → ⊥
+        StartsIn n k fs root → IsNodeIn (ideal_within n fs k) c → IsUnlisted fs s root b r → ⊥
     unlisted_refutes b c root r o t a f j u =
-        listed_refutes (length (names_given from_basis v)) k (generators_given from_basis v) s root c q f a j r o
-        (subst (λ z. IsUnlisted (generators_given from_basis v) s root z r) (taken_once k s b c t a) u)
+        listed_refutes n k fs s root c q f a j r o (subst (λ z. IsUnlisted fs s root z r) (taken_once k s b c t a) u)
 
     -- a test that fails isn't passed
     pub start_refutes : (pairs : ℕ) (b : MarkedPolynomials) (front list : List MarkedPolynomials) (r : Refusal) → IsOfTest r →
-        IsStartRefused from_basis is_cut pairs k v s r → IsBasisTaken k s b → IsBasisGiven from_basis v → AreAllBasesIn (length (names_given from_basis v)) k
-        (generators_given from_basis v) ((front ++ b ∷ []) ++ list) → ⊥
+        IsStartRefused ways pairs k v s r → IsBasisTaken k s b → IsBasisGiven ways.from_basis v →
+        AreAllBasesIn n k fs ((front ++ b ∷ []) ++ list) → ⊥
     start_refutes pairs b front list r o (IsStartRefused.at_basis e h p) t g all = taken_refutes k s b e r kept o t h p
-    start_refutes pairs b front list r o (IsStartRefused.at_root c a u) t g all = unrooted_refutes from_basis is_cut v k pairs r input o u g
+    start_refutes pairs b front list r o (IsStartRefused.at_root c a u) t g all = unrooted_refutes ways.from_basis ways.in_region v k pairs r input o u g
     start_refutes pairs b front list r o (IsStartRefused.unlisted c root a m f u) t g all =
-        unlisted_refutes c b root r o a t f (last_node (length (names_given from_basis v)) k (generators_given from_basis v) root b front list f all) u
+        unlisted_refutes c b root r o a t f (last_node n k fs root b front list f all) u
     start_refutes pairs b front list r o (IsStartRefused.on_the_way c root e a m f l h p) t g all = tree_untested e (subst IsOfTest p o)
 
-    pub start_same : (pairs : ℕ) (r d : Refusal) → IsOfTest r → IsStartRefused from_basis is_cut pairs k v s r →
-        IsStartRefused from_basis is_cut pairs k v s d → TellsSame r d ⊎ IsOfNumbers d
+    pub start_same : (pairs : ℕ) (r d : Refusal) → IsOfTest r → IsStartRefused ways pairs k v s r → IsStartRefused ways pairs k v s d →
+        TellsSame r d ⊎ IsOfNumbers d
     start_same pairs r d o (IsStartRefused.at_basis e h p) (IsStartRefused.at_basis x g l) =
         subst (λ z. TellsSame r z ⊎ IsOfNumbers z) (sym l) (subst (λ z. TellsSame z (of_check x) ⊎ IsOfNumbers (of_check x)) (sym p)
         (beside_once k.rows s e x kept (subst IsOfTest p o) h g))
@@ -176,32 +180,31 @@ module _ (from_basis is_cut : Bool) (k : Region) (v : Given from_basis) (s : Mar
     start_same pairs r d o (IsStartRefused.at_basis e h p) (IsStartRefused.unlisted b root t g f u) = absurd (taken_refutes k s b e r kept o t h p)
     start_same pairs r d o (IsStartRefused.at_basis e h p) (IsStartRefused.on_the_way b root x t g f l m w) = absurd (taken_refutes k s b e r kept o t h p)
     start_same pairs r d o (IsStartRefused.at_root b t u) (IsStartRefused.at_basis x g l) = inr (subst IsOfNumbers (sym l) (taken_numbers k s b x kept t g))
-    start_same pairs r d o (IsStartRefused.at_root b t u) (IsStartRefused.at_root c a w) = unrooted_same from_basis is_cut v k pairs r d input o u w
+    start_same pairs r d o (IsStartRefused.at_root b t u) (IsStartRefused.at_root c a w) =
+        unrooted_same ways.from_basis ways.in_region v k pairs r d input o u w
     start_same pairs r d o (IsStartRefused.at_root b t u) (IsStartRefused.unlisted c root a g f w) =
-        absurd (unrooted_refutes from_basis is_cut v k pairs r input o u g)
+        absurd (unrooted_refutes ways.from_basis ways.in_region v k pairs r input o u g)
     start_same pairs r d o (IsStartRefused.at_root b t u) (IsStartRefused.on_the_way c root x a g f l m w) =
-        absurd (unrooted_refutes from_basis is_cut v k pairs r input o u g)
+        absurd (unrooted_refutes ways.from_basis ways.in_region v k pairs r input o u g)
     start_same pairs r d o (IsStartRefused.unlisted b root t g f u) (IsStartRefused.at_basis x h l) =
         inr (subst IsOfNumbers (sym l) (taken_numbers k s b x kept t h))
     start_same pairs r d o (IsStartRefused.unlisted b root t g f u) (IsStartRefused.at_root c a w) =
-        inr (unrooted_numbers from_basis is_cut v k pairs d input g w)
+        inr (unrooted_numbers ways.from_basis ways.in_region v k pairs d input g w)
     start_same pairs r d o (IsStartRefused.unlisted b root t g f u) (IsStartRefused.unlisted c top a m x w) =
-        let fs = generators_given from_basis v in
-        let here = subst (λ z. IsUnlisted fs s z b d) (sym (starts_once (length (names_given from_basis v)) k fs root top f x))
+        let here = subst (λ z. IsUnlisted fs s z b d) (sym (starts_once n k fs root top f x))
         (subst (λ z. IsUnlisted fs s top z d) (sym (taken_once k s b c t a)) w) in
         unlisted_same fs s root b r d o u here
     start_same pairs r d o (IsStartRefused.unlisted b root t g f u) (IsStartRefused.on_the_way c top x a m h l w p) =
-        absurd (unlisted_refutes b c root r o t a f (listed_node (length (names_given from_basis v)) k (generators_given from_basis v) s top c q h a l) u)
+        absurd (unlisted_refutes b c root r o t a f (listed_node n k fs s top c q h a l) u)
     start_same pairs r d o (IsStartRefused.on_the_way b root e t g f l h p) k = absurd (tree_untested e (subst IsOfTest p o))
 
-    pub start_within : (pairs : ℕ) (r : Refusal) → IsStartWithin from_basis is_cut pairs k v s → IsStartRefused from_basis is_cut pairs k v s r →
-        r ≡ refusals.Memory
+    pub start_within : (pairs : ℕ) (r : Refusal) → IsStartWithin ways pairs k v s → IsStartRefused ways pairs k v s r → r ≡ refusals.Memory
     start_within pairs r w (IsStartRefused.at_basis e h p) =
         p ∙ ap of_check (beside_only_memory {A = Unit {0}} k.rows 0 s (Err e) kept h w.checks w.weight w.basis w.reduced)
     start_within pairs r w (IsStartRefused.at_root b t u) = w.root r u
     start_within pairs r w (IsStartRefused.unlisted b root t g f u) = w.listed b root r t f u
     start_within pairs r w (IsStartRefused.on_the_way b root e t g f l h p) =
-        p ∙ ap of_tree (within_memory (ideal_within (length (names_given from_basis v)) (generators_given from_basis v) k) pairs e w.tree h)
+        p ∙ ap of_tree (within_memory (ideal_within n fs k) pairs e w.tree h)
 
 -- ---- the names of a refusal
 
@@ -214,13 +217,13 @@ unlisted_named ring fs s root b r p q (IsUnlisted.at_generator i f a h e) =
 unlisted_named ring fs s root b r p q (IsUnlisted.in_basis d h e) = subst (IsNamedBy (Some ring)) (sym e) (named_numbers ring d)
 unlisted_named ring fs s root b r p q (IsUnlisted.in_generators d h e) = subst (IsNamedBy (Some ring)) (sym e) (named_numbers ring d)
 
-pub start_named : (from_basis is_cut : Bool) (pairs : ℕ) (k : Region) (v : Given from_basis) (s : MarkedPolynomials) (r : Refusal) →
-    IsSetKept (length (names_given from_basis v)) s → IsGivenKept from_basis v → IsStartRefused from_basis is_cut pairs k v s r →
-    IsNamedBy (Some (names_given from_basis v)) r
-start_named from_basis is_cut pairs k v s r kept input (IsStartRefused.at_basis e h q) =
-    subst (IsNamedBy (Some (names_given from_basis v))) (sym q) (named_beside k.rows s (names_given from_basis v) kept e h)
-start_named from_basis is_cut pairs k v s r kept input (IsStartRefused.at_root b t u) = unrooted_named from_basis is_cut v k pairs r input u
-start_named from_basis is_cut pairs k v s r kept input (IsStartRefused.unlisted b root t g f u) =
-    unlisted_named (names_given from_basis v) (generators_given from_basis v) s root b r f.node.variables (t.arranged.variables ∙ kept.0) u
-start_named from_basis is_cut pairs k v s r kept input (IsStartRefused.on_the_way b root e t g f l h q) =
-    subst (IsNamedBy (Some (names_given from_basis v))) (sym q) (named_tree (names_given from_basis v) e)
+pub start_named : (ways : Ways) (pairs : ℕ) (k : Region) (v : Given ways.from_basis) (s : MarkedPolynomials) (r : Refusal) →
+    IsSetKept (length (names_given ways.from_basis v)) s → IsGivenKept ways.from_basis v → IsStartRefused ways pairs k v s r →
+    IsNamedBy (Some (names_given ways.from_basis v)) r
+start_named ways pairs k v s r kept input (IsStartRefused.at_basis e h q) =
+    subst (IsNamedBy (Some (names_given ways.from_basis v))) (sym q) (named_beside k.rows s (names_given ways.from_basis v) kept e h)
+start_named ways pairs k v s r kept input (IsStartRefused.at_root b t u) = unrooted_named ways.from_basis ways.in_region v k pairs r input u
+start_named ways pairs k v s r kept input (IsStartRefused.unlisted b root t g f u) =
+    unlisted_named (names_given ways.from_basis v) (generators_given ways.from_basis v) s root b r f.node.variables (t.arranged.variables ∙ kept.0) u
+start_named ways pairs k v s r kept input (IsStartRefused.on_the_way b root e t g f l h q) =
+    subst (IsNamedBy (Some (names_given ways.from_basis v))) (sym q) (named_tree (names_given ways.from_basis v) e)

@@ -10,7 +10,7 @@ use Rattle.gf_front.specs.declared.refusal.Refusal.TheVariants as refusals
 use Rattle.gf_frame.specs.Commands.{Command, IsWholeBy, IsBegunBy}
 use Rattle.gfan_common.specs.Performed.{IsBegunAs, IsStoppedFor}
 use Rattle.gfan_lists.specs.declared.bases.ListOptions.{ListOptions}
-use Rattle.gfan_lists.specs.BasesList.{AreAllBasesIn}
+use Rattle.gf_lists_theory.specs.BasesList.{AreAllBasesIn}
 use Rattle.gfan_lists.specs.Bases.{IsFullTextBehind, IsGoingCauseBehind, IsStoppedAt, IsBegunWhereBehind}
 use Rattle.gfan_lists.specs.BasesWriting.{IsListBegunBehind, IsListStoppedBehind}
 

@@ -32,7 +32,7 @@ three_alone (t ∷ (u ∷ (v ∷ []))) x y z a b c e i j k p q r =
 three_alone (t ∷ (u ∷ (v ∷ (w ∷ ws)))) x y z a b c e i j k p q r = absurd (omega (arith, e))
 
 -- how many sources a list has
-abbrev pub count : (is_cut is_behind : Bool) → ℕ
+abbrev pub count : (in_region after_basis : Bool) → ℕ
 count false false = 1
 count false true = 2
 count true false = 2

@@ -15,6 +15,7 @@ use Rattle.gf_items.proofs.CheckLaws.{first_apart}
 use Rattle.gf_frame.specs.Loading.{Origin}
 use Rattle.gf_frame.specs.Commands.{IsUnanswered}
 use Rattle.gfan_lists.specs.declared.bases.ListOptions.{ListOptions}
+use Rattle.gfan_lists.specs.Ways.{ways_by}
 use Rattle.gfan_lists.specs.Within.{of_region, IsNoRegion}
 use Rattle.gfan_lists.specs.After.{names_given}
 use Rattle.gfan_lists.specs.ListCommand.{ListValue, IsEarlyCause, IsListCause, list_command, IsToldUnlessUnfinished, WideRootsAreTold}
@@ -42,26 +43,26 @@ module _ (n : ℕ) (rows : List (List ℤ)) (index : ℕ) (value : ℤ) (wide : 
   formed : (r : Refusal) → FirstFails (for_each n rows) r → ⊥
   formed r f = first_apart (for_each n rows) (each_check n rows) r (rows_hold n rows wide) f
 
-module _ (from_basis is_behind : Bool) (sources : List Origin) (o : ListOptions) (v : ListValue from_basis is_behind) (index : ℕ) (value : ℤ)
+module _ (from_basis after_basis : Bool) (sources : List Origin) (o : ListOptions) (v : ListValue (ways_by from_basis true after_basis)) (index : ℕ) (value : ℤ)
     (w : AreRows (length (names_given from_basis v.1.1)) v.0)
     (h : IsRegionRefusal (length (names_given from_basis v.1.1)) v.0 (region_errors.WideRoot index value)) where
   abbrev n : ℕ
   n = length (names_given from_basis v.1.1)
 
-  told : (r : Refusal) → IsListCause from_basis true is_behind o v r → IsToldUnlessUnfinished n v.0 (refusals.WideRoot index value) r
+  told : (r : Refusal) → IsListCause (ways_by from_basis true after_basis) o v r → IsToldUnlessUnfinished n v.0 (refusals.WideRoot index value) r
   told r (IsListCause.early (IsEarlyCause.at_region c x)) = at_region n v.0 index value w h r x
   told r (IsListCause.early (IsEarlyCause.at_names k c i x)) = absurd (none_there n v.0 index value w h k i)
   told r (IsListCause.early (IsEarlyCause.at_start k i e x)) = absurd (none_there n v.0 index value w h k i)
   told r (IsListCause.going k front i e g t x) = absurd (none_there n v.0 index value w h k i)
 
-  unanswered : (r : Refusal) → IsUnanswered (list_command from_basis true is_behind sources o) v r →
+  unanswered : (r : Refusal) → IsUnanswered (list_command (ways_by from_basis true after_basis) sources o) v r →
       IsToldUnlessUnfinished n v.0 (refusals.WideRoot index value) r
   unanswered r (IsUnanswered.in_form f) = absurd (formed n v.0 index value w h r f)
   unanswered r (IsUnanswered.in_work a c) = told r c
   unanswered r (IsUnanswered.no_memory m) = inr (inr m)
 
 pub wide_roots : WideRootsAreTold
-wide_roots from_basis is_behind sources o v index value w h = (
+wide_roots from_basis after_basis sources o v index value w h = (
   λ text a. none_there (length (names_given from_basis v.1.1)) v.0 index value w h a.is_answer.0 a.is_answer.1,
-  unanswered from_basis is_behind sources o v index value w h,
+  unanswered from_basis after_basis sources o v index value w h,
 )

@@ -28,11 +28,11 @@ use Rattle.gf_frame.specs.Commands.{Command, IsUnanswered, IsRefusedOn, IsCauseA
 use Rattle.gf_frame.specs.Runs.{IsStoppedOn}
 use Rattle.gf_frame.proofs.WorkLaws.{nothing_but_limit}
 use Rattle.gfan_common.specs.Forms.{IsLengthRefusal}
-use Rattle.gfan_lists.specs.BasesWriting.{StartsIn}
+use Rattle.gf_lists_theory.specs.Starts.{StartsIn}
 use Rattle.gfan_lists.specs.GivenBasis.{IsReducedFrom}
 use Rattle.gfan_common.specs.Refused.{without_names, IsNamedBy, IsOfSource}
 use Rattle.gfan_lists.specs.Within.{of_region, IsNoRegion}
-use Rattle.gfan_lists.proofs.BasesListLaws.{given_node, start_moved}
+use Rattle.gf_lists_theory.proofs.BasesListLaws.{given_node, start_moved}
 use Rattle.gfan_common.specs.ToolForms.{for_each}
 use Rattle.std.proofs.lemmas.List.Elements.{All-nil}
 use Rattle.gfan_common.proofs.RefusedLaws.{of_source}

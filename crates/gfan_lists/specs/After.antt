@@ -26,9 +26,10 @@ use Rattle.gf_items.specs.Sources.{vectors_alone, ring_set_vector, ring_marked_s
 use Rattle.gf_frame.specs.Readings.{Reading, of_one, of_more}
 use Rattle.gfan_common.specs.Forms.{generators_of}
 use Rattle.gfan_common.specs.CheckedSets.{of_check, IsSomeReductionRefusal}
+use Rattle.gfan_lists.specs.Ways.{Ways}
 use Rattle.gfan_lists.specs.Bases.{IsRootRefusal}
 use Rattle.gfan_common.specs.Causes.{of_tree}
-use Rattle.gfan_lists.specs.BasesWriting.{StartsIn}
+use Rattle.gf_lists_theory.specs.Starts.{StartsIn}
 use Rattle.gfan_lists.specs.GivenBasis.{IsGivenRootRefusal}
 use Rattle.gfan_lists.specs.Within.{IsRegionRootRefusal, IsGivenRegionRootRefusal}
 
@@ -120,7 +121,7 @@ IsBasisGiven false v = Unit {0}
 IsBasisGiven true v = IsMarkedGroebnerBasis v.1.variables v.1.items
 
 -- why the root of the list isn't found: in the region of a file, or for all positive weights
-abbrev pub IsUnrooted : (from_basis is_cut : Bool) → Given from_basis → Region → ℕ → Refusal → Type 0
+abbrev pub IsUnrooted : (from_basis in_region : Bool) → Given from_basis → Region → ℕ → Refusal → Type 0
 IsUnrooted false false v k pairs r = IsRootRefusal (length v.0) (generators_of v.1.0) pairs r
 IsUnrooted false true v k pairs r = IsRegionRootRefusal (length v.0) k (generators_of v.1.0) pairs r
 IsUnrooted true false v k pairs r = IsGivenRootRefusal v.1 pairs r
@@ -156,29 +157,29 @@ IsCutFileRefused (Some file) r = (e : TextError) × IsTextRefused vectors_alone 
 
 -- why the list isn't started in the region, if the names are equal. The set is refused as a reduced basis. Or the root isn't found. Or the
 -- basis isn't in the list below the root. Or it is, and a call of the search is refused on the way up from it
-pub data IsStartRefused (from_basis is_cut : Bool) (pairs : ℕ) (k : Region) (v : Given from_basis) (s : MarkedPolynomials) (r : Refusal) : Type 0 where
-  at_basis : (e : CheckError) → IsReducedRefusalBeside k.rows 0 s e → r ≡ of_check e → IsStartRefused from_basis is_cut pairs k v s r
-  at_root : (b : MarkedPolynomials) → IsBasisTaken k s b → IsUnrooted from_basis is_cut v k pairs r → IsStartRefused from_basis is_cut pairs k v s r
-  unlisted : (b root : MarkedPolynomials) → IsBasisTaken k s b → IsBasisGiven from_basis v →
-      StartsIn (length (names_given from_basis v)) k (generators_given from_basis v) root → IsUnlisted (generators_given from_basis v) s root b r →
-      IsStartRefused from_basis is_cut pairs k v s r
-  on_the_way : (b root : MarkedPolynomials) (e : TreeError) → IsBasisTaken k s b → IsBasisGiven from_basis v →
-      StartsIn (length (names_given from_basis v)) k (generators_given from_basis v) root → IsListedBy (generators_given from_basis v) s root b →
-      IsTreeRefusal (ideal_within (length (names_given from_basis v)) (generators_given from_basis v) k) pairs e → r ≡ of_tree e →
-      IsStartRefused from_basis is_cut pairs k v s r
+pub data IsStartRefused (ways : Ways) (pairs : ℕ) (k : Region) (v : Given ways.from_basis) (s : MarkedPolynomials) (r : Refusal) : Type 0 where
+  at_basis : (e : CheckError) → IsReducedRefusalBeside k.rows 0 s e → r ≡ of_check e → IsStartRefused ways pairs k v s r
+  at_root : (b : MarkedPolynomials) → IsBasisTaken k s b → IsUnrooted ways.from_basis ways.in_region v k pairs r → IsStartRefused ways pairs k v s r
+  unlisted : (b root : MarkedPolynomials) → IsBasisTaken k s b → IsBasisGiven ways.from_basis v →
+      StartsIn (length (names_given ways.from_basis v)) k (generators_given ways.from_basis v) root → IsUnlisted (generators_given ways.from_basis v)
+      s root b r → IsStartRefused ways pairs k v s r
+  on_the_way : (b root : MarkedPolynomials) (e : TreeError) → IsBasisTaken k s b → IsBasisGiven ways.from_basis v →
+      StartsIn (length (names_given ways.from_basis v)) k (generators_given ways.from_basis v) root → IsListedBy (generators_given ways.from_basis v) s root b →
+      IsTreeRefusal (ideal_within (length (names_given ways.from_basis v)) (generators_given ways.from_basis v) k) pairs e → r ≡ of_tree e →
+      IsStartRefused ways pairs k v s r
 
 -- ---- within limits
 
 -- in the region: the set is the reduced basis of its ideal, and some weight of the region gives it. No operation of its checks leaves its
 -- limits, nor does one on the way to the root, of the reductions by the root and by the basis, whose normal forms are zero, or of the
 -- search at a basis of the ideal
-pub record IsStartWithin (from_basis is_cut : Bool) (pairs : ℕ) (k : Region) (v : Given from_basis) (s : MarkedPolynomials) : Type 0 where
+pub record IsStartWithin (ways : Ways) (pairs : ℕ) (k : Region) (v : Given ways.from_basis) (s : MarkedPolynomials) : Type 0 where
   pub weight : IsRealisableBeside s.variables k.rows s.items
   pub basis : IsMarkedGroebnerBasis s.variables s.items
   pub reduced : AreReduced s.items
   pub checks : AreChecksWithinLimitsBeside k.rows s
-  pub root : (r : Refusal) → IsUnrooted from_basis is_cut v k pairs r → r ≡ refusals.Memory
+  pub root : (r : Refusal) → IsUnrooted ways.from_basis ways.in_region v k pairs r → r ≡ refusals.Memory
   pub listed : (b root : MarkedPolynomials) (r : Refusal) → IsBasisTaken k s b →
-      StartsIn (length (names_given from_basis v)) k (generators_given from_basis v) root → IsUnlisted (generators_given from_basis v) s root b r →
-      r ≡ refusals.Memory
-  pub tree : IsTreeWithinLimits (ideal_within (length (names_given from_basis v)) (generators_given from_basis v) k) pairs
+      StartsIn (length (names_given ways.from_basis v)) k (generators_given ways.from_basis v) root → IsUnlisted (generators_given ways.from_basis v)
+      s root b r → r ≡ refusals.Memory
+  pub tree : IsTreeWithinLimits (ideal_within (length (names_given ways.from_basis v)) (generators_given ways.from_basis v) k) pairs

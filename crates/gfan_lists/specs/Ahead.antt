@@ -1,5 +1,5 @@
 -- The bases that are taken out of a list before those in front of them are written, and their pieces. Laws: proofs/AheadLaws.antt.
-use Rattle.std.specs.Prelude.{◌≡◌, ℕ, ◌<◌, Bool, true, false, List, [], ◌∷◌, length, slice_index_or, Option, None, Some, IfSome, MatchResult}
+use Rattle.std.specs.Prelude.{◌≡◌, ℕ, ◌<◌, Bool, false, List, [], ◌∷◌, length, slice_index_or, Option, None, Some, IfSome, MatchResult}
 use Rattle.gf_facets_theory.specs.Regions.{Region}
 use Rattle.gf_subtree.specs.Rows.{Row}
 use Rattle.gf_subtree.specs.Answers.{IsNextRow, IsRowEnd, IsRowKept}

@@ -1,6 +1,7 @@
 -- What is read for a list, as the code has it. Laws: proofs/AskedLaws.antt.
-use Rattle.std.specs.Prelude.{◌≡◌, ℕ, Bool, true, false, List, length, Option, None, Some, is_some}
+use Rattle.std.specs.Prelude.{◌≡◌, ℕ, Bool, true, false, List, length, Option, None, Some, is_some, ℤ}
 use Rattle.std.specs.Borrow.{Bor}
+use Rattle.std.specs.Option.{option_copied}
 use Rattle.gf_poly.specs.Polynomial.{Terms}
 use Rattle.gf_text.specs.declared.error.TextError.{TextError}
 use Rattle.gf_text.specs.Sets.{AreIn}
@@ -11,8 +12,20 @@ use Rattle.gf_items.specs.Sources.{ring_marked_set}
 use Rattle.gf_items.specs.declared.sources.RingAndMarked.{RingAndMarked}
 use Rattle.gfan_lists.specs.declared.list.Asked.{Asked}
 use Rattle.gfan_lists.specs.declared.list.Asked.TheVariants as asks
+use Rattle.gfan_lists.specs.declared.list.ListJob.{ListJob}
+use Rattle.gfan_lists.specs.Ways.{Ways, ways_by}
 use Rattle.gfan_lists.specs.After.{Given, names_given, generators_given}
-use Rattle.gfan_lists.specs.ListCommand.{Behind}
+use Rattle.gfan_lists.specs.ListCommand.{Behind, ListValue, list_texts}
+
+-- ---- the job
+
+-- the ways in which its list is asked for
+abbrev pub ways_asked : ListJob → Ways
+ways_asked job = ways_by job.from_basis (is_some (option_copied job.region)) (is_some (option_copied job.after))
+
+-- its texts
+abbrev pub texts_asked : ListJob → List (List ℕ)
+texts_asked job = list_texts (option_copied job.region) (option_copied job.after) job.input.now
 
 -- ---- the input
 
@@ -62,3 +75,13 @@ IsBasisFileRefused (Some file) r = (e : TextError) × IsTextRefused ring_marked_
 abbrev pub IsFoundInRing : Option RingAndMarked → Type 0
 IsFoundInRing None = Unit {0}
 IsFoundInRing (Some a) = a.set.variables ≡ length a.ring
+
+-- ---- all of it
+
+-- the ways in which a list is asked for, as they are known once the texts are read
+abbrev pub ways_read : Asked → Bool → Option RingAndMarked → Ways
+ways_read asked in_region found = ways_by (is_from_basis asked) in_region (is_some found)
+
+-- what the texts say: the vectors of the region, what the list continues after, and the input
+abbrev pub value_read : (asked : Asked) (in_region : Bool) (found : Option RingAndMarked) → List (List ℤ) → ListValue (ways_read asked in_region found)
+value_read asked in_region found rows = (rows, (behind_by found, given_by asked))

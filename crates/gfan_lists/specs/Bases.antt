@@ -18,7 +18,7 @@ use Rattle.gf_front.specs.declared.refusal.Refusal.{Refusal}
 use Rattle.gf_front.specs.declared.refusal.Refusal.TheVariants as refusals
 use Rattle.gfan_lists.specs.declared.bases.ListOptions.{ListOptions}
 use Rattle.gfan_common.specs.Causes.{of_basis, of_tree}
-use Rattle.gfan_lists.specs.BasesList.{IsGivenIn, AreAllBasesIn}
+use Rattle.gf_lists_theory.specs.BasesList.{IsGivenIn, AreAllBasesIn}
 use Rattle.gfan_lists.specs.Certificates.{IsItemTextIn, IsUncertifiedIn}
 
 -- ---- the output

@@ -3,14 +3,9 @@ use Rattle.std.specs.Prelude.{◌≡◌, ℕ, ◌+◌, Bool, true, false, List, 
 use Rattle.std.specs.Io.KnownBytes.{Appends, Keeps}
 use Rattle.gf_outside.specs.Faults.{Rose}
 use Rattle.gf_outside.specs.Moved.{AppendsPrefix}
-use Rattle.gf_exponents_theory.specs.SixOrders.{MonomialOrder}
 use Rattle.gf_poly.specs.Polynomial.{Terms}
 use Rattle.gf_poly.specs.Marking.{MarkedPolynomials}
 use Rattle.gf_text.specs.RingText.{ring_text}
-use Rattle.gf_ideal_theory.specs.Membership.{AreInVariables}
-use Rattle.gf_buchberger.specs.Bases.{IsArrangedBasis}
-use Rattle.gf_exponents_theory.specs.Orders.{gains, IsWeightedBelow}
-use Rattle.gf_ideal_theory.specs.Bases.{IsReducedBasisFor}
 use Rattle.gf_reverse_theory.specs.Upward.{IsNodeIn}
 use Rattle.gf_facets_theory.specs.Regions.{Region}
 use Rattle.gf_tree.specs.Ideals.{ideal_within}
@@ -20,7 +15,7 @@ use Rattle.gf_front.specs.declared.refusal.Refusal.TheVariants as refusals
 use Rattle.gfan_lists.specs.declared.bases.ListOptions.{ListOptions}
 use Rattle.gfan_lists.specs.declared.bases.Room.{Room}
 use Rattle.gfan_lists.specs.declared.bases.Room.TheVariants.{Endless, Limited}
-use Rattle.gfan_lists.specs.BasesList.{AreAllBasesIn}
+use Rattle.gf_lists_theory.specs.BasesList.{AreAllBasesIn}
 use Rattle.gfan_lists.specs.Certificates.{IsItemTextIn, IsItemRefusalIn}
 use Rattle.gfan_lists.specs.Bases.{later_item_text, AreItemTextsIn, IsTextBehind, IsFullTextBehind, IsBegunWhereBehind, begun_text}
 
@@ -76,20 +71,6 @@ IsFull Endless r = ⊥
 IsFull (Limited limit left) r = (left ≡ 0) × (r ≡ refusals.ListLimit limit)
 
 -- ---- the list
-
--- root is the basis at which the list starts
-abbrev pub IsFirstBasis : ℕ → List Terms → MarkedPolynomials → Type 0
-IsFirstBasis n fs root = IsArrangedBasis MonomialOrder.deglex n fs root
-
--- the list of the ideal of fs in n variables starts at root
-pub record StartsAt (n : ℕ) (fs : List Terms) (root : MarkedPolynomials) : Type 0 where
-  pub inside : AreInVariables n fs
-  pub first : IsFirstBasis n fs root
-
--- the list of the ideal of fs in n variables and in a region starts at root: the basis for the root of the region, ties broken by lex
-pub record StartsIn (n : ℕ) (k : Region) (fs : List Terms) (root : MarkedPolynomials) : Type 0 where
-  pub node : IsNodeIn (ideal_within n fs k) root
-  pub by_root : IsReducedBasisFor n fs (IsWeightedBelow (gains k.root)) root.items
 
 -- the row has left what follows these bases in the list of all bases of the ideal of fs in n variables and in a region
 pub record GoesOnBehind (before : List MarkedPolynomials) (n : ℕ) (k : Region) (fs : List Terms) (budget : ℕ) (row : Row) : Type 0 where

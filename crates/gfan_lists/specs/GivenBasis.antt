@@ -13,7 +13,7 @@ use Rattle.gf_facets_theory.specs.Regions.{all_positive}
 use Rattle.gf_flip.specs.declared.error.TreeError.{TreeError}
 use Rattle.gf_tree.specs.Refusals.{IsWayRefused}
 use Rattle.gf_front.specs.declared.refusal.Refusal.{Refusal}
-use Rattle.gfan_lists.specs.BasesList.{IsGivenByWeight}
+use Rattle.gf_lists_theory.specs.BasesList.{IsGivenByWeight}
 use Rattle.gfan_common.specs.Causes.{of_tree}
 use Rattle.gfan_common.specs.CheckedSets.{of_check}
 

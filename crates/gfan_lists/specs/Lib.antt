@@ -1,5 +1,5 @@
+pub mod Ways  -- in which ways a list may be asked for
 pub mod Certificates  -- the item of a basis in the list, with certificates or without
-pub mod BasesList  -- the list of all bases of an ideal
 pub mod Parts  -- a list that is written in parts
 pub mod Bases  -- the text of the list of `_bases`, and why it is refused
 pub mod Within  -- the region of a file, and the root in it
@@ -9,6 +9,3 @@ pub mod ListCommand  -- the command `_bases`
 pub mod Asked  -- what is read for a list, as the code has it
 pub mod BasesWriting  -- the writing of the list of `_bases`
 pub mod Ahead  -- bases that are taken out of a list before they are written
-pub mod Generated  -- the output of `_generated`
-pub mod Summaries  -- the summary of a list by `_generated`
-pub mod OneSummary  -- `_generated` writes at most one text for a number and a limit

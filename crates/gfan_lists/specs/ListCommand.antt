@@ -33,8 +33,10 @@ use Rattle.gf_frame.specs.Readings.{Reading, of_more}
 use Rattle.gf_frame.specs.Commands.{Writing, Command, IsAnswerFor, IsUnanswered}
 use Rattle.gfan_common.specs.Forms.{generators_of}
 use Rattle.gfan_common.specs.ToolForms.{for_each}
+use Rattle.gf_front.specs.declared.options.BasesOptions.{BasesOptions}
 use Rattle.gfan_lists.specs.declared.bases.ListOptions.{ListOptions}
-use Rattle.gfan_lists.specs.BasesList.{AreAllBasesIn}
+use Rattle.gfan_lists.specs.Ways.{Ways, ways_by, ways_of, list_options}
+use Rattle.gf_lists_theory.specs.BasesList.{AreAllBasesIn}
 use Rattle.gfan_lists.specs.Bases.{IsWithinLimit, IsTextBehind, IsFullTextBehind, IsBegunWhereBehind, IsPastLimitBehind, IsGoingCauseBehind}
 use Rattle.gfan_lists.specs.Bases.{AreCertifiedWithinIn}
 use Rattle.gfan_lists.specs.GivenBasis.{IsReducedFrom}
@@ -50,34 +52,42 @@ Behind false = Unit {0}
 Behind true = List (List ℕ) × MarkedPolynomials
 
 -- the names of the ring of the file are these
-abbrev pub AreSameNames : (is_behind : Bool) → Behind is_behind → List (List ℕ) → Type 0
+abbrev pub AreSameNames : (after_basis : Bool) → Behind after_basis → List (List ℕ) → Type 0
 AreSameNames false s names = Unit {0}
 AreSameNames true s names = s.0 ≡ names
 
 -- they aren't, and r is the refusal for that
-abbrev pub IsOtherNames : (is_behind : Bool) → Behind is_behind → List (List ℕ) → Refusal → Type 0
+abbrev pub IsOtherNames : (after_basis : Bool) → Behind after_basis → List (List ℕ) → Refusal → Type 0
 IsOtherNames false s names r = ⊥
 IsOtherNames true s names r = IsOtherRing s.0 names r
 
 -- the bases up to the one that the list continues after: some, and last that of the file, made monic and arranged; or none
-abbrev pub IsFront : (is_behind : Bool) → Behind is_behind → Region → List MarkedPolynomials → Type 0
+abbrev pub IsFront : (after_basis : Bool) → Behind after_basis → Region → List MarkedPolynomials → Type 0
 IsFront false s k front = front ≡ []
 IsFront true s k front = (b : MarkedPolynomials) × (before : List MarkedPolynomials) × IsBasisTaken k s.1 b × (front ≡ before ++ b ∷ [])
 
 -- the basis of the file is read before the other texts
-abbrev pub reading_behind : {A : Type 0} → (is_behind : Bool) → Reading A → Reading (Behind is_behind × A)
+abbrev pub reading_behind : {A : Type 0} → (after_basis : Bool) → Reading A → Reading (Behind after_basis × A)
 reading_behind false others = record { IsRead = λ texts v. others.IsRead texts v.1; IsRefused = others.IsRefused }
 reading_behind true others = of_more ring_marked_set others
 
 -- ---- what is read
 
 -- the vectors of the region, if any; the basis that the list continues after, if any; and the input
-abbrev pub ListValue : (from_basis is_behind : Bool) → Type 0
-ListValue from_basis is_behind = List (List ℤ) × (Behind is_behind × Given from_basis)
+abbrev pub ListValue : Ways → Type 0
+ListValue ways = List (List ℤ) × (Behind ways.after_basis × Given ways.from_basis)
+
+-- the names of the ring of the input
+abbrev pub names_in : (ways : Ways) → ListValue ways → List (List ℕ)
+names_in ways v = names_given ways.from_basis v.1.1
+
+-- the polynomials that generate the ideal
+abbrev pub ideal_in : (ways : Ways) → ListValue ways → List Terms
+ideal_in ways v = generators_given ways.from_basis v.1.1
 
 -- the reading of the files and of the input
-abbrev pub reading_list : (from_basis is_cut is_behind : Bool) → Reading (ListValue from_basis is_behind)
-reading_list from_basis is_cut is_behind = reading_cut is_cut (reading_behind is_behind (reading_given from_basis))
+abbrev pub reading_list : (ways : Ways) → Reading (ListValue ways)
+reading_list ways = reading_cut ways.in_region (reading_behind ways.after_basis (reading_given ways.from_basis))
 
 -- the sources with a file before them, if one is named
 abbrev pub file_first : Option (List ℕ) → List Origin → List Origin
@@ -97,61 +107,68 @@ text_first (Some text) texts = text ∷ texts
 abbrev pub list_texts : Option (List ℕ) → Option (List ℕ) → List ℕ → List (List ℕ)
 list_texts within after source = text_first within (text_first after (source ∷ []))
 
--- If there is a region, each vector has an entry for each variable. The names of the rings are checked after the region; so without one they are a check of
--- what is read
-abbrev pub checks_list : (from_basis is_cut is_behind : Bool) → ListValue from_basis is_behind → List Check
-checks_list from_basis true is_behind v = for_each (length (names_given from_basis v.1.1)) v.0
-checks_list from_basis false true v = same_names v.1.0.0 (names_given from_basis v.1.1) ∷ []
-checks_list from_basis false false v = []
+-- What is checked of these vectors, of what the list continues after, and of the names of the ring of the input. If there is a region, each vector has an
+-- entry for each variable. The names of the rings are checked after the region; so without one they are a check of what is read
+abbrev pub checks_for : (in_region after_basis : Bool) → List (List ℤ) → Behind after_basis → List (List ℕ) → List Check
+checks_for true after_basis rows s names = for_each (length names) rows
+checks_for false true rows s names = same_names s.0 names ∷ []
+checks_for false false rows s names = []
+
+-- the checks of what is read for a list
+abbrev pub checks_list : (ways : Ways) → ListValue ways → List Check
+checks_list ways v = checks_for ways.in_region ways.after_basis v.0 v.1.0 (names_in ways v)
 
 -- ---- the output
 
 -- for the region, the basis that is given and the bases before the list, this holds of the region and these bases
-abbrev pub IsOfList : (from_basis is_cut is_behind : Bool) → ListValue from_basis is_behind → (Region → List MarkedPolynomials → Type 0) → Type 0
-IsOfList from_basis is_cut is_behind v Holds =
-    (k : Region) × IsRegionCut is_cut (length (names_given from_basis v.1.1)) v.0 k × AreSameNames is_behind v.1.0 (names_given from_basis v.1.1) ×
-    IsBasisGiven from_basis v.1.1
-    × ((front : List MarkedPolynomials) × IsFront is_behind v.1.0 k front × Holds k front)
+abbrev pub IsOfList : (ways : Ways) → ListValue ways → (Region → List MarkedPolynomials → Type 0) → Type 0
+IsOfList ways v Holds =
+    (k : Region) × IsRegionCut ways.in_region (length (names_in ways v)) v.0 k × AreSameNames ways.after_basis v.1.0 (names_in ways v) ×
+    IsBasisGiven ways.from_basis v.1.1
+    × ((front : List MarkedPolynomials) × IsFront ways.after_basis v.1.0 k front × Holds k front)
 
 -- the text is the output
-abbrev pub IsListAnswer : (from_basis is_cut is_behind : Bool) → ListOptions → ListValue from_basis is_behind → List ℕ → Type 0
-IsListAnswer from_basis is_cut is_behind o v text =
-    IsOfList from_basis is_cut is_behind v (λ k front. IsTextBehind front o.certified o.limit (names_given from_basis v.1.1) k
-    (generators_given from_basis v.1.1) text)
+abbrev pub IsListAnswer : (ways : Ways) → ListOptions → ListValue ways → List ℕ → Type 0
+IsListAnswer ways o v text =
+    IsOfList ways v (λ k front. IsTextBehind front o.certified o.limit (names_in ways v) k (ideal_in ways v) text)
 
 -- the text is all that is written if nothing stops the list: the output, or as much of it as the limit allows
-abbrev pub IsListWhole : (from_basis is_cut is_behind : Bool) → ListOptions → ListValue from_basis is_behind → List ℕ → Type 0
-IsListWhole from_basis is_cut is_behind o v text =
-    IsOfList from_basis is_cut is_behind v (λ k front. IsFullTextBehind front o (names_given from_basis v.1.1) k (generators_given from_basis v.1.1) text)
+abbrev pub IsListWhole : (ways : Ways) → ListOptions → ListValue ways → List ℕ → Type 0
+IsListWhole ways o v text =
+    IsOfList ways v (λ k front. IsFullTextBehind front o (names_in ways v) k (ideal_in ways v) text)
 
 -- the text may have been written when the list is refused with r. So nothing is written if it isn't started
-abbrev pub IsListPart : (from_basis is_cut is_behind : Bool) → ListOptions → ListValue from_basis is_behind → List ℕ → Refusal → Type 0
-IsListPart from_basis is_cut is_behind o v text r =
-    IsOfList from_basis is_cut is_behind v (λ k front. IsBegunWhereBehind front o (names_given from_basis v.1.1) k (generators_given from_basis v.1.1) text r)
+abbrev pub IsListPart : (ways : Ways) → ListOptions → ListValue ways → List ℕ → Refusal → Type 0
+IsListPart ways o v text r =
+    IsOfList ways v (λ k front. IsBegunWhereBehind front o (names_in ways v) k (ideal_in ways v) text r)
 
 -- ---- why it is refused
 
--- why the list isn't started in the region: its first basis isn't found; or, to continue after a basis, this basis isn't taken, or isn't in the list below
--- the first one, or the way up from it is refused
-abbrev pub IsUnstarted : (from_basis is_cut is_behind : Bool) → ℕ → Region → Given from_basis → Behind is_behind → Refusal → Type 0
-IsUnstarted from_basis is_cut false pairs k v s r = IsUnrooted from_basis is_cut v k pairs r
-IsUnstarted from_basis is_cut true pairs k v s r = IsStartRefused from_basis is_cut pairs k v s.1 r
+-- why the list isn't started in the region, from its first basis on or after a basis: the first one isn't found; or the other isn't taken, or isn't in the
+-- list below the first one, or the way up from it is refused
+abbrev pub IsUnstartedFrom : (ways : Ways) (after_basis : Bool) → ℕ → Region → Given ways.from_basis → Behind after_basis → Refusal → Type 0
+IsUnstartedFrom ways false pairs k v s r = IsUnrooted ways.from_basis ways.in_region v k pairs r
+IsUnstartedFrom ways true pairs k v s r = IsStartRefused ways pairs k v s.1 r
+
+-- why the list that is asked for in these ways isn't started in the region
+abbrev pub IsUnstarted : (ways : Ways) → ℕ → Region → Given ways.from_basis → Behind ways.after_basis → Refusal → Type 0
+IsUnstarted ways pairs k v s r = IsUnstartedFrom ways ways.after_basis pairs k v s r
 
 -- why it is refused before anything is written: there is no region; or there is one, and the names of the rings differ, if they are checked after the
 -- region; or the list isn't started in the region
-pub data IsEarlyCause (from_basis is_cut is_behind : Bool) (o : ListOptions) (v : ListValue from_basis is_behind) (r : Refusal) : Type 0 where
-  at_region : is_cut ≡ true → IsNoRegion (length (names_given from_basis v.1.1)) v.0 r → IsEarlyCause from_basis is_cut is_behind o v r
-  at_names : (k : Region) → is_cut ≡ true → IsRegionOf (length (names_given from_basis v.1.1)) v.0 k →
-      IsOtherNames is_behind v.1.0 (names_given from_basis v.1.1) r → IsEarlyCause from_basis is_cut is_behind o v r
-  at_start : (k : Region) → IsRegionCut is_cut (length (names_given from_basis v.1.1)) v.0 k → AreSameNames is_behind v.1.0 (names_given from_basis v.1.1) →
-      IsUnstarted from_basis is_cut is_behind o.pairs k v.1.1 v.1.0 r → IsEarlyCause from_basis is_cut is_behind o v r
+pub data IsEarlyCause (ways : Ways) (o : ListOptions) (v : ListValue ways) (r : Refusal) : Type 0 where
+  at_region : ways.in_region ≡ true → IsNoRegion (length (names_in ways v)) v.0 r → IsEarlyCause ways o v r
+  at_names : (k : Region) → ways.in_region ≡ true → IsRegionOf (length (names_in ways v)) v.0 k →
+      IsOtherNames ways.after_basis v.1.0 (names_in ways v) r → IsEarlyCause ways o v r
+  at_start : (k : Region) → IsRegionCut ways.in_region (length (names_in ways v)) v.0 k → AreSameNames ways.after_basis v.1.0 (names_in ways v) →
+      IsUnstarted ways o.pairs k v.1.1 v.1.0 r → IsEarlyCause ways o v r
 
 -- it is refused before anything is written; or the list is refused from there on
-pub data IsListCause (from_basis is_cut is_behind : Bool) (o : ListOptions) (v : ListValue from_basis is_behind) (r : Refusal) : Type 0 where
-  early : IsEarlyCause from_basis is_cut is_behind o v r → IsListCause from_basis is_cut is_behind o v r
-  going : (k : Region) (front : List MarkedPolynomials) → IsRegionCut is_cut (length (names_given from_basis v.1.1)) v.0 k →
-      AreSameNames is_behind v.1.0 (names_given from_basis v.1.1) → IsBasisGiven from_basis v.1.1 → IsFront is_behind v.1.0 k front →
-      IsGoingCauseBehind front o (length (names_given from_basis v.1.1)) k (generators_given from_basis v.1.1) r → IsListCause from_basis is_cut is_behind o v r
+pub data IsListCause (ways : Ways) (o : ListOptions) (v : ListValue ways) (r : Refusal) : Type 0 where
+  early : IsEarlyCause ways o v r → IsListCause ways o v r
+  going : (k : Region) (front : List MarkedPolynomials) → IsRegionCut ways.in_region (length (names_in ways v)) v.0 k →
+      AreSameNames ways.after_basis v.1.0 (names_in ways v) → IsBasisGiven ways.from_basis v.1.1 → IsFront ways.after_basis v.1.0 k front →
+      IsGoingCauseBehind front o (length (names_in ways v)) k (ideal_in ways v) r → IsListCause ways o v r
 
 -- ---- within limits
 
@@ -163,7 +180,7 @@ pub record IsReducedWithin (s : MarkedPolynomials) : Type 0 where
 
 -- no operation on the way to the first basis leaves its limits: of the run by the rule of the program; or, from a marked Gröbner basis for all positive
 -- weights, of a call at a basis on the way up from the reduced basis
-abbrev pub IsRootWithin : (from_basis is_cut : Bool) → ℕ → Region → Given from_basis → Type 0
+abbrev pub IsRootWithin : (from_basis in_region : Bool) → ℕ → Region → Given from_basis → Type 0
 IsRootWithin false false pairs k v = AreRuledRunsWithinLimits strategies.Degree MonomialOrder.deglex (generators_of v.1.0) pairs
 IsRootWithin false true pairs k v = AreRuledRunsWithinLimits strategies.Degree (MonomialOrder.weighted (gains k.root)) (generators_of v.1.0) pairs
 IsRootWithin true false pairs k v =
@@ -173,25 +190,25 @@ IsRootWithin true true pairs k v =
     IsReducedWithin v.1 × ((u : MarkedPolynomials) → IsReducedFrom v.1 u →
     AreRuledRunsWithinLimits strategies.Degree (MonomialOrder.weighted (gains k.root)) (polys u.items) pairs)
 
--- no operation until the list is started leaves its limits
-abbrev pub IsStartedWithin : (from_basis is_cut is_behind : Bool) → ℕ → Region → Given from_basis → Behind is_behind → Type 0
-IsStartedWithin from_basis is_cut false pairs k v s = IsRootWithin from_basis is_cut pairs k v
-IsStartedWithin from_basis is_cut true pairs k v s = IsStartWithin from_basis is_cut pairs k v s.1
+-- no operation until the list is started, from its first basis on or after a basis, leaves its limits
+abbrev pub IsStartedWithin : (ways : Ways) (after_basis : Bool) → ℕ → Region → Given ways.from_basis → Behind after_basis → Type 0
+IsStartedWithin ways false pairs k v s = IsRootWithin ways.from_basis ways.in_region pairs k v
+IsStartedWithin ways true pairs k v s = IsStartWithin ways pairs k v s.1
 
 -- in the region: no operation until the list is started leaves its limits, nor does one of the search at a basis of the ideal, or one of its certificates
 -- if there are any. The list isn't longer than its limit
-pub record IsWithinIn (from_basis is_cut is_behind : Bool) (o : ListOptions) (k : Region) (v : ListValue from_basis is_behind) : Type 0 where
-  pub start : IsStartedWithin from_basis is_cut is_behind o.pairs k v.1.1 v.1.0
-  pub tree : IsTreeWithinLimits (ideal_within (length (names_given from_basis v.1.1)) (generators_given from_basis v.1.1) k) o.pairs
-  pub few : (front list : List MarkedPolynomials) → IsFront is_behind v.1.0 k front →
-      AreAllBasesIn (length (names_given from_basis v.1.1)) k (generators_given from_basis v.1.1) (front ++ list) → IsWithinLimit o.limit list
-  pub certificates : AreCertifiedWithinIn o (length (names_given from_basis v.1.1)) k (generators_given from_basis v.1.1)
+pub record IsWithinIn (ways : Ways) (o : ListOptions) (k : Region) (v : ListValue ways) : Type 0 where
+  pub start : IsStartedWithin ways ways.after_basis o.pairs k v.1.1 v.1.0
+  pub tree : IsTreeWithinLimits (ideal_within (length (names_in ways v)) (ideal_in ways v) k) o.pairs
+  pub few : (front list : List MarkedPolynomials) → IsFront ways.after_basis v.1.0 k front →
+      AreAllBasesIn (length (names_in ways v)) k (ideal_in ways v) (front ++ list) → IsWithinLimit o.limit list
+  pub certificates : AreCertifiedWithinIn o (length (names_in ways v)) k (ideal_in ways v)
 
 -- no operation of finding the region leaves its limits, the names are equal, and the list is within its limits in each region that the vectors cut out
-pub record IsListWithin (from_basis is_cut is_behind : Bool) (o : ListOptions) (v : ListValue from_basis is_behind) : Type 0 where
-  pub region : is_cut ≡ true → IsRegionWithinLimits (length (names_given from_basis v.1.1)) v.0
-  pub names : AreSameNames is_behind v.1.0 (names_given from_basis v.1.1)
-  pub list : (k : Region) → IsRegionCut is_cut (length (names_given from_basis v.1.1)) v.0 k → IsWithinIn from_basis is_cut is_behind o k v
+pub record IsListWithin (ways : Ways) (o : ListOptions) (v : ListValue ways) : Type 0 where
+  pub region : ways.in_region ≡ true → IsRegionWithinLimits (length (names_in ways v)) v.0
+  pub names : AreSameNames ways.after_basis v.1.0 (names_in ways v)
+  pub list : (k : Region) → IsRegionCut ways.in_region (length (names_in ways v)) v.0 k → IsWithinIn ways o k v
 
 -- more bases than the limit follow these, and no operation before that leaves its limits: none of a call at a basis up to the limit or at the next one, and,
 -- if there are certificates, none of those of a basis up to the limit
@@ -203,45 +220,47 @@ pub record IsGoingPast (before : List MarkedPolynomials) (o : ListOptions) (n : 
       o.certified ≡ true → AreCertificatesFittingIn b.variables k b.items
 
 -- the names are equal, there is a region, and the list is started in it; there it continues after its limit, and no operation before that leaves its limits
-pub record IsListPast (from_basis is_cut is_behind : Bool) (o : ListOptions) (v : ListValue from_basis is_behind) (most : ℕ) : Type 0 where
-  pub limits : is_cut ≡ true → IsRegionWithinLimits (length (names_given from_basis v.1.1)) v.0
-  pub names : AreSameNames is_behind v.1.0 (names_given from_basis v.1.1)
+pub record IsListPast (ways : Ways) (o : ListOptions) (v : ListValue ways) (most : ℕ) : Type 0 where
+  pub limits : ways.in_region ≡ true → IsRegionWithinLimits (length (names_in ways v)) v.0
+  pub names : AreSameNames ways.after_basis v.1.0 (names_in ways v)
   pub region : Region
-  pub is_region : IsRegionCut is_cut (length (names_given from_basis v.1.1)) v.0 region
-  pub given : IsBasisGiven from_basis v.1.1
-  pub start : IsStartedWithin from_basis is_cut is_behind o.pairs region v.1.1 v.1.0
+  pub is_region : IsRegionCut ways.in_region (length (names_in ways v)) v.0 region
+  pub given : IsBasisGiven ways.from_basis v.1.1
+  pub start : IsStartedWithin ways ways.after_basis o.pairs region v.1.1 v.1.0
   pub front : List MarkedPolynomials
-  pub is_front : IsFront is_behind v.1.0 region front
-  pub going : IsGoingPast front o (length (names_given from_basis v.1.1)) region (generators_given from_basis v.1.1) most
+  pub is_front : IsFront ways.after_basis v.1.0 region front
+  pub going : IsGoingPast front o (length (names_in ways v)) region (ideal_in ways v) most
 
 -- the texts are the sources of such a list
-abbrev pub AreTextsPast : (from_basis is_cut is_behind : Bool) → ListOptions → List (List ℕ) → ℕ → Type 0
-AreTextsPast from_basis is_cut is_behind o texts most =
-    (v : ListValue from_basis is_behind) × (reading_list from_basis is_cut is_behind).IsRead texts v × IsListPast from_basis is_cut is_behind o v most
+abbrev pub AreTextsPast : (ways : Ways) → ListOptions → List (List ℕ) → ℕ → Type 0
+AreTextsPast ways o texts most = (v : ListValue ways) × (reading_list ways).IsRead texts v × IsListPast ways o v most
 
 -- ---- the command
 
--- the command `_bases` on these sources
-abbrev pub list_command : (from_basis is_cut is_behind : Bool) → List Origin → ListOptions → Command
-list_command from_basis is_cut is_behind sources o = record {
-  Value = ListValue from_basis is_behind;
+-- the command `_bases`, asked for in these ways, on these sources
+abbrev pub list_command : (ways : Ways) → List Origin → ListOptions → Command
+list_command ways sources o = record {
+  Value = ListValue ways;
   reads = sources;
-  reading = reading_list from_basis is_cut is_behind;
-  checks = checks_list from_basis is_cut is_behind;
-  IsAnswer = IsListAnswer from_basis is_cut is_behind o;
-  IsCause = IsListCause from_basis is_cut is_behind o;
-  IsWithin = IsListWithin from_basis is_cut is_behind o;
-  writing = Writing.as_it_goes (IsListWhole from_basis is_cut is_behind o) (IsListPart from_basis is_cut is_behind o)
-      (IsEarlyCause from_basis is_cut is_behind o);
+  reading = reading_list ways;
+  checks = checks_list ways;
+  IsAnswer = IsListAnswer ways o;
+  IsCause = IsListCause ways o;
+  IsWithin = IsListWithin ways o;
+  writing = Writing.as_it_goes (IsListWhole ways o) (IsListPart ways o) (IsEarlyCause ways o);
 }
+
+-- the command `_bases` with these options
+abbrev pub bases_command : BasesOptions → Command
+bases_command o = list_command (ways_of o) (list_sources o.within o.after) (list_options o)
 
 -- ---- as the list is started
 
 -- why there is no region in which it is started: a vector has another length, or there is no region, or there is one and the names differ; or memory runs out
-abbrev pub IsUnbegun : (is_cut is_behind : Bool) → ℕ → List (List ℤ) → Behind is_behind → List (List ℕ) → Refusal → Type 0
-IsUnbegun is_cut is_behind n rows s names r =
-    ((is_cut ≡ true) × (FirstFails (for_each n rows) r ⊎ IsNoRegion n rows r))
-    ⊎ (((k : Region) × IsRegionCut is_cut n rows k × IsOtherNames is_behind s names r) ⊎ (r ≡ refusals.Memory))
+abbrev pub IsUnbegun : (in_region after_basis : Bool) → ℕ → List (List ℤ) → Behind after_basis → List (List ℕ) → Refusal → Type 0
+IsUnbegun in_region after_basis n rows s names r =
+    ((in_region ≡ true) × (FirstFails (for_each n rows) r ⊎ IsNoRegion n rows r))
+    ⊎ (((k : Region) × IsRegionCut in_region n rows k × IsOtherNames after_basis s names r) ⊎ (r ≡ refusals.Memory))
 
 -- ---- roots with an entry that is too great
 
@@ -260,8 +279,9 @@ IsToldUnlessUnfinished n rows wide r =
 -- if vectors, each with an entry for each variable, cut out a region with an entry of its root that is too great, there is no output, and
 -- the refusal has the first such entry, unless finding the region stops before it
 abbrev pub WideRootsAreTold : Type 0
-WideRootsAreTold = (from_basis is_behind : Bool) (sources : List Origin) (o : ListOptions) (v : ListValue from_basis is_behind) (index : ℕ) (value : ℤ) →
-    AreRows (length (names_given from_basis v.1.1)) v.0 → IsRegionRefusal (length (names_given from_basis v.1.1)) v.0 (region_errors.WideRoot index value) →
-    ((text : List ℕ) → IsAnswerFor (list_command from_basis true is_behind sources o) v text → ⊥)
-    × ((r : Refusal) → IsUnanswered (list_command from_basis true is_behind sources o) v r →
+WideRootsAreTold = (from_basis after_basis : Bool) (sources : List Origin) (o : ListOptions) (v : ListValue (ways_by from_basis true after_basis))
+    (index : ℕ) (value : ℤ) → AreRows (length (names_given from_basis v.1.1)) v.0 →
+    IsRegionRefusal (length (names_given from_basis v.1.1)) v.0 (region_errors.WideRoot index value) →
+    ((text : List ℕ) → IsAnswerFor (list_command (ways_by from_basis true after_basis) sources o) v text → ⊥)
+    × ((r : Refusal) → IsUnanswered (list_command (ways_by from_basis true after_basis) sources o) v r →
     IsToldUnlessUnfinished (length (names_given from_basis v.1.1)) v.0 (refusals.WideRoot index value) r)

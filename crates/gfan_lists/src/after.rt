@@ -10,7 +10,8 @@ ghost use Rattle.gf_tree.specs.Ideals.{ideal_within};
 ghost use Rattle.gf_tree.specs.Refusals.{IsTreeRefusal};
 ghost use Rattle.gfan_common.specs.Causes.{of_tree};
 ghost use Rattle.gfan_common.specs.CheckedSets.{of_check, IsSomeReductionRefusal};
-ghost use Rattle.gfan_lists.specs.BasesWriting.{GoesOnBehind, StartsIn};
+ghost use Rattle.gf_lists_theory.specs.Starts.{StartsIn};
+ghost use Rattle.gfan_lists.specs.BasesWriting.{GoesOnBehind};
 ghost use Rattle.gfan_lists.specs.After.{IsFirstDifference, IsOtherRing, IsBasisTaken, LeaveZero, IsFirstOutside, IsSomeOutside, IsListedBy, IsUnlisted};
 
 use gf_cone::Region;

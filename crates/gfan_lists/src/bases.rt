@@ -3,17 +3,14 @@ ghost use Rattle.std.specs.Prelude.{◌≡◌, ◌≤◌, [], length, List, None
 ghost use Rattle.std.specs.Io.KnownBytes.{Appends};
 ghost use Rattle.gf_poly.specs.Polynomial.{Terms};
 ghost use Rattle.gf_poly.specs.Marking.{MarkedPolynomials};
-ghost use Rattle.gf_facets_theory.specs.Regions.{all_positive};
-ghost use Rattle.gf_reverse_theory.specs.Upward.{IsNodeIn};
-ghost use Rattle.gf_tree.specs.Parents.{ideal_of};
-ghost use Rattle.gf_subtree.specs.Rows.{first_row};
 ghost use Rattle.gf_text.specs.PrintedSets.{basis_text};
 ghost use Rattle.gf_text.specs.Sets.{AreIn};
 ghost use Rattle.gfan_common.specs.Forms.{generators_of};
 ghost use Rattle.gfan_lists.specs.Certificates.{IsItemRefusalIn};
 ghost use Rattle.gfan_lists.specs.Ahead.{IsWorkedOut};
 ghost use Rattle.gfan_lists.specs.BasesWriting.{basis_piece, end_piece, GoesOnBehind, IsListWrittenBehind, IsListStoppedBehind, IsPieceOf, IsBasisWritten};
-ghost use Rattle.gfan_lists.specs.BasesWriting.{IsUnwritten, IsBasisUnwritten, HasRoomFor, IsOneLess, IsFull, IsFirstBasis};
+ghost use Rattle.gf_lists_theory.specs.Starts.{IsFirstBasis};
+ghost use Rattle.gfan_lists.specs.BasesWriting.{IsUnwritten, IsBasisUnwritten, HasRoomFor, IsOneLess, IsFull};
 ghost use Rattle.gfan_lists.specs.Bases.{IsRootRefusal};
 ghost use Rattle.gfan_common.specs.Refused.{IsUnnamed};
 
@@ -210,27 +207,6 @@ pub(crate) fn first_basis(
         Ok(root) => Ok(root),
         Err(error) => Err(Refused::from(error)),
     }
-}
-
-/// The list of a basis and of all below it, for all positive weights, by so many workers.
-///
-/// # Errors
-///
-/// Want of memory.
-pub(crate) fn waves_of<'g, G: Gate>(
-    alloc: Global,
-    root: MarkedSet,
-    workers: u32,
-    pairs: u64,
-    gate: &'g G,
-) -> Result<Waves<'g, G>, AllocError>
-    requires basis { IsNodeIn (ideal_of root) root }
-    requires some { 1 ≤ workers }
-    requires most { workers ≤ 64 }
-    ensures { IfOk result (λ w. w ≡ first_row alloc root (all_positive root.variables) workers pairs) }
-{
-    let region = Region::positive(alloc, root.variables())?;
-    Waves::new(alloc, root, &region, workers, pairs, gate)
 }
 
 /// The piece that ends the list: a closing brace, with the line of the ring and the opening one where no basis was written.

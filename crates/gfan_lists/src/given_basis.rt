@@ -6,7 +6,7 @@ ghost use Rattle.gf_facets_theory.specs.Regions.{all_positive};
 ghost use Rattle.gf_reverse_theory.specs.Upward.{IsNodeIn};
 ghost use Rattle.gf_tree.specs.Parents.{ideal_of, IsRootFor};
 ghost use Rattle.gf_tree.specs.Refusals.{IsWayRefused};
-ghost use Rattle.gfan_lists.specs.BasesWriting.{StartsAt};
+ghost use Rattle.gf_lists_theory.specs.Starts.{StartsAt};
 ghost use Rattle.gfan_lists.specs.GivenBasis.{IsReducedFrom, IsReducingRefusal, IsGivenRootRefusal};
 
 use gf_cone::Region;

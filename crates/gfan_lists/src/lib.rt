@@ -1,14 +1,12 @@
-//! The commands that enumerate the bases of an ideal: `_bases` with its options, which writes them as they are found, and `_generated`,
-//! which sums them up.
+//! The command `_bases`, which enumerates the bases of an ideal, and writes them as they are found.
 //!
-//! `specs/` has the output of each command, and why it is refused.
+//! `specs/` has its output, and why it is refused.
 #![tactic(auto)]
 
 mod after;
 mod ahead;
 pub mod bases;
 mod certificates;
-pub mod generated;
 mod given_basis;
 pub mod list;
 mod within;

@@ -8,27 +8,30 @@ ghost use Rattle.gf_text.specs.declared.error.TextError.{TextError};
 ghost use Rattle.gf_reduced.specs.Markings.{IsMarkedGroebnerBasis};
 ghost use Rattle.gf_items.specs.Checks.{FirstFails};
 ghost use Rattle.gf_items.specs.Refusals.{of_text};
-ghost use Rattle.gf_frame.specs.Loading.{Origin};
+ghost use Rattle.gf_frame.specs.Loading.{Origin, AreLoaded, AreUnloaded, HaveInput, HaveFile};
 ghost use Rattle.gf_frame.specs.Origins.{texts_of};
-ghost use Rattle.gf_frame.specs.Seen.{output_seen};
+ghost use Rattle.gf_frame.specs.Seen.{seen, output_seen};
 ghost use Rattle.gf_frame.specs.Runs.{IsDoneOn, IsStoppedOn};
 ghost use Rattle.gfan_common.specs.Forms.{generators_of};
 ghost use Rattle.gfan_common.specs.Refused.{IsUnnamed, IsOfSource};
 ghost use Rattle.gfan_common.specs.ToolForms.{for_each};
-ghost use Rattle.gfan_lists.specs.BasesWriting.{GoesOnBehind, StartsIn};
+ghost use Rattle.gf_lists_theory.specs.Starts.{StartsIn};
+ghost use Rattle.gfan_lists.specs.BasesWriting.{GoesOnBehind};
 ghost use Rattle.gfan_lists.specs.Within.{IsNoRegion};
 ghost use Rattle.gfan_lists.specs.After.{reading_given, IsBasisGiven, IsUnrooted, IsRegionCut, IsOfCutFile, IsCutFileRefused, IsStartRefused, IsBasisTaken};
-ghost use Rattle.gfan_lists.specs.ListCommand.{AreSameNames, IsFront, list_sources, list_texts, IsUnstarted, list_command, IsUnbegun};
-ghost use Rattle.gfan_lists.specs.Asked.{is_from_basis, given_by, names_asked, generators_asked, IsAskedInRing, behind_by, IsOfBasisFile, IsBasisFileRefused};
-ghost use Rattle.gfan_lists.specs.Asked.{IsFoundInRing};
+ghost use Rattle.gfan_lists.specs.Ways.{ways_by, ways_of, list_options};
+ghost use Rattle.gfan_lists.specs.ListCommand.{AreSameNames, IsFront, list_sources, list_texts, IsUnstarted, list_command, bases_command, IsUnbegun};
+ghost use Rattle.gfan_lists.specs.Asked.{ways_asked, texts_asked, is_from_basis, given_by, names_asked, generators_asked, IsAskedInRing};
+ghost use Rattle.gfan_lists.specs.Asked.{behind_by, IsOfBasisFile, IsBasisFileRefused, IsFoundInRing, ways_read};
 
 use crate::after::{check_listed, check_ring, taken_in, waves_after};
 use crate::bases::{self, ListOptions, write_waves};
 use crate::{given_basis, within};
 use gf_cone::Region;
-use gf_front::Refusal;
+use gf_frame::{LoadFrom, load_all};
+use gf_front::{BasesOptions, Refusal};
 use gf_items::{RingAndMarked, RingAndSet, ring_and_marked, ring_and_set, vectors};
-use gf_outside::Sink;
+use gf_outside::{Files, Sink, Source};
 use gf_poly::{MarkedSet, Poly};
 use gf_subtree::Waves;
 use gf_text::{Ring, Written};
@@ -39,6 +42,63 @@ use gfan_common::refused::Refused;
 use gfan_common::written_sets::polynomials;
 use std::alloc::{AllocError, Global};
 use std::thread::Threads;
+
+// ---- the job
+
+/// The texts of the sources of a list, each read to its end before the next: that of the file of its region, if one is named, that of the file of the
+/// basis that it continues after, if one is named, and then that of the input.
+///
+/// # Errors
+///
+/// - `OpenFault`: a file can't be opened. `ReadFault`: a read fails.
+/// - `InputTooLong`: a source has more than 67,108,864 bytes.
+/// - `Memory`: memory runs out.
+pub fn load<S: Source, F: Files>(
+    alloc: Global,
+    given: &BasesOptions,
+    input: &mut S,
+    files: &mut F,
+) -> Result<Vec<Vec<u8>>, Refusal>
+    ensures loaded { IfOk result (λ texts. AreLoaded (list_sources given.now.within given.now.after)
+        (seen (S.left input.old) (S.given input.old) (S.faults input.old) (F.bytes files.old) (F.left files.old)
+        (F.given files.old) (F.unopened files.old) (F.faults files.old))
+        (seen (S.left input.new) (S.given input.new) (S.faults input.new) (F.bytes files.new) (F.left files.new)
+        (F.given files.new) (F.unopened files.new) (F.faults files.new))
+        (texts_of texts.items)) }
+    ensures unloaded { IfErr result (AreUnloaded (list_sources given.now.within given.now.after)
+        (seen (S.left input.old) (S.given input.old) (S.faults input.old) (F.bytes files.old) (F.left files.old)
+        (F.given files.old) (F.unopened files.old) (F.faults files.old))
+        (seen (S.left input.new) (S.given input.new) (S.faults input.new) (F.bytes files.new) (F.left files.new)
+        (F.given files.new) (F.unopened files.new) (F.faults files.new))) }
+
+    // What the list doesn't read is as before.
+    ensures input_kept { (HaveInput (list_sources given.now.within given.now.after) → ⊥) → input.new ≡ input.old }
+    ensures files_kept { (HaveFile (list_sources given.now.within given.now.after) → ⊥) → files.new ≡ files.old }
+{
+    match &given.within {
+        None => match &given.after {
+            None => load_all(alloc, &[LoadFrom::Input], input, files),
+            Some(basis) => {
+                let two = [LoadFrom::File(basis.as_str()), LoadFrom::Input];
+                load_all(alloc, &two, input, files)
+            }
+        },
+        Some(region) => match &given.after {
+            None => {
+                let two = [LoadFrom::File(region.as_str()), LoadFrom::Input];
+                load_all(alloc, &two, input, files)
+            }
+            Some(basis) => {
+                let three = [
+                    LoadFrom::File(region.as_str()),
+                    LoadFrom::File(basis.as_str()),
+                    LoadFrom::Input,
+                ];
+                load_all(alloc, &three, input, files)
+            }
+        },
+    }
+}
 
 /// What a list is asked for, and the texts that it is read from.
 #[derive(Clone, Copy)]
@@ -57,46 +117,59 @@ pub struct ListJob<'t> {
     pub workers: u32,
 }
 
-impl<'t> ListJob<'t> {
-    /// The job on the texts of its sources: that of the region if it is cut out, that of the basis if the list continues after one, and that of the input.
-    pub fn on(
-        texts: &'t [Vec<u8>],
-        is_cut: bool,
-        is_behind: bool,
-        from_basis: bool,
-        options: ListOptions,
-        workers: u32,
-    ) -> ListJob<'t>
-        requires { (within : Option (List ℕ)) × (after : Option (List ℕ)) × (is_some within ≡ is_cut) × (is_some after ≡ is_behind)
-            × (length texts.now ≡ length (list_sources within after)) }
-        ensures region { is_some (option_copied result.region) ≡ is_cut }
-        ensures after { is_some (option_copied result.after) ≡ is_behind }
-        ensures texts { list_texts (option_copied result.region) (option_copied result.after) result.input.now ≡ texts_of texts.now }
-        ensures from_basis { result.from_basis ≡ from_basis }
-        ensures options { result.options ≡ options }
-        ensures workers { result.workers ≡ workers }
-    {
-        let (region, after, input): (Option<&[u8]>, Option<&[u8]>, &[u8]) = if is_cut {
-            if is_behind {
-                (Some(&texts[0]), Some(&texts[1]), &texts[2])
-            } else {
-                (Some(&texts[0]), None, &texts[1])
-            }
-        } else if is_behind {
-            (None, Some(&texts[0]), &texts[1])
+/// The texts, in the order of their sources, as that of a region, that of a basis and that of the input.
+fn in_order<'t>(
+    texts: &'t [Vec<u8>],
+    in_region: bool,
+    after_basis: bool,
+) -> (Option<&'t [u8]>, Option<&'t [u8]>, &'t [u8])
+    requires { (within : Option (List ℕ)) × (after : Option (List ℕ)) × (is_some within ≡ in_region) × (is_some after ≡ after_basis)
+        × (length texts.now ≡ length (list_sources within after)) }
+    ensures region { is_some (option_copied result.0) ≡ in_region }
+    ensures after { is_some (option_copied result.1) ≡ after_basis }
+    ensures texts { list_texts (option_copied result.0) (option_copied result.1) result.2.now ≡ texts_of texts.now }
+{
+    if in_region {
+        if after_basis {
+            (Some(&texts[0]), Some(&texts[1]), &texts[2])
         } else {
-            (None, None, &texts[0])
+            (Some(&texts[0]), None, &texts[1])
+        }
+    } else if after_basis {
+        (None, Some(&texts[0]), &texts[1])
+    } else {
+        (None, None, &texts[0])
+    }
+}
+
+impl<'t> ListJob<'t> {
+    /// The job that the options request, on the texts of its sources: that of the region, if a file of one is named, that of the basis, if the list
+    /// continues after one, and that of the input.
+    pub fn on(texts: &'t [Vec<u8>], given: &BasesOptions) -> ListJob<'t>
+        requires { length texts.now ≡ length (bases_command given.now).reads }
+        ensures ways { ways_asked result ≡ ways_of given.now }
+        ensures texts { texts_asked result ≡ texts_of texts.now }
+        ensures options { result.options ≡ list_options given.now }
+        ensures workers { result.workers ≡ given.now.workers }
+    {
+        let (region, after, input) = in_order(texts, given.within.is_some(), given.after.is_some());
+        let options = ListOptions {
+            limit: given.limit,
+            pairs: given.pairs,
+            certified: given.certificates,
         };
         ListJob {
             region,
             after,
             input,
-            from_basis,
+            from_basis: given.from_basis,
             options,
-            workers,
+            workers: given.workers,
         }
     }
 }
+
+// ---- what its texts say
 
 /// What the input says.
 #[derive(Drop)]
@@ -140,8 +213,6 @@ impl Asked {
         }
     }
 }
-
-// ---- the texts
 
 /// The vectors of the file of a region; none if no file is named.
 fn rows_of(alloc: Global, file: Option<&[u8]>) -> Result<Vec<IntVec>, Refused>
@@ -194,11 +265,11 @@ fn asked_in(alloc: Global, input: &[u8], from_basis: bool) -> Result<Asked, Refu
 // ---- the region
 
 /// The region that the vectors cut out, or the one of all positive weights.
-fn region_for(alloc: Global, n: u32, rows: &[IntVec], is_cut: bool) -> Result<Region, Refusal>
-    ensures ok { IfOk result (IsRegionCut is_cut n rows.now) }
-    ensures err { IfErr result (λ r. ((is_cut ≡ true) × (FirstFails (for_each n rows.now) r ⊎ IsNoRegion n rows.now r)) ⊎ (r ≡ Refusal.Memory)) }
+fn region_for(alloc: Global, n: u32, rows: &[IntVec], in_region: bool) -> Result<Region, Refusal>
+    ensures ok { IfOk result (IsRegionCut in_region n rows.now) }
+    ensures err { IfErr result (λ r. ((in_region ≡ true) × (FirstFails (for_each n rows.now) r ⊎ IsNoRegion n rows.now r)) ⊎ (r ≡ Refusal.Memory)) }
 {
-    if is_cut {
+    if in_region {
         return within::region_by(alloc, n, rows);
     }
     let region = Region::positive(alloc, n)?;
@@ -211,13 +282,13 @@ fn region_of(
     found: &Option<RingAndMarked>,
     ring: &Ring,
     rows: &[IntVec],
-    is_cut: bool,
+    in_region: bool,
 ) -> Result<Region, Refusal>
-    ensures region { IfOk result (IsRegionCut is_cut (length ring.now) rows.now) }
+    ensures region { IfOk result (IsRegionCut in_region (length ring.now) rows.now) }
     ensures names { IfOk result (λ _. AreSameNames (is_some found.now) (behind_by found.now) ring.now) }
-    ensures err { IfErr result (IsUnbegun is_cut (is_some found.now) (length ring.now) rows.now (behind_by found.now) ring.now) }
+    ensures err { IfErr result (IsUnbegun in_region (is_some found.now) (length ring.now) rows.now (behind_by found.now) ring.now) }
 {
-    let region = region_for(alloc, ring.len(), rows, is_cut)?;
+    let region = region_for(alloc, ring.len(), rows, in_region)?;
     if let Some(found) = found {
         check_ring(&found.ring, ring)?;
     }
@@ -232,15 +303,15 @@ fn root_of_set(
     ring: &Ring,
     set: &[Written],
     region: &Region,
-    is_cut: bool,
+    in_region: bool,
     pairs: u64,
 ) -> Result<MarkedSet, Refusal>
     requires set { AreIn (length ring.now) set.now }
-    requires region { (rows : List (List ℤ)) × IsRegionCut is_cut (length ring.now) rows region.now }
+    requires region { (rows : List (List ℤ)) × IsRegionCut in_region (length ring.now) rows region.now }
     ensures ok { IfOk result (StartsIn (length ring.now) region.now (generators_of set.now)) }
-    ensures err { IfErr result (IsUnrooted false is_cut (ring.now, (set.now, None)) region.now pairs) }
+    ensures err { IfErr result (IsUnrooted false in_region (ring.now, (set.now, None)) region.now pairs) }
 {
-    let root = if is_cut {
+    let root = if in_region {
         within::root_of(alloc, ring, set, region, pairs)
     } else {
         bases::first_basis(alloc, ring, set, pairs)
@@ -256,15 +327,15 @@ fn root_of_basis(
     alloc: Global,
     set: &MarkedSet,
     region: &Region,
-    is_cut: bool,
+    in_region: bool,
     pairs: u64,
 ) -> Result<MarkedSet, Refusal>
-    requires { (rows : List (List ℤ)) × IsRegionCut is_cut set.now.variables rows region.now }
+    requires { (rows : List (List ℤ)) × IsRegionCut in_region set.now.variables rows region.now }
     ensures basis { IfOk result (λ _. IsMarkedGroebnerBasis set.now.variables set.now.items) }
     ensures ok { IfOk result (StartsIn set.now.variables region.now (polys set.now.items)) }
-    ensures err { IfErr result (λ r. (ring : List (List ℕ)) → IsUnrooted true is_cut (ring, set.now) region.now pairs r) }
+    ensures err { IfErr result (λ r. (ring : List (List ℕ)) → IsUnrooted true in_region (ring, set.now) region.now pairs r) }
 {
-    if is_cut {
+    if in_region {
         within::given_root_of(alloc, set, region, pairs)
     } else {
         given_basis::root_of(alloc, set, pairs)
@@ -276,18 +347,18 @@ fn root_of(
     alloc: Global,
     asked: &Asked,
     region: &Region,
-    is_cut: bool,
+    in_region: bool,
     pairs: u64,
 ) -> Result<MarkedSet, Refusal>
     requires inside { IsAskedInRing asked.now }
-    requires region { (rows : List (List ℤ)) × IsRegionCut is_cut (length (names_asked asked.now)) rows region.now }
+    requires region { (rows : List (List ℤ)) × IsRegionCut in_region (length (names_asked asked.now)) rows region.now }
     ensures basis { IfOk result (λ _. IsBasisGiven (is_from_basis asked.now) (given_by asked.now)) }
     ensures ok { IfOk result (StartsIn (length (names_asked asked.now)) region.now (generators_asked asked.now)) }
-    ensures err { IfErr result (IsUnrooted (is_from_basis asked.now) is_cut (given_by asked.now) region.now pairs) }
+    ensures err { IfErr result (IsUnrooted (is_from_basis asked.now) in_region (given_by asked.now) region.now pairs) }
 {
     match asked {
-        Asked::Generators { ring, set } => root_of_set(alloc, ring, set, region, is_cut, pairs),
-        Asked::Basis { set, .. } => root_of_basis(alloc, set, region, is_cut, pairs),
+        Asked::Generators { ring, set } => root_of_set(alloc, ring, set, region, in_region, pairs),
+        Asked::Basis { set, .. } => root_of_basis(alloc, set, region, in_region, pairs),
     }
 }
 
@@ -298,20 +369,20 @@ fn start_first<'g, G: Gate>(
     alloc: Global,
     asked: &Asked,
     region: &Region,
-    is_cut: bool,
+    in_region: bool,
     options: ListOptions,
     workers: u32,
     gate: &'g G,
 ) -> Result<Waves<'g, G>, Refusal>
     requires inside { IsAskedInRing asked.now }
-    requires region { (rows : List (List ℤ)) × IsRegionCut is_cut (length (names_asked asked.now)) rows region.now }
+    requires region { (rows : List (List ℤ)) × IsRegionCut in_region (length (names_asked asked.now)) rows region.now }
     requires some { 1 ≤ workers }
     requires most { workers ≤ 64 }
     ensures basis { IfOk result (λ _. IsBasisGiven (is_from_basis asked.now) (given_by asked.now)) }
     ensures ok { IfOk result (GoesOnBehind [] (length (names_asked asked.now)) region.now (generators_asked asked.now) options.pairs) }
-    ensures err { IfErr result (λ r. IsUnrooted (is_from_basis asked.now) is_cut (given_by asked.now) region.now options.pairs r ⊎ (r ≡ Refusal.Memory)) }
+    ensures err { IfErr result (λ r. IsUnrooted (is_from_basis asked.now) in_region (given_by asked.now) region.now options.pairs r ⊎ (r ≡ Refusal.Memory)) }
 {
-    let root = root_of(alloc, asked, region, is_cut, options.pairs)?;
+    let root = root_of(alloc, asked, region, in_region, options.pairs)?;
     let waves = Waves::new(alloc, root, region, workers, options.pairs, gate)?;
     Ok(waves)
 }
@@ -322,24 +393,25 @@ fn start_after<'g, G: Gate>(
     asked: &Asked,
     marked: &MarkedSet,
     region: &Region,
-    is_cut: bool,
+    in_region: bool,
     options: ListOptions,
     workers: u32,
     gate: &'g G,
 ) -> Result<Waves<'g, G>, Refusal>
     requires inside { IsAskedInRing asked.now }
     requires same { marked.now.variables ≡ length (names_asked asked.now) }
-    requires region { (rows : List (List ℤ)) × IsRegionCut is_cut (length (names_asked asked.now)) rows region.now }
+    requires region { (rows : List (List ℤ)) × IsRegionCut in_region (length (names_asked asked.now)) rows region.now }
     requires some { 1 ≤ workers }
     requires most { workers ≤ 64 }
     ensures basis { IfOk result (λ _. IsBasisGiven (is_from_basis asked.now) (given_by asked.now)) }
     ensures ok { IfOk result (λ waves. (b : MarkedPolynomials) × (front : List MarkedPolynomials) × IsBasisTaken region.now marked.now b
         × GoesOnBehind (front ++ b ∷ []) (length (names_asked asked.now)) region.now (generators_asked asked.now) options.pairs waves) }
-    ensures err { IfErr result (λ r. IsStartRefused (is_from_basis asked.now) is_cut options.pairs region.now (given_by asked.now) marked.now r
+    ensures err { IfErr result (λ r. IsStartRefused (ways_by (is_from_basis asked.now) in_region true) options.pairs region.now (given_by asked.now)
+        marked.now r
         ⊎ (r ≡ Refusal.Memory)) }
 {
     let basis = taken_in(alloc, marked, region)?;
-    let root = root_of(alloc, asked, region, is_cut, options.pairs)?;
+    let root = root_of(alloc, asked, region, in_region, options.pairs)?;
     let generators = asked.polynomials(alloc)?;
     check_listed(alloc, marked, &generators, &root, &basis)?;
     waves_after(alloc, basis, region, workers, options.pairs, gate)
@@ -351,7 +423,7 @@ fn start<'g, G: Gate>(
     asked: &Asked,
     found: &Option<RingAndMarked>,
     region: &Region,
-    is_cut: bool,
+    in_region: bool,
     options: ListOptions,
     workers: u32,
     gate: &'g G,
@@ -359,24 +431,24 @@ fn start<'g, G: Gate>(
     requires inside { IsAskedInRing asked.now }
     requires found { IsFoundInRing found.now }
     requires names { AreSameNames (is_some found.now) (behind_by found.now) (names_asked asked.now) }
-    requires region { (rows : List (List ℤ)) × IsRegionCut is_cut (length (names_asked asked.now)) rows region.now }
+    requires region { (rows : List (List ℤ)) × IsRegionCut in_region (length (names_asked asked.now)) rows region.now }
     requires some { 1 ≤ workers }
     requires most { workers ≤ 64 }
     ensures basis { IfOk result (λ _. IsBasisGiven (is_from_basis asked.now) (given_by asked.now)) }
     ensures ok { IfOk result (λ waves. (front : List MarkedPolynomials) × IsFront (is_some found.now) (behind_by found.now) region.now front
         × GoesOnBehind front (length (names_asked asked.now)) region.now (generators_asked asked.now) options.pairs waves) }
-    ensures err { IfErr result (λ r. IsUnstarted (is_from_basis asked.now) is_cut (is_some found.now) options.pairs region.now (given_by asked.now)
-        (behind_by found.now) r ⊎ (r ≡ Refusal.Memory)) }
+    ensures err { IfErr result (λ r. IsUnstarted (ways_read asked.now in_region found.now) options.pairs region.now (given_by asked.now) (behind_by found.now)
+        r ⊎ (r ≡ Refusal.Memory)) }
 {
     match found {
-        None => start_first(alloc, asked, region, is_cut, options, workers, gate),
+        None => start_first(alloc, asked, region, in_region, options, workers, gate),
         Some(found) => start_after(
-            alloc, asked, &found.set, region, is_cut, options, workers, gate,
+            alloc, asked, &found.set, region, in_region, options, workers, gate,
         ),
     }
 }
 
-// ---- the job
+// ---- all of it
 
 /// Writes the ring of the input in a line, and then marked reduced Gröbner bases of the ideal of its set, each as soon as it is found, in the order of
 /// their paths: the first with the ring, and each other one after a line end, a comma and a line end; last the brace that ends the list. With certificates
@@ -428,27 +500,23 @@ pub fn perform<R: Threads + Sync, K: Sink, G: Gate>(
 ) -> Result<(), Refused>
     requires some { 1 ≤ job.now.workers }
     requires most { job.now.workers ≤ 64 }
-    ensures done { OnOk result ((sources : List Origin) → IsDoneOn (list_command job.now.from_basis (is_some (option_copied job.now.region))
-        (is_some (option_copied job.now.after)) sources job.now.options)
-        (list_texts (option_copied job.now.region) (option_copied job.now.after) job.now.input.now)
+    ensures done { OnOk result ((sources : List Origin) → IsDoneOn (list_command (ways_asked job.now) sources job.now.options) (texts_asked job.now)
         (output_seen (K.held output.old) (K.faults output.old)) (output_seen (K.held output.new) (K.faults output.new))) }
-    ensures stopped { IfErr result (λ e. (sources : List Origin) → IsStoppedOn (list_command job.now.from_basis
-        (is_some (option_copied job.now.region)) (is_some (option_copied job.now.after)) sources job.now.options)
-        (list_texts (option_copied job.now.region) (option_copied job.now.after) job.now.input.now)
-        (output_seen (K.held output.old) (K.faults output.old)) (output_seen (K.held output.new) (K.faults output.new)) e.refusal) }
+    ensures stopped { IfErr result (λ e. (sources : List Origin) → IsStoppedOn (list_command (ways_asked job.now) sources job.now.options)
+        (texts_asked job.now) (output_seen (K.held output.old) (K.faults output.old)) (output_seen (K.held output.new) (K.faults output.new)) e.refusal) }
     ensures told { IfErr result (IsOfSource job.now.input.now) }
 {
-    let is_cut = job.region.is_some();
+    let in_region = job.region.is_some();
     let rows = rows_of(alloc, job.region)?;
     let found = found_in(alloc, job.after)?;
     let asked = asked_in(alloc, job.input, job.from_basis)?;
-    let region = region_of(alloc, &found, asked.ring(), &rows, is_cut)?;
+    let region = region_of(alloc, &found, asked.ring(), &rows, in_region)?;
     let waves = match start(
         alloc,
         &asked,
         &found,
         &region,
-        is_cut,
+        in_region,
         job.options,
         job.workers,
         gate,

@@ -7,7 +7,7 @@ ghost use Rattle.gf_reduced.specs.Markings.{IsMarkedGroebnerBasis};
 ghost use Rattle.gf_weights.specs.Roots.{IsRegionOf};
 ghost use Rattle.gf_items.specs.Checks.{FirstFails};
 ghost use Rattle.gfan_common.specs.Forms.{generators_of};
-ghost use Rattle.gfan_lists.specs.BasesWriting.{StartsIn};
+ghost use Rattle.gf_lists_theory.specs.Starts.{StartsIn};
 ghost use Rattle.gfan_common.specs.Refused.{IsUnnamed};
 ghost use Rattle.gfan_common.specs.ToolForms.{for_each};
 ghost use Rattle.gfan_lists.specs.Within.{of_region, IsNoRegion, IsRegionRootRefusal, IsGivenRegionRootRefusal};

@@ -18,27 +18,29 @@ use Rattle.gfan_common.specs.Forms.{generators_of}
 use Rattle.gfan_lists.specs.After.{IsBasisTaken}
 use Rattle.gfan_lists.proofs.AfterLaws.{taken_once}
 use Rattle.gfan_lists.proofs.PartsLaws.{behind_once}
-use Rattle.gfan.specs.ListSources.{HasPolynomials}
+use Rattle.gfan_theory.specs.ListSources.{HasPolynomials}
+use Rattle.gfan_lists.specs.Ways.{ways_by}
 use Rattle.gfan_lists.specs.After.{names_given, generators_given, reading_given, IsRegionCut}
 use Rattle.gfan_lists.specs.ListCommand.{AreSameNames, IsFront, ListValue, reading_list}
 use Rattle.gfan_lists.proofs.AfterLaws.{cut_region}
 use Rattle.gfan_lists.proofs.ListCommandLaws.{said_inside}
-use Rattle.gfan.proofs.OneTextLaws.{said_polynomials}
+use Rattle.gfan_theory.proofs.ListSourceLaws.{said_polynomials}
 use Rattle.gfan_theory.specs.Answers.{NamedFile, name_of, bytes_of, Request, texts_of, IsSaid, IsRegionSaid, AreBasesBefore, AnswersAreLists}
 
 -- ---- any way
 
 -- what the texts say: the input; the region; and the bases before the list
-pub record AreTextsSaid (from_basis : Bool) (within after : Option NamedFile) (input : List ℕ) (v : ListValue from_basis (is_some (name_of after))) :
-    Type 0 where
+pub record AreTextsSaid (from_basis : Bool) (within after : Option NamedFile) (input : List ℕ)
+    (v : ListValue (ways_by from_basis (is_some (name_of within)) (is_some (name_of after)))) : Type 0 where
   pub read : (reading_given from_basis).IsRead (input ∷ []) v.1.1
   pub region : (k : Region) → IsRegionCut (is_some (name_of within)) (length (names_given from_basis v.1.1)) v.0 k →
       IsRegionSaid within (length (names_given from_basis v.1.1)) k
   pub before : (k : Region) (front : List MarkedPolynomials) → AreSameNames (is_some (name_of after)) v.1.0 (names_given from_basis v.1.1) →
       IsFront (is_some (name_of after)) v.1.0 k front → AreBasesBefore after (names_given from_basis v.1.1) k front
 
-texts_said : (from_basis : Bool) (within after : Option NamedFile) (input : List ℕ) (v : ListValue from_basis (is_some (name_of after))) →
-    (reading_list from_basis (is_some (name_of within)) (is_some (name_of after))).IsRead (texts_of within after input) v →
+texts_said : (from_basis : Bool) (within after : Option NamedFile) (input : List ℕ)
+    (v : ListValue (ways_by from_basis (is_some (name_of within)) (is_some (name_of after)))) →
+    (reading_list (ways_by from_basis (is_some (name_of within)) (is_some (name_of after)))).IsRead (texts_of within after input) v →
     AreTextsSaid from_basis within after input v
 texts_said from_basis None None input v r = record { read = r.1; region = λ k i. i; before = λ k front e t. t }
 texts_said from_basis (Some file) None input v r = record { read = r.1; region = λ k i. (v.0, r.0, i); before = λ k front e t. t }
@@ -68,8 +70,8 @@ texts_said from_basis (Some file) (Some basis) input v r = record {
 }
 
 -- the ring and the polynomials of the input, the region, and the bases before the list, of an answer or of its beginning
-pub is_said : (q : Request) (input : List ℕ) (v : ListValue q.from_basis (is_some (name_of q.after))) →
-    (reading_list q.from_basis (is_some (name_of q.within)) (is_some (name_of q.after))).IsRead (texts_of q.within q.after input) v →
+pub is_said : (q : Request) (input : List ℕ) (v : ListValue (ways_by q.from_basis (is_some (name_of q.within)) (is_some (name_of q.after)))) →
+    (reading_list (ways_by q.from_basis (is_some (name_of q.within)) (is_some (name_of q.after)))).IsRead (texts_of q.within q.after input) v →
     (k : Region) (front : List MarkedPolynomials) →
     IsRegionCut (is_some (name_of q.within)) (length (names_given q.from_basis v.1.1)) v.0 k →
     AreSameNames (is_some (name_of q.after)) v.1.0 (names_given q.from_basis v.1.1) → IsFront (is_some (name_of q.after)) v.1.0 k front →

@@ -17,11 +17,11 @@ use Rattle.gf_weights.specs.Weights.{IsWeightIn, AreWitnessedIn, normals_of}
 use Rattle.gf_weights.proofs.UniqueLaws.{normal_there}
 use Rattle.gf_weights.proofs.WeightLaws.{weight_basis_in, witness_inside}
 use Rattle.gf_reverse_search.specs.Listing.{Among}
-use Rattle.gfan_lists.specs.BasesList.{IsGivenIn}
+use Rattle.gf_lists_theory.specs.BasesList.{IsGivenIn}
 use Rattle.gfan_lists.specs.Certificates.{IsCertificatesTextIn, IsItemTextIn}
 use Rattle.gfan_lists.specs.Bases.{AreItemTextsIn}
-use Rattle.gfan_lists.proofs.BasesListLaws.{given_in_node, among_right}
-use Rattle.gfan.specs.CertifiedBases.{HasCertificatesIn}
+use Rattle.gf_lists_theory.proofs.BasesListLaws.{given_in_node, among_right}
+use Rattle.gfan_theory.specs.CertifiedBases.{HasCertificatesIn}
 use Rattle.gfan_theory.specs.Answers.{IsListAnswer}
 use Rattle.gfan_theory.specs.Certified.{AnswersAreCertified}
 use Rattle.gfan_theory.proofs.AnswerLaws.{answers_are_lists}

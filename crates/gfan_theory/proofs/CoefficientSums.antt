@@ -1,5 +1,5 @@
 -- The sum of the coefficients of a polynomial, its value where each variable is 1. Where it is 0 of each generator it is 0 of each polynomial of the ideal.
--- To cite: sum_of, sum_of_member, sum_of_binomial, sum_of_monomial. The rest are steps.
+-- To cite: sum_of, sum_same, sum_of_member, sum_of_binomial, sum_of_monomial. The rest are steps.
 use Rattle.std.proofs.Common.{◌≡◌, ◌⊎◌, ℕ, Bool, true, false, if◌then◌else◌, List, [], ◌∷◌, ◌++◌, Contains, Some, refl, sym, ap, ◌∙◌, inl, inr}
 use Rattle.gf_frac.specs.Fraction.{Fraction, ◌+ℚ◌, ◌*ℚ◌, neg_ℚ, zero_ℚ, one_ℚ}
 use Rattle.gf_frac.proofs.FractionLaws.{*ℚ-+ℚ, *ℚ-zero, +ℚ-zero, zero-+ℚ, +ℚ-neg_ℚ, zero_or_not}
@@ -20,7 +20,7 @@ one_for x = []
 abbrev pub sum_of : Terms → Fraction
 sum_of f = coefficient (mapped one_for f) []
 
-sum_same : (f g : Terms) → SamePolynomial f g → sum_of f ≡ sum_of g
+pub sum_same : (f g : Terms) → SamePolynomial f g → sum_of f ≡ sum_of g
 sum_same f g h = mapped_same one_for (λ x y s. refl) f g h []
 
 sum-++ : (f g : Terms) → sum_of (f ++ g) ≡ sum_of f +ℚ sum_of g

@@ -25,9 +25,10 @@ use Rattle.gf_items.specs.Refusals.{IsOfTest}
 use Rattle.gfan_common.specs.Causes.{of_basis, of_tree}
 use Rattle.gfan_common.specs.CheckedSets.{of_check, IsSomeReductionRefusal}
 use Rattle.gfan_lists.specs.declared.bases.ListOptions.{ListOptions}
-use Rattle.gfan_lists.specs.BasesList.{IsGivenIn}
+use Rattle.gfan_lists.specs.Ways.{ways_by}
+use Rattle.gf_lists_theory.specs.BasesList.{IsGivenIn}
 use Rattle.gfan_lists.specs.Bases.{IsWithinLimit}
-use Rattle.gfan_lists.specs.BasesWriting.{StartsIn}
+use Rattle.gf_lists_theory.specs.Starts.{StartsIn}
 use Rattle.gfan_lists.specs.Within.{IsGivenRegionRootRefusal}
 use Rattle.gfan_lists.specs.After.{Given, names_given, generators_given, IsUnrooted, IsBasisTaken, IsUnlisted}
 use Rattle.gfan_lists.specs.GivenBasis.{IsGivenRootRefusal}
@@ -128,7 +129,7 @@ module _ (from_basis is_cut : Bool) (o : ListOptions) (k : Region) (v : Given fr
   listed c root r a f (IsUnlisted.in_generators x h e) =
       e ∙ ap (λ z. of_check (of_poly z)) (reduced_memory c.items fs x (members c (node c a)) (two c (node c a)) d.binomials d.forms.linear h)
 
-  after : (rows : List (List ℤ)) → IsWithinIn from_basis is_cut true o k (rows, ((names_given from_basis v, s), v))
+  after : (rows : List (List ℤ)) → IsWithinIn (ways_by from_basis is_cut true) o k (rows, ((names_given from_basis v, s), v))
   after rows = record {
     start = record {
       weight = t.weight;
@@ -148,7 +149,7 @@ pub continuations : ContinuationsStayWithinLimits
 continuations from_basis o v s b unlimited some small i room q l t j = record {
   region = λ c. absurd (let no : false ≡ true = c in cc);
   names = refl;
-  list = λ k e. subst (λ (z : Region). IsWithinIn from_basis false true o z ([], ((names_given from_basis v, s), v))) (sym e)
+  list = λ k e. subst (λ (z : Region). IsWithinIn (ways_by from_basis false true) o z ([], ((names_given from_basis v, s), v))) (sym e)
       (after from_basis false o (all_positive (length (names_given from_basis v))) v s b unlimited small (input_differences from_basis v i) room q l
       (λ row c. absurd (none_in row c)) t j (λ r h. root_everywhere from_basis o v r unlimited some small i room h)
       (λ c x g. certified (length (names_given from_basis v)) (generators_given from_basis v) x some small (input_differences from_basis v i) g) []);

@@ -22,11 +22,11 @@ use Rattle.gf_binomials_theory.proofs.PrincipalBases.{alone_in, basis_forms, bas
 use Rattle.gf_binomial_calls_theory.proofs.LimitLaws.{ruled_within}
 use Rattle.gf_binomial_calls_theory.proofs.SystemLimits.{small_search}
 use Rattle.gfan_lists.specs.declared.bases.ListOptions.{ListOptions}
-use Rattle.gfan_lists.specs.BasesList.{IsGivenIn}
+use Rattle.gf_lists_theory.specs.BasesList.{IsGivenIn}
 use Rattle.gfan_lists.specs.Bases.{IsWithinLimit}
 use Rattle.gfan_theory.specs.Inputs.{AreListsWithin, AreRegionListsWithin}
 use Rattle.gfan_theory.proofs.InputLaws.{GoingLimits, lists_within, regions_within}
-use Rattle.gfan_lists.proofs.BasesListLaws.{given_in_node}
+use Rattle.gf_lists_theory.proofs.BasesListLaws.{given_in_node}
 use Rattle.gfan_theory.specs.Differences.{AreDifferenceRows}
 use Rattle.gfan_theory.specs.Everyday.{RegionsOfBinomialsStayWithinLimits, IsDifferenceOfVariables, CertificatesOfVariablesStayWithinLimits}
 use Rattle.gfan_theory.proofs.DifferenceLimits.{rows_small, regions_of_differences_fit, certificates_of_differences_fit}

@@ -33,7 +33,7 @@ use Rattle.gfan_lists.specs.GivenBasis.{IsReducedFrom}
 use Rattle.gfan_lists.specs.ListCommand.{IsReducedWithin}
 use Rattle.gfan_theory.specs.Inputs.{AreGivenRegionListsWithin}
 use Rattle.gfan_theory.proofs.InputLaws.{GivenListLimits, given_lists_within, given_regions_within}
-use Rattle.gfan_lists.proofs.BasesListLaws.{given_node}
+use Rattle.gf_lists_theory.proofs.BasesListLaws.{given_node}
 use Rattle.gfan_theory.specs.Differences.{AreDifferenceRows}
 use Rattle.gfan_theory.specs.Linear.{AreLinearDifferences, IsLinearSet}
 use Rattle.gfan_theory.specs.Continued.{IsLinearBasis, GivenListsStayWithinLimits}

@@ -16,7 +16,8 @@ use Rattle.gf_tree.proofs.RefusalLaws.{within_memory}
 use Rattle.gf_weights.specs.Roots.{IsRegionOf, IsRegionWithinLimits}
 use Rattle.gfan_common.specs.Forms.{generators_of}
 use Rattle.gfan_lists.specs.declared.bases.ListOptions.{ListOptions}
-use Rattle.gfan_lists.specs.BasesList.{AreAllBasesIn}
+use Rattle.gfan_lists.specs.Ways.{ways_by}
+use Rattle.gf_lists_theory.specs.BasesList.{AreAllBasesIn}
 use Rattle.gfan_lists.specs.Bases.{IsWithinLimit, AreCertifiedWithinIn}
 use Rattle.gfan_lists.specs.GivenBasis.{IsReducedFrom}
 use Rattle.gfan_lists.specs.ListCommand.{IsReducedWithin, IsWithinIn, IsListWithin}
@@ -48,11 +49,11 @@ pub lists_within : (o : ListOptions) (n : ℕ) (fs : List Terms) → ListLimits 
 lists_within o n fs l ring ws q e =
     at (subst (λ (m : ℕ). ListLimits o m (generators_of ws)) (sym q) (subst (λ (gs : List Terms). ListLimits o n gs) (sym e) l))
   where
-    at : ListLimits o (length ring) (generators_of ws) → IsListWithin false false false o ([], (tt, (ring, (ws, None))))
+    at : ListLimits o (length ring) (generators_of ws) → IsListWithin (ways_by false false false) o ([], (tt, (ring, (ws, None))))
     at m = record {
       region = λ c. absurd (let no : false ≡ true = c in cc);
       names = tt;
-      list = λ k i. subst (λ (z : Region). IsWithinIn false false false o z ([], (tt, (ring, (ws, None))))) (sym i) (record {
+      list = λ k i. subst (λ (z : Region). IsWithinIn (ways_by false false false) o z ([], (tt, (ring, (ws, None))))) (sym i) (record {
         start = m.root;
         tree = m.going.tree;
         few = none_first o (length ring) (all_positive (length ring)) (generators_of ws) m.going;
@@ -64,7 +65,7 @@ pub regions_within : (o : ListOptions) (n : ℕ) (rows : List (List ℤ)) (fs : 
 regions_within o n rows fs l ring ws q e =
     at (subst (λ (m : ℕ). RegionLimits o m rows (generators_of ws)) (sym q) (subst (λ (gs : List Terms). RegionLimits o n rows gs) (sym e) l))
   where
-    at : RegionLimits o (length ring) rows (generators_of ws) → IsListWithin false true false o (rows, (tt, (ring, (ws, None))))
+    at : RegionLimits o (length ring) rows (generators_of ws) → IsListWithin (ways_by false true false) o (rows, (tt, (ring, (ws, None))))
     at m = record {
       region = λ c. m.region;
       names = tt;
@@ -96,11 +97,11 @@ pub record GivenRegionLimits (o : ListOptions) (n : ℕ) (rows : List (List ℤ)
 pub given_lists_within : (o : ListOptions) (n : ℕ) (s : MarkedPolynomials) → GivenListLimits o n s → AreGivenListsWithin o n s
 given_lists_within o n s l ring q = at (subst (λ (m : ℕ). GivenListLimits o m s) (sym q) l)
   where
-    at : GivenListLimits o (length ring) s → IsListWithin true false false o ([], (tt, (ring, s)))
+    at : GivenListLimits o (length ring) s → IsListWithin (ways_by true false false) o ([], (tt, (ring, s)))
     at m = record {
       region = λ c. absurd (let no : false ≡ true = c in cc);
       names = tt;
-      list = λ k i. subst (λ (z : Region). IsWithinIn true false false o z ([], (tt, (ring, s)))) (sym i) (record {
+      list = λ k i. subst (λ (z : Region). IsWithinIn (ways_by true false false) o z ([], (tt, (ring, s)))) (sym i) (record {
         start = (
           m.reduced,
           λ u e f w. within_memory (ideal_by (length ring) (polys s.items)) o.pairs e m.going.tree
@@ -116,7 +117,7 @@ pub given_regions_within : (o : ListOptions) (n : ℕ) (rows : List (List ℤ)) 
     AreGivenRegionListsWithin o n rows s
 given_regions_within o n rows s l ring q = at (subst (λ (m : ℕ). GivenRegionLimits o m rows s) (sym q) l)
   where
-    at : GivenRegionLimits o (length ring) rows s → IsListWithin true true false o (rows, (tt, (ring, s)))
+    at : GivenRegionLimits o (length ring) rows s → IsListWithin (ways_by true true false) o (rows, (tt, (ring, s)))
     at m = record {
       region = λ c. m.region;
       names = tt;

@@ -17,12 +17,12 @@ use Rattle.gf_front.specs.declared.refusal.Refusal.{Refusal}
 use Rattle.gf_items.specs.Items.{IsTextOf}
 use Rattle.gf_items.specs.Sources.{ring_marked_set}
 use Rattle.gfan_lists.specs.declared.bases.ListOptions.{ListOptions}
-use Rattle.gfan_lists.specs.BasesList.{IsGivenIn}
+use Rattle.gf_lists_theory.specs.BasesList.{IsGivenIn}
 use Rattle.gfan_lists.specs.Bases.{later_item_text, items_text, list_text, begun_text, AreItemTextsIn, IsTextBehind, IsBegunListBehind, IsBegunWhereBehind}
 use Rattle.gfan_lists.specs.After.{IsBasisTaken}
-use Rattle.gfan_lists.proofs.BasesListLaws.{among_left, among_right}
+use Rattle.gf_lists_theory.proofs.BasesListLaws.{among_left, among_right}
 use Rattle.gfan_lists.proofs.PartsLaws.{parts_are_joined}
-use Rattle.gfan.specs.ListSources.{HasPolynomials}
+use Rattle.gfan_theory.specs.ListSources.{HasPolynomials}
 use Rattle.gfan_theory.specs.Answers.{NamedFile, Request, IsBasesAnswer, AreBasesBefore, IsSaid}
 use Rattle.gfan_theory.specs.Joined.{IsCutAnswer, basis_file, continued, without_limit, between, IsJoined, RunsAreJoined}
 use Rattle.gfan_theory.proofs.AnswerLaws.{is_said, region_once, basis_once}

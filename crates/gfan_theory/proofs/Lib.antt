@@ -1,3 +1,7 @@
+pub mod CertifiedListLaws  -- what the certificates of a list show
+pub mod ListSourceLaws  -- what `_bases` writes for a source is one text
+pub mod ServedListLaws  -- what the answer of `_bases` has
+pub mod GivingWeightsLaws  -- the weights that `_weightvector` writes give the bases that it read
 pub mod AnswerLaws  -- each answer is the text of a list, and what is read determines it
 pub mod OneTextLaws  -- two answers for one ideal are one text
 pub mod ServedLaws  -- the list of an answer serves each weight of its region
@@ -32,10 +36,14 @@ pub mod FewVectors  -- there are few vectors with small entries
 pub mod SmallFans  -- sums that are written of fans with small rows
 pub mod ConeRowLaws  -- the rows of a cone: no more, and no larger, than what is given
 pub mod ToldLimits  -- descriptions of cones with few small rows
+pub mod FlatCones  -- cones of one equation, with certificates
 pub mod Arrangements  -- marked sets have arrangements
 pub mod LinearCones  -- cones of bases of variables and differences of variables
 pub mod LinearFans  -- fans of their cones
 pub mod PlaneFiles  -- fan files of the plane
 pub mod TropicalLimits  -- tropical fans of polynomials with few terms
+pub mod VectorRoom  -- vectors brought along others, and null spaces
+pub mod RepeatedRows  -- systems with any number of rows, which are few up to sign
+pub mod BasisTestLimits  -- tests for a tropical basis
 pub mod HomogenizationLimits  -- homogenizations
 pub mod DimensionLaws  -- the dimension of a cone by its implied equations, and by its rays

@@ -68,8 +68,8 @@ use Rattle.gf_buchberger.specs.Pairs.{pairs_below}
 use Rattle.gf_weights.specs.Refusals.{AreCertificatesFittingIn}
 use Rattle.gf_duality_theory.proofs.ListLaws.{none_in}
 use Rattle.gfan_lists.specs.declared.bases.ListOptions.{ListOptions}
-use Rattle.gfan_lists.specs.BasesList.{IsGivenIn}
-use Rattle.gfan_lists.proofs.BasesListLaws.{given_in_node}
+use Rattle.gf_lists_theory.specs.BasesList.{IsGivenIn}
+use Rattle.gf_lists_theory.proofs.BasesListLaws.{given_in_node}
 use Rattle.gfan_lists.specs.Bases.{IsWithinLimit}
 use Rattle.gfan_theory.specs.Inputs.{AreListsWithin, AreRegionListsWithin}
 use Rattle.gfan_theory.proofs.InputLaws.{lists_within, regions_within}

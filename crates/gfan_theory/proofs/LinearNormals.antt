@@ -1,5 +1,5 @@
 -- The normals of a reduced basis of an ideal that differences of variables generate are differences of two entries, and in four variables there are at most
--- three. To cite: few_in_three, one_at_most, linear_normals. The rest are steps.
+-- three. To cite: variable_at, IsLinearNormal, normal_at, few_in_three, one_at_most, linear_normals. The rest are steps.
 use Rattle.std.proofs.Common.{◌≡◌, ◌≢◌, ◌⊎◌, ℕ, ◌<◌, ◌≤◌, true, false, List, [], ◌∷◌, length, get_or, Some, None, Option, ℤ, pos}
 use Rattle.std.proofs.Common.{◌-ℤ◌, Contains, arith, sym, ap, ap₂, ◌∙◌, subst, inl, inr}
 use Rattle.std.proofs.lemmas.Bool.{cases_lt}
@@ -39,7 +39,7 @@ use Rattle.gfan_theory.proofs.LinearBases.{region_members}
 
 -- ---- variables
 
-variable_at : (x : Exponents) → degree x ≡ 1 → IsVariable (place_of x) x
+pub variable_at : (x : Exponents) → degree x ≡ 1 → IsVariable (place_of x) x
 variable_at x d = record {
   one = (let p = place_there x d in let q = entry_low x (place_of x) in omega (arith, p, q, d));
   others = λ k n. alone x (place_of x) k d (place_there x d) n;
@@ -114,7 +114,7 @@ module _ (n : ℕ) (fs : List Terms) (k : Region) (bs : List MarkedPolynomial) (
   at_degree : (a : List ℤ) (r : IsLinearNormal a) → degree r.at ≡ 1
   at_degree a r = members.within r.member r.contained r.at r.there
 
-  normal_at : (a : List ℤ) → IsNormal bs a → IsLinearNormal a
+  pub normal_at : (a : List ℤ) → IsNormal bs a → IsLinearNormal a
   normal_at a h = record {
     member = r.member;
     contained = r.contained;

@@ -9,11 +9,11 @@ use Rattle.gf_poly.specs.Marking.{MarkedPolynomial, MarkedPolynomials}
 use Rattle.gf_ideal_theory.specs.Membership.{AreSameIdeal}
 use Rattle.gf_ideal_theory.specs.Bases.{IsHeaviest, IsGreatest, IsReducedBy}
 use Rattle.gf_facets_theory.specs.Regions.{Region}
-use Rattle.gfan_lists.specs.BasesList.{IsGivenIn, AreAllBasesIn}
+use Rattle.gf_lists_theory.specs.BasesList.{IsGivenIn, AreAllBasesIn}
 use Rattle.gfan_lists.specs.Bases.{AreItemTextsIn, IsTextBehind, list_text}
-use Rattle.gfan_lists.proofs.OneListLaws.{one_list_in}
+use Rattle.gf_lists_theory.proofs.OneListLaws.{one_list_in}
 use Rattle.gfan_lists.proofs.CertificateLaws.{items_one}
-use Rattle.gfan.specs.ListSources.{HasPolynomials}
+use Rattle.gfan_theory.specs.ListSources.{HasPolynomials}
 use Rattle.gfan_theory.specs.Answers.{Request, IsBasesAnswer, IsSaid, IsListAnswer}
 use Rattle.gfan_theory.specs.OneText.{ReadTheSame, AllTextsAreOne, OneIdealHasOneText}
 use Rattle.gfan_theory.proofs.AnswerLaws.{answers_are_lists, says_once, region_once, rest_once}

@@ -1,6 +1,6 @@
 -- The rays of a cone in at most four variables, of at most three rows that compare two entries and then the unit vectors, are found within all limits:
 -- the vectors that are reached are bounded row by row.
--- To cite: AreMeasured, sizes_of, no_rays_step. The rest are steps.
+-- To cite: vector_in, of_vector, of_pruned, AreMeasured, sizes_of, no_rays_step. The rest are steps.
 use Rattle.std.proofs.Common.{
   ◌≡◌,
   ◌≢◌,
@@ -101,21 +101,21 @@ use Rattle.gfan_theory.specs.Differences.{IsDifferenceRow, AreDifferenceRows}
 
 -- ---- rays and their vectors
 
-vector_in : (rays : List Ray) (r : Ray) → Contains rays r → Contains (vectors_of rays) r.vector
+pub vector_in : (rays : List Ray) (r : Ray) → Contains rays r → Contains (vectors_of rays) r.vector
 vector_in [] r c = absurd (none_in r c)
 vector_in (s ∷ rays) r c = elim (in_cons s rays r c) [
   | inl e ↦ subst (λ (t : Ray). Contains (s.vector ∷ vectors_of rays) t.vector) (sym e) (Contains-here s.vector (vectors_of rays))
   | inr d ↦ in_tail s.vector (vectors_of rays) r.vector (vector_in rays r d)
 ]
 
-of_vector : (rays : List Ray) (v : List ℤ) → Contains (vectors_of rays) v → (r : Ray) × (Contains rays r × (v ≡ r.vector))
+pub of_vector : (rays : List Ray) (v : List ℤ) → Contains (vectors_of rays) v → (r : Ray) × (Contains rays r × (v ≡ r.vector))
 of_vector [] v c = absurd (none_in v c)
 of_vector (s ∷ rays) v c = elim (in_cons s.vector (vectors_of rays) v c) [
   | inl e ↦ (s, (Contains-here s rays, e))
   | inr d ↦ let t = of_vector rays v d in (t.0, (in_tail s rays t.0 t.1.0, t.1.1))
 ]
 
-of_pruned : (rays out : List Ray) (r : Ray) → IsPruned rays out → Contains out r → Contains rays r
+pub of_pruned : (rays out : List Ray) (r : Ray) → IsPruned rays out → Contains out r → Contains rays r
 of_pruned rays out r (marked.done rs) c = c
 of_pruned rays out r (marked.taken rs mid left i p hi g e) c = of_pruned rs mid r p (of_rest mid i r hi (subst (λ (l : List Ray). Contains l r) e c))
 

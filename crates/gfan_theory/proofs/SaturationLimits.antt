@@ -1,6 +1,6 @@
 -- What `_saturation` may do stays within its limits for differences of variables: no variable divides 0 modulo their ideal, so saturating adds nothing, and
 -- each set on the way generates it by linear polynomials.
--- To cite: saturations_of_variables. The rest are steps.
+-- To cite: IsGood, linear_of, saturations_of_good, saturations_of_variables. The rest are steps.
 use Rattle.std.proofs.Common.{
   ◌≡◌,
   ◌⊎◌,
@@ -55,6 +55,7 @@ use Rattle.gf_ideal_theory.proofs.UniquenessLaws.{apart_same}
 use Rattle.gf_buchberger.specs.declared.queue.Strategy.TheVariants as strategies
 use Rattle.gf_buchberger.specs.Bases.{IsArrangedBasis}
 use Rattle.gf_buchberger.specs.Jobs.{HaveRingVariables}
+use Rattle.gf_buchberger.specs.Pairs.{pairs_below}
 use Rattle.gf_buchberger.proofs.JobLaws.{ring_variables}
 use Rattle.gf_facets_theory.specs.MarkedBases.{IsMarkedReducedBasis}
 use Rattle.gf_bases_theory.proofs.GradedBasisLaws.{IsOfOneClass, basis-graded}
@@ -64,15 +65,15 @@ use Rattle.gf_saturation_theory.proofs.SaturationLaws.{extended_variables}
 use Rattle.gf_saturation_theory.proofs.EliminationLaws.{deglex_basis}
 use Rattle.gf_saturation_theory.proofs.LawsHold.{saturations_are_eliminations}
 use Rattle.gf_saturate.specs.Widening.{widened_term, rabinowitsch_terms, left_over, variable_at}
-use Rattle.gf_saturate.specs.Saturating.{AddsNothing, step_order, step_list, IsOnTheWay}
+use Rattle.gf_saturate.specs.Saturating.{AddsNothing, step_order, step_list, IsOnTheWay, AreStepsWithinLimits}
 use Rattle.gf_saturate.proofs.WideningLaws.{length-variable}
 use Rattle.gf_saturate.proofs.StepLaws.{extended, left_over-are, to_eliminate, reduced_of}
 use Rattle.gf_saturate.proofs.SparedLaws.{adds_nothing}
 use Rattle.gf_saturate.proofs.StageLaws.{step_generates, by_no_power, ring_on_the_way, way_ring}
 use Rattle.gf_binomials_theory.specs.Binomials.{AreBinomials}
 use Rattle.gf_binomial_calls_theory.proofs.SaturationLaws.{step_inside, way_on}
-use Rattle.gfan_theory.specs.Everyday.{IsDifferenceOfVariables, SaturationsOfVariablesStayWithinLimits}
-use Rattle.gfan_theory.specs.Linear.{IsLinear, AreLinearForms}
+use Rattle.gfan_theory.specs.Everyday.{IsDifferenceOfVariables, AreDifferencesOfVariables, SaturationsOfVariablesStayWithinLimits}
+use Rattle.gfan_theory.specs.Linear.{IsLinear, AreLinearForms, AreLinearDifferences}
 use Rattle.gfan_theory.proofs.CoefficientSums.{sum_of, sum_of_member, sum_of_binomial, sum_of_monomial}
 use Rattle.gfan_theory.proofs.LinearRuns.{same_or_not, alone, place_of, place_there, same_places, none_degree, AreLinearMembers, pairs_mono, linear_ruled_runs}
 use Rattle.gfan_theory.proofs.LinearBases.{linear_members}
@@ -120,9 +121,9 @@ others_none (suc n) (suc k) (a ∷ x) z =
 
 -- ---- linear generators whose coefficients have the sum 0
 
-record IsGood (n : ℕ) (gs : List Terms) : Type 0 where
-  forms : AreLinearForms n gs
-  sums : (g : Terms) → Contains gs g → sum_of g ≡ zero_ℚ
+pub record IsGood (n : ℕ) (gs : List Terms) : Type 0 where
+  pub forms : AreLinearForms n gs
+  pub sums : (g : Terms) → Contains gs g → sum_of g ≡ zero_ℚ
 
 -- a reduced basis for a weight before lex
 module _ (n : ℕ) (gs : List Terms) (w : List ℕ) (g : IsGood n gs) where
@@ -368,8 +369,17 @@ difference_linear n f d x m = at (either n f d x m)
     at (inl s) = degree-same x d.left s ∙ variable_degree d.first d.left d.is_left.one d.is_left.others
     at (inr s) = degree-same x d.right s ∙ variable_degree d.second d.right d.is_right.one d.is_right.others
 
-pub saturations_of_variables : SaturationsOfVariablesStayWithinLimits
-saturations_of_variables n fs budget v ds room = record {
+pub linear_of : (n : ℕ) (fs : List Terms) → HaveRingVariables n fs → AreDifferencesOfVariables n fs → AreLinearDifferences n fs
+linear_of n fs v ds = record {
+  forms = record { variables = ring_variables n fs v; linear = λ f c. difference_linear n f (ds f c) };
+  binomials = λ f c. let d = ds f c in record { first = Some d.left; second = Some d.right; binomial = d.binomial };
+}
+
+-- ---- the sets on the way, from such generators
+
+pub saturations_of_good : (n : ℕ) (fs : List Terms) (budget : ℕ) → HaveRingVariables n fs → IsGood n fs → AreBinomials fs → pairs_below (n + 1) ≤ budget →
+    AreStepsWithinLimits n fs budget
+saturations_of_good n fs budget v good two room = record {
   steps = λ k hs l w. run_stays_within strategies.Degree n k hs l (ring_on_the_way n fs k hs (omega (arith, l)) v w)
       (way_good n fs k hs (omega (arith, l)) v good w).forms budget
       (step_inside n k hs l (way_on n fs k hs (omega (arith, l)) (ring_variables n fs v) two w)).binomials room;
@@ -380,12 +390,9 @@ saturations_of_variables n fs budget v ds room = record {
       })
       (let p = pairs_mono n (n + 1) (omega arith) in omega (arith, p, room));
 }
-  where
-    good : IsGood n fs
-    good = record {
-      forms = record { variables = ring_variables n fs v; linear = λ f c. difference_linear n f (ds f c) };
-      sums = λ f c. let d = ds f c in sum_of_binomial d.left d.right f d.binomial;
-    }
 
-    two : AreBinomials fs
-    two f c = let d = ds f c in record { first = Some d.left; second = Some d.right; binomial = d.binomial }
+pub saturations_of_variables : SaturationsOfVariablesStayWithinLimits
+saturations_of_variables n fs budget v ds room = saturations_of_good n fs budget v (record {
+  forms = (linear_of n fs v ds).forms;
+  sums = λ f c. let d = ds f c in sum_of_binomial d.left d.right f d.binomial;
+}) (linear_of n fs v ds).binomials room

@@ -5,8 +5,8 @@ use Rattle.gf_poly.specs.Polynomial.{Terms}
 use Rattle.gf_poly.specs.Marking.{MarkedPolynomials}
 use Rattle.gf_ideal_theory.specs.Membership.{AreInVariables}
 use Rattle.gf_facets_theory.specs.Regions.{Region, IsRegion}
-use Rattle.gfan_lists.specs.BasesList.{AreAllBasesIn}
-use Rattle.gfan_lists.proofs.BasesListLaws.{regions_are_served}
+use Rattle.gf_lists_theory.specs.BasesList.{AreAllBasesIn}
+use Rattle.gf_lists_theory.proofs.BasesListLaws.{regions_are_served}
 use Rattle.gfan_theory.specs.Answers.{IsListAnswer}
 use Rattle.gfan_theory.specs.Served.{ServesRegion, AnswersServe}
 use Rattle.gfan_theory.proofs.AnswerLaws.{answers_are_lists}

@@ -36,9 +36,9 @@ use Rattle.gf_front.specs.declared.refusal.Refusal.TheVariants as refusals
 use Rattle.gf_generated.specs.Generated.{number_after, rest_by_three, in_order, difference, generated_set}
 use Rattle.gf_generated.proofs.GeneratedLaws.{generators_are_binomials}
 use Rattle.gfan_common.specs.Causes.{of_basis, of_tree, of_weight_error}
-use Rattle.gfan_lists.specs.BasesList.{IsGivenIn}
-use Rattle.gfan_lists.proofs.BasesListLaws.{among_left, among_right, given_in_node}
-use Rattle.gfan_lists.specs.Generated.{IsSumRefused, IsSummaryCause}
+use Rattle.gf_lists_theory.specs.BasesList.{IsGivenIn}
+use Rattle.gf_lists_theory.proofs.BasesListLaws.{among_left, among_right, given_in_node}
+use Rattle.gfan_generated.specs.Generated.{IsSumRefused, IsSummaryCause}
 use Rattle.gfan_theory.specs.Linear.{IsLinear, AreLinearDifferences}
 use Rattle.gfan_theory.specs.Summaries.{HasNoRests, SummariesStayWithinLimits}
 use Rattle.gfan_theory.proofs.BinaryRays.{no_wide_sums}

@@ -1,6 +1,6 @@
 -- The description of a cone with few small rows stays within all limits: in sections, and as a fan; with certificates if some vector makes each row positive.
--- To cite: bounded_by, finding_fits, sections_fit, fan_fits, certified_fit, cones_of_few_rows_fit, up_to_two, up_to_three, up_to_four, few_rows_have_room. The
--- rest are steps.
+-- To cite: bounded_by, finding_fits, sections_fit, fan_fits, certified_fit, told_sections, told_fan, told_certified, up_to_two, up_to_three, up_to_four,
+-- few_rows_have_room. The rest are steps.
 use Rattle.std.proofs.Common.{◌≡◌, ℕ, zero, suc, ◌+◌, ◌*◌, ◌≤◌, Bool, true, false, List, [], ◌∷◌, ◌++◌, length, get_or, ℤ, pos, ◌<ℤ◌, ◌≤ℤ◌}
 use Rattle.std.proofs.Common.{unsigned_abs, arith, refl, sym, ap, subst, inl, inr, All, Contains, Err}
 use Rattle.std.specs.Prelude.{not}
@@ -48,7 +48,7 @@ use Rattle.gf_front.specs.declared.options.GroebnerConeOptions.{GroebnerConeOpti
 use Rattle.gfan_fans.specs.FanTexts.{IsFanOfConesWithin}
 use Rattle.gfan_fans.specs.ToPolyhedralFan.{inequalities_of}
 use Rattle.gfan_fans.specs.ToldCones.{IsConeFanWithin, IsToldWithin, IsTellingWithin}
-use Rattle.gfan_theory.specs.SmallCones.{HasRoomUpTo, AreFewRows, ConesOfFewRowsFit, FewRowsHaveRoom}
+use Rattle.gfan_theory.specs.SmallCones.{HasRoomUpTo, AreFewRows, FewRowsHaveRoom}
 use Rattle.gfan_theory.proofs.ConeRowLaws.{AreBounded, IsBounded, given_long, given_bounded, rows_bounded, rows_positive, rows_few, cut_bounded, small_system}
 use Rattle.gfan_theory.proofs.FewVectors.{boxes, few_vectors, no_wide_total}
 use Rattle.gfan_theory.proofs.SmallRays.{rays_up}
@@ -222,12 +222,12 @@ module _ (o : GroebnerConeOptions) (n b : ℕ) (hs es : List (List ℤ)) (are : 
   of_equations : AreBounded n b es
   of_equations = bounded_by n b es are.equations_width are.equations
 
-  told_sections : o.as_fan ≡ false → o.certificates ≡ false → IsTellingWithin o n hs es
+  pub told_sections : o.as_fan ≡ false → o.certificates ≡ false → IsTellingWithin o n hs es
   told_sections p q = subst (λ (f : Bool). IsToldWithin f o.certificates n (inequalities_of o.restricted n hs) es) (sym p)
       (subst (λ (c : Bool). IsConeWithinLimits n c (inequalities_of o.restricted n hs) es) (sym q)
       (sections_fit n b (inequalities_of o.restricted n hs) es are.some are.low of_inequalities of_equations are.room))
 
-  told_fan : o.as_fan ≡ true → IsTellingWithin o n hs es
+  pub told_fan : o.as_fan ≡ true → IsTellingWithin o n hs es
   told_fan p = subst (λ (f : Bool). IsToldWithin f o.certificates n (inequalities_of o.restricted n hs) es) (sym p)
       (fan_fits n b (inequalities_of o.restricted n hs) es are.some are.few are.low are.high of_inequalities of_equations are.room)
 
@@ -246,15 +246,8 @@ module _ (o : GroebnerConeOptions) (n b : ℕ) (hs : List (List ℤ)) (w : List 
       are.room of)
       certified e c
 
-  told_certified : o.as_fan ≡ false → IsTellingWithin o n hs []
+  pub told_certified : o.as_fan ≡ false → IsTellingWithin o n hs []
   told_certified p = subst (λ (f : Bool). IsToldWithin f o.certificates n (inequalities_of o.restricted n hs) []) (sym p) (certified_sections o.certificates)
-
-pub cones_of_few_rows_fit : ConesOfFewRowsFit
-cones_of_few_rows_fit = record {
-  sections = λ o n b hs es p q are. told_sections o n b hs es are p q;
-  fans = λ o n b hs es p are. told_fan o n b hs es are p;
-  certified = λ o n b hs w p are lw inside. told_certified o n b hs w are lw inside p;
-}
 
 -- ---- bounds
 

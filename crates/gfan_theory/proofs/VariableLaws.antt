@@ -145,14 +145,14 @@ module _ (n : ℕ) (f : Terms) (d : IsDifferenceOfVariables n f) where
 along : (i : ℕ) (x y : Exponents) → same x y ≡ true → IsVariable i y → IsVariable i x
 along i x y s v = record { one = entries_same x y s i ∙ v.one; others = λ k n. entries_same x y s k ∙ v.others k n }
 
-none_weight : (v : List ℤ) (x : Exponents) → ((k : ℕ) → entry x k ≡ 0) → whole_weight v x ≡ pos 0
+pub none_weight : (v : List ℤ) (x : Exponents) → ((k : ℕ) → entry x k ≡ 0) → whole_weight v x ≡ pos 0
 none_weight [] x z = refl
 none_weight (w ∷ v) [] z = refl
 none_weight (w ∷ v) (a ∷ x) z =
     let p : a ≡ 0 = z 0 in
     ap (λ (b : ℕ). w *ℤ pos b +ℤ whole_weight v x) p ∙ ap (λ (y : ℤ). w *ℤ pos 0 +ℤ y) (none_weight v x (λ k. z (suc k))) ∙ omega (arith, ints)
 
-variable_weight : (v : List ℤ) (x : Exponents) (i : ℕ) → IsVariable i x → whole_weight v x ≡ get_or v i (pos 0)
+pub variable_weight : (v : List ℤ) (x : Exponents) (i : ℕ) → IsVariable i x → whole_weight v x ≡ get_or v i (pos 0)
 variable_weight [] x i h = refl
 variable_weight (w ∷ v) [] i h = absurd (let p = h.one in omega (arith, p))
 variable_weight (w ∷ v) (a ∷ x) zero h =

@@ -13,7 +13,7 @@ use Rattle.gf_frame.specs.Commands.{IsAnswered}
 use Rattle.gfan_lists.specs.declared.bases.ListOptions.{ListOptions}
 use Rattle.gfan_lists.specs.Bases.{IsTextBehind}
 use Rattle.gfan_lists.specs.After.{IsBasisTaken}
-use Rattle.gfan.specs.ListSources.{HasPolynomials}
+use Rattle.gfan_theory.specs.ListSources.{HasPolynomials}
 use Rattle.gfan.specs.Commands.{command_of}
 
 -- ---- jobs

@@ -5,9 +5,9 @@ use Rattle.std.specs.List.{AllZip}
 use Rattle.gf_poly.specs.Polynomial.{Terms}
 use Rattle.gf_poly.specs.Marking.{MarkedPolynomials}
 use Rattle.gf_facets_theory.specs.Regions.{Region}
-use Rattle.gfan_lists.specs.BasesList.{AreAllBasesIn}
+use Rattle.gf_lists_theory.specs.BasesList.{AreAllBasesIn}
 use Rattle.gfan_lists.specs.Bases.{list_text}
-use Rattle.gfan.specs.CertifiedBases.{HasCertificatesIn}
+use Rattle.gfan_theory.specs.CertifiedBases.{HasCertificatesIn}
 use Rattle.gfan_theory.specs.Answers.{Request, IsSaid, IsBasesAnswer}
 
 -- the text is that of the bases of the ideal in the region that the input and the files say, but for those before it, each with the weight and the

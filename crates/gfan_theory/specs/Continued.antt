@@ -11,6 +11,7 @@ use Rattle.gf_tree.specs.Ideals.{ideal_by, ideal_within}
 use Rattle.gf_weights.specs.Roots.{IsRegionOf}
 use Rattle.gfan_common.specs.Forms.{generators_of}
 use Rattle.gfan_lists.specs.declared.bases.ListOptions.{ListOptions}
+use Rattle.gfan_lists.specs.Ways.{ways_by}
 use Rattle.gfan_lists.specs.After.{Given, names_given, generators_given, IsBasisTaken}
 use Rattle.gfan_lists.specs.ListCommand.{IsListWithin}
 use Rattle.gfan_theory.specs.Inputs.{AreGivenListsWithin, AreGivenRegionListsWithin}
@@ -47,7 +48,7 @@ ContinuationsStayWithinLimits = (from_basis : Bool) (o : ListOptions) (v : Given
     pairs_below (length (names_given from_basis v)) ≤ o.pairs → s.variables ≡ length (names_given from_basis v) → IsLinearSet s →
     IsBasisTaken (all_positive (length (names_given from_basis v))) s b →
     IsNodeIn (ideal_by (length (names_given from_basis v)) (generators_given from_basis v)) b →
-    IsListWithin from_basis false true o ([], ((names_given from_basis v, s), v))
+    IsListWithin (ways_by from_basis false true) o ([], ((names_given from_basis v, s), v))
 
 -- So it is with `--within`, with `-g` or without, in the region of at most three rows that are differences of two entries and without certificates, where the
 -- set stands for one of the bases in the region.
@@ -59,4 +60,4 @@ ContinuationsWithinStayWithinLimits = (from_basis : Bool) (o : ListOptions) (row
     IsLinearInput from_basis v → pairs_below (length (names_given from_basis v)) ≤ o.pairs → s.variables ≡ length (names_given from_basis v) → IsLinearSet s →
     ((k : Region) → IsRegionOf (length (names_given from_basis v)) rows k →
     IsBasisTaken k s b × IsNodeIn (ideal_within (length (names_given from_basis v)) (generators_given from_basis v) k) b) →
-    IsListWithin from_basis true true o (rows, ((names_given from_basis v, s), v))
+    IsListWithin (ways_by from_basis true true) o (rows, ((names_given from_basis v, s), v))

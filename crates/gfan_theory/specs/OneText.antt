@@ -2,7 +2,7 @@
 use Rattle.std.specs.Prelude.{◌≡◌, ℕ, List, length}
 use Rattle.gf_poly.specs.Polynomial.{Terms}
 use Rattle.gf_ideal_theory.specs.Membership.{AreSameIdeal}
-use Rattle.gfan.specs.ListSources.{HasPolynomials}
+use Rattle.gfan_theory.specs.ListSources.{HasPolynomials}
 use Rattle.gfan_theory.specs.Answers.{Request, bytes_of, IsBasesAnswer}
 
 -- two requests read files with the same bytes, or none in the same places, and both ask for certificates or neither does

@@ -9,7 +9,7 @@ use Rattle.gf_reverse_search.specs.Listing.{Among}
 use Rattle.gf_facets_theory.specs.Regions.{Region, IsInRegion}
 use Rattle.gf_facets_theory.specs.Facets.{IsInClosedCone}
 use Rattle.gf_facets_theory.specs.InitialIdeals.{IsMonomialAt}
-use Rattle.gfan_lists.specs.BasesList.{IsGivenIn}
+use Rattle.gf_lists_theory.specs.BasesList.{IsGivenIn}
 use Rattle.gfan_theory.specs.Answers.{Request, IsBasesAnswer, IsListAnswer}
 
 -- a basis is in the list if and only if some weight of the region gives it; for each weight of the region for which monomials generate the initial ideal,

@@ -35,12 +35,14 @@ pub record AreFewRows (o : GroebnerConeOptions) (n b : ℕ) (hs es : List (List 
   pub equations : HaveEntriesUpTo b es
   pub room : HasRoomUpTo n b (row_count o n hs es)
 
--- The cone of such rows is described in sections without certificates, and as a fan, also in the non-negative orthant; and of inequalities that some vector
--- makes positive in sections with certificates. So the premise of completeness of `_groebnercone --vectorinput` is met.
+-- The cone of such rows is described in sections without certificates, and as a fan, also in the non-negative orthant; and of one equation alone, or of
+-- inequalities that some vector makes positive, in sections with certificates. So the premise of completeness of `_groebnercone --vectorinput` is met.
 pub record ConesOfFewRowsFit : Type 0 where
   pub sections : (o : GroebnerConeOptions) (n b : ℕ) (hs es : List (List ℤ)) → o.as_fan ≡ false → o.certificates ≡ false → AreFewRows o n b hs es →
       IsTellingWithin o n hs es
   pub fans : (o : GroebnerConeOptions) (n b : ℕ) (hs es : List (List ℤ)) → o.as_fan ≡ true → AreFewRows o n b hs es → IsTellingWithin o n hs es
+  pub flat : (o : GroebnerConeOptions) (n b : ℕ) (es : List (List ℤ)) → o.as_fan ≡ false → o.restricted ≡ false → length es ≤ 1 → AreFewRows o n b [] es →
+      IsTellingWithin o n [] es
   pub certified : (o : GroebnerConeOptions) (n b : ℕ) (hs : List (List ℤ)) (w : List ℤ) → o.as_fan ≡ false → AreFewRows o n b hs [] → length w ≡ n →
       ((t : List ℤ) → Contains (inequalities_of o.restricted n hs) t → pos 0 <ℤ dot t w) → IsTellingWithin o n hs []
 

@@ -2,7 +2,7 @@
 use Rattle.std.specs.Prelude.{◌≡◌, ℕ, ◌≤◌}
 use Rattle.gf_buchberger.specs.Pairs.{pairs_below}
 use Rattle.gf_generated.specs.Generated.{rest_by_three}
-use Rattle.gfan_lists.specs.Generated.{summary_command}
+use Rattle.gfan_generated.specs.Generated.{summary_command}
 
 -- the rests of the twelve numbers that follow this one are 0: the generators are a - b, b - c and c - d
 abbrev pub HasNoRests : ℕ → Type 0

@@ -22,8 +22,11 @@ ghost use Rattle.gfan_theory.specs.SmallCones.{ConesOfFewRowsFit, FewRowsHaveRoo
 ghost use Rattle.gfan_theory.specs.LinearFans.{FansOfLinearSetsFit};
 ghost use Rattle.gfan_theory.specs.PlaneFans.{MigrationsOfPlaneFansFit, RefinementsOfPlaneFansFit};
 ghost use Rattle.gfan_theory.specs.TropicalFans.{TropicalFansFit};
+ghost use Rattle.gfan_theory.specs.BasisTests.{BasisTestsOfDifferencesStayWithinLimits};
 ghost use Rattle.gfan_theory.specs.Dimensions.{DimensionsAgree};
 ghost use Rattle.gfan_theory.specs.Homogenizations.{HomogenizationsFit};
+
+pub mod laws;
 
 use gf_tropical::small_polynomials_stay_within_limits;
 
@@ -177,6 +180,13 @@ pub fn plane_fans_fit()
 /// few terms and small exponents, as three terms in three variables with exponents up to 2.
 pub fn tropical_fans_fit()
     ensures { TropicalFansFit }
+{
+    small_polynomials_stay_within_limits();
+}
+
+/// The premise of completeness of `_tropicalintersection --basistest` is met by differences of variables, such as `a-b, b-c`, in at most three variables.
+pub fn basis_tests_of_differences_stay_within_limits()
+    ensures { BasisTestsOfDifferencesStayWithinLimits }
 {
     small_polynomials_stay_within_limits();
 }

@@ -1,4 +1,5 @@
-use Rattle.gfan_theory.proofs.ToldLimits.{cones_of_few_rows_fit, few_rows_have_room}
+use Rattle.gfan_theory.proofs.FlatCones.{cones_of_few_rows_fit}
+use Rattle.gfan_theory.proofs.ToldLimits.{few_rows_have_room}
 use Rattle.gfan_theory.proofs.cones_of_few_rows_fit.Goals as goal
 
 pub returns-clause-cones : goal.returns-clause-cones

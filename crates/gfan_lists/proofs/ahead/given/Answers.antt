@@ -1,4 +1,4 @@
-use Rattle.std.proofs.Common.{◌≡◌, None, refl, subst}
+use Rattle.std.proofs.Common.{None, refl, subst}
 use Rattle.gf_subtree.specs.Answers.{IsNextRow, IsRowAnswer}
 use Rattle.gfan_lists.specs.declared.ahead.Taken.{Taken}
 use Rattle.gfan_lists.proofs.AheadLaws.{one_ahead}

@@ -1,7 +1,5 @@
-use Rattle.std.proofs.Common.{[], ◌∷◌, ◌≡◌, refl, sym, subst}
+use Rattle.std.proofs.Common.{[], ◌∷◌, refl, sym, subst}
 use Rattle.std.proofs.lemmas.Result.{err_from_is_err_and}
-use Rattle.gf_text.specs.declared.error.TextError.{TextError}
-use Rattle.gf_items.specs.Refusals.{of_text}
 use Rattle.gfan_lists.specs.After.{reading_given}
 use Rattle.gfan_lists.proofs.list.asked_in.Goals as goal
 

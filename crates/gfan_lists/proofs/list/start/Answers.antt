@@ -6,7 +6,7 @@ use Rattle.gf_front.specs.declared.refusal.Refusal.TheVariants as refusals
 use Rattle.gf_items.specs.declared.sources.RingAndMarked.{RingAndMarked}
 use Rattle.gfan_lists.specs.BasesWriting.{GoesOnBehind}
 use Rattle.gfan_lists.specs.ListCommand.{AreSameNames, IsFront, IsUnstarted}
-use Rattle.gfan_lists.specs.Asked.{is_from_basis, given_by, names_asked, generators_asked, behind_by, IsFoundInRing}
+use Rattle.gfan_lists.specs.Asked.{given_by, names_asked, generators_asked, behind_by, IsFoundInRing, ways_read}
 use Rattle.gfan_lists.proofs.list.start.Goals as goal
 
 pub returns-in-Some-clause-ok : goal.returns-in-Some-clause-ok
@@ -20,7 +20,7 @@ returns-in-Some-clause-ok g c =
 
 pub returns-in-Some-clause-err : goal.returns-in-Some-clause-err
 returns-in-Some-clause-err g c =
-    subst (λ (f : Option RingAndMarked). IfErr c.start_after.result (λ r. IsUnstarted (is_from_basis c.args.asked.now) c.args.is_cut (is_some f)
+    subst (λ (f : Option RingAndMarked). IfErr c.start_after.result (λ r. IsUnstarted (ways_read c.args.asked.now c.args.in_region f)
     c.args.options.pairs c.args.region.now (given_by c.args.asked.now) (behind_by f) r ⊎ (r ≡ refusals.Memory))) (sym c.in-Some.is) c.start_after.ensures.err
 
 pub start_after-requires-clause-same : goal.start_after-requires-clause-same

@@ -10,7 +10,7 @@ use Rattle.gfan_lists.proofs.list.start_after.Goals as goal
 
 pub taken_in-requires : goal.taken_in-requires
 taken_in-requires g c =
-    (cut_region c.args.is_cut (length (names_asked c.args.asked.now)) c.requires.region.0 c.args.region.now c.requires.region.1).root.width ∙
+    (cut_region c.args.in_region (length (names_asked c.args.asked.now)) c.requires.region.0 c.args.region.now c.requires.region.1).root.width ∙
     sym c.requires.same
 
 pub returns-in_err-basis-clause-err : goal.returns-in_err-basis-clause-err

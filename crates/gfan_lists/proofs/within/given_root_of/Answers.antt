@@ -5,7 +5,7 @@ use Rattle.gf_exponents_theory.specs.SixOrders.{MonomialOrder}
 use Rattle.gf_poly.specs.Polynomial.{Terms}
 use Rattle.gf_poly.specs.Marking.{polys}
 use Rattle.gf_reduced.specs.declared.error.CheckError.TheVariants as check_errors
-use Rattle.gfan_lists.specs.BasesWriting.{StartsIn}
+use Rattle.gf_lists_theory.specs.Starts.{StartsIn}
 use Rattle.gfan_lists.specs.GivenBasis.{IsReducingRefusal}
 use Rattle.gfan_lists.specs.Within.{IsGivenRegionRootRefusal}
 use Rattle.gfan_lists.proofs.FirstLaws.{first_told}

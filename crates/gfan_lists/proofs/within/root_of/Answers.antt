@@ -4,7 +4,7 @@ use Rattle.gf_exponents_theory.specs.Orders.{gains}
 use Rattle.gf_exponents_theory.specs.SixOrders.{MonomialOrder}
 use Rattle.gf_buchberger.specs.Jobs.{HaveRingVariables}
 use Rattle.gfan_common.specs.Forms.{generators_of}
-use Rattle.gfan_lists.specs.BasesWriting.{StartsIn}
+use Rattle.gf_lists_theory.specs.Starts.{StartsIn}
 use Rattle.gfan_common.proofs.WrittenSetLaws.{in_ring}
 use Rattle.gfan_lists.proofs.FirstLaws.{first_told, first_memory}
 use Rattle.gfan_lists.proofs.WithinLaws.{root_in_starts}

@@ -3,7 +3,6 @@ use Rattle.std.proofs.lemmas.Result.{IfOk-weaker}
 use Rattle.gf_poly.specs.Polynomial.{Terms, HasVariables}
 use Rattle.gfan_common.specs.Forms.{generators_of}
 use Rattle.gfan_lists.specs.declared.list.Asked.{Asked}
-use Rattle.gfan_lists.specs.declared.list.Asked.TheVariants as asks
 use Rattle.gfan_lists.specs.Asked.{names_asked, generators_asked, IsAskedInRing}
 use Rattle.gfan_lists.proofs.AfterLaws.{generators_have}
 use Rattle.gfan_lists.proofs.list.Asked.polynomials.Goals as goal

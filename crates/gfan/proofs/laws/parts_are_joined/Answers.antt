@@ -1,5 +1,0 @@
-use Rattle.gfan_lists.proofs.PartsLaws.{parts_are_joined}
-use Rattle.gfan.proofs.laws.parts_are_joined.Goals as goal
-
-pub returns : goal.returns
-returns c = parts_are_joined

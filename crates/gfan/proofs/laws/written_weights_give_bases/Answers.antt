@@ -1,5 +1,0 @@
-use Rattle.gfan.proofs.GivingWeightsLaws.{written_weights_give_bases}
-use Rattle.gfan.proofs.laws.written_weights_give_bases.Goals as goal
-
-pub returns : goal.returns
-returns c = written_weights_give_bases

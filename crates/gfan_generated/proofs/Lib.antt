@@ -1,0 +1,1 @@
+pub mod SummaryLaws  -- how a list is summed up

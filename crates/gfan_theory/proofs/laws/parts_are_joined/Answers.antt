@@ -1,0 +1,5 @@
+use Rattle.gfan_lists.proofs.PartsLaws.{parts_are_joined}
+use Rattle.gfan_theory.proofs.laws.parts_are_joined.Goals as goal
+
+pub returns : goal.returns
+returns c = parts_are_joined
