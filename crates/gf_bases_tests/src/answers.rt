@@ -69,11 +69,11 @@ fn of_term(alloc: Global, asked: &str, term: &Term) -> Option<String> {
 /// `exponents 0 1`, of the second of these.
 fn part(alloc: Global, basis: &MarkedSet, words: &str) -> Option<String> {
     let words: Vec<&str> = words.split_whitespace().collect(alloc).ok()?;
-    let [asked, places @ ..] = words.as_slice() else {
+    let [asked, indices @ ..] = words.as_slice() else {
         return None;
     };
     let members = basis.items();
-    match (*asked, places) {
+    match (*asked, indices) {
         ("members", []) => texts::text(alloc, members.len()),
         ("terms", [i]) => {
             let member = members.get(i.parse::<usize>().ok()?)?;

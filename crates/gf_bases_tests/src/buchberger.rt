@@ -2,7 +2,7 @@
 ghost use Rattle.std.specs.Prelude.{◌<◌, ◌^◌, length, IfOk, IfErr};
 ghost use Rattle.gf_order.specs.Comparisons.{HasEntries};
 ghost use Rattle.gf_buchberger.specs.Homogeneity.{IsFirstInhomogeneous};
-ghost use Rattle.gf_buchberger.specs.Jobs.{HaveOneDegree, HaveRingVariables, IsSuited};
+ghost use Rattle.gf_buchberger.specs.Tasks.{HaveOneDegree, HaveRingVariables, IsSuited};
 
 use crate::answers::outcome;
 use crate::orders::order;
@@ -104,10 +104,10 @@ pub(crate) fn homogeneity_told(alloc: Global, fields: &[&str]) -> Option<String>
     match of_one_degree(&set) {
         Ok(()) => texts::text(alloc, "homogeneous"),
         Err(refusal) => {
-            let place = refusal.polynomial;
+            let index = refusal.polynomial;
             let first = texts::numbers(alloc, refusal.first.exponents())?;
             let second = texts::numbers(alloc, refusal.second.exponents())?;
-            format!(in alloc; "{place}: {first} {second}").ok()
+            format!(in alloc; "{index}: {first} {second}").ok()
         }
     }
 }

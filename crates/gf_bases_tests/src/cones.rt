@@ -15,23 +15,23 @@ use gf_vec::IntVec;
 use std::alloc::Global;
 
 /// `Cone::facet`. No proof above it cites what its answers show, so that a weaker clause would be seen nowhere but here.
-fn facet_of(cone: &Cone, place: usize) -> Result<FacetAnswer, GordanError>
-    requires place { place < length cone.now.normals }
+fn facet_of(cone: &Cone, index: usize) -> Result<FacetAnswer, GordanError>
+    requires index { index < length cone.now.normals }
     requires interior { HasInterior cone.now }
-    ensures ok { IfOk result (AnswersFacet cone.now place) }
-    ensures told { IfOk result (IsFacetAnswered cone.now place) }
+    ensures ok { IfOk result (AnswersFacet cone.now index) }
+    ensures told { IfOk result (IsFacetAnswered cone.now index) }
 {
-    cone.facet(place)
+    cone.facet(index)
 }
 
 /// `Cone::flippable` among all positive vectors.
-fn flip_of(alloc: Global, cone: &Cone, place: usize) -> Result<FlipAnswer, GordanError>
-    requires place { place < length cone.now.normals }
+fn flip_of(alloc: Global, cone: &Cone, index: usize) -> Result<FlipAnswer, GordanError>
+    requires index { index < length cone.now.normals }
     requires beside { cone.now.beside ≡ units cone.now.variables cone.now.variables }
     requires interior { HasInterior cone.now }
 {
     let region = Region::positive(alloc, cone.variables())?;
-    cone.flippable(place, &region)
+    cone.flippable(index, &region)
 }
 
 /// So many times a normal, by these multipliers of others.
@@ -40,20 +40,20 @@ fn combination(alloc: Global, times: i128, multipliers: &IntVec) -> Option<Strin
     format!(in alloc; "{times} by {multipliers}").ok()
 }
 
-/// Whether the normal at a place is one of a facet, or one that a flip may cross.
-fn at_place(alloc: Global, call: &str, cone: &Cone, place: usize) -> Option<String>
-    requires place { place < length cone.now.normals }
+/// Whether the normal at an index is one of a facet, or one that a flip may cross.
+fn at_index(alloc: Global, call: &str, cone: &Cone, index: usize) -> Option<String>
+    requires index { index < length cone.now.normals }
     requires beside { cone.now.beside ≡ units cone.now.variables cone.now.variables }
     requires interior { HasInterior cone.now }
 {
     match call {
-        "facet" => match facet_of(cone, place).ok()? {
+        "facet" => match facet_of(cone, index).ok()? {
             FacetAnswer::Facet { witness: _ } => texts::text(alloc, "yes"),
             FacetAnswer::Redundant { times, multipliers } => {
                 combination(alloc, times, &multipliers)
             }
         },
-        "flip" => match flip_of(alloc, cone, place).ok()? {
+        "flip" => match flip_of(alloc, cone, index).ok()? {
             FlipAnswer::Yes { witness: _ } => texts::text(alloc, "yes"),
             FlipAnswer::No { times, multipliers } => combination(alloc, times, &multipliers),
         },
@@ -71,15 +71,15 @@ fn has_way(alloc: Global, known: &mut KnownCone, call: &str) -> Option<bool> {
     }
 }
 
-/// Whether a flip may cross the facet of the normal at a place, or whether a vector is known that shows so. By `crossing` nothing is learned.
-fn is_crossed(known: &mut KnownCone, call: &str, place: usize) -> Option<bool> {
-    if place >= known.normals().len() {
+/// Whether a flip may cross the facet of the normal at an index, or whether a vector is known that shows so. By `crossing` nothing is learned.
+fn is_crossed(known: &mut KnownCone, call: &str, index: usize) -> Option<bool> {
+    if index >= known.normals().len() {
         return None;
     }
     match call {
-        "crossing" => Some(known.crossing(place).ok()?.is_some()),
-        "flippable" => known.is_flippable(place).ok(),
-        "witness" => Some(known.witness(place).is_some()),
+        "crossing" => Some(known.crossing(index).ok()?.is_some()),
+        "flippable" => known.is_flippable(index).ok(),
+        "witness" => Some(known.witness(index).is_some()),
         _ => None,
     }
 }
@@ -90,7 +90,7 @@ fn remembered(alloc: Global, cone: Cone, inner: IntVec, asked: &str) -> Option<S
     let mut text = String::new(alloc);
     for words in asked.split("; ") {
         let holds = match words.split_once(' ') {
-            Some((call, place)) => is_crossed(&mut known, call, place.parse().ok()?)?,
+            Some((call, index)) => is_crossed(&mut known, call, index.parse().ok()?)?,
             None => has_way(alloc, &mut known, words)?,
         };
         add(&mut text, if holds { "yes" } else { "no" })?;
@@ -121,12 +121,12 @@ fn with_inner(
     }
     match (call, fields) {
         ("remembered", [asked]) => remembered(alloc, cone, inner, asked),
-        (call, [place]) => {
-            let place = place.parse::<usize>().ok()?;
-            if place >= cone.normals().len() {
+        (call, [index]) => {
+            let index = index.parse::<usize>().ok()?;
+            if index >= cone.normals().len() {
                 return None;
             }
-            at_place(alloc, call, &cone, place)
+            at_index(alloc, call, &cone, index)
         }
         _ => None,
     }

@@ -10,28 +10,28 @@ use gf_poly::{MarkedSet, Poly, PolyError};
 use gf_rows::texts;
 use std::alloc::Global;
 
-/// The basis across the facet of the normal at a place, if there is one and a flip may cross it.
+/// The basis across the facet of the normal at an index, if there is one and a flip may cross it.
 fn across(
     alloc: Global,
     list: &[Poly],
     set: &MarkedSet,
-    place: usize,
+    index: usize,
 ) -> Result<Option<MarkedSet>, PolyError>
     requires { IsReachedByFlips list.now set.now }
     ensures { IfOk result (λ o. IfSome o (IsReachedByFlips list.now)) }
 {
     let cone = Cone::of(alloc, set)?;
     let mut known = KnownCone::new(alloc, cone, None)?;
-    if place >= known.normals().len() {
+    if index >= known.normals().len() {
         return Ok(None);
     }
-    match known.is_flippable(place) {
+    match known.is_flippable(index) {
         Ok(true) => {}
         Ok(false) => return Ok(None),
         Err(_) => return Err(PolyError::Memory),
     }
     let normals = known.normals();
-    let normal = &normals[place];
+    let normal = &normals[index];
     match flip(alloc, set, normal, 1000) {
         Ok(next) => Ok(Some(next)),
         Err(_) => Err(PolyError::Memory),
@@ -77,8 +77,8 @@ fn visit(alloc: Global, list: &[Poly], set: &MarkedSet, depth: u32, found: &mut 
     }
     let from = found.number(texts::set(alloc, set)?)?;
     let facets = Cone::of(alloc, set).ok()?.normals().len();
-    for place in 0..facets {
-        match across(alloc, list, set, place) {
+    for index in 0..facets {
+        match across(alloc, list, set, index) {
             Ok(Some(next)) => {
                 let new = found.bases.len();
                 let to = found.number(texts::set(alloc, &next)?)?;
@@ -111,15 +111,15 @@ fn count(alloc: Global, list: &[Poly], first: &MarkedSet) -> Option<String>
 
 /// What flips give from the basis by degree of a set in so many variables.
 pub(crate) fn told(alloc: Global, call: &str, fields: &[&str]) -> Option<String> {
-    let [n, set, places @ ..] = fields else {
+    let [n, set, indices @ ..] = fields else {
         return None;
     };
     let n = n.parse::<u32>().ok()?;
     let list = polynomials(alloc, n, set)?;
     let first = start(alloc, n, &list)?;
-    match (call, places) {
-        ("across", [place]) => {
-            let next = across(alloc, &list, &first, place.parse().ok()?).ok()??;
+    match (call, indices) {
+        ("across", [index]) => {
+            let next = across(alloc, &list, &first, index.parse().ok()?).ok()??;
             texts::set(alloc, &next)
         }
         ("count", []) => count(alloc, &list, &first),

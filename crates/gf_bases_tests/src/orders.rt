@@ -3,7 +3,7 @@ ghost use Rattle.std.specs.Prelude.{◌≡◌, ◌≤ℤ◌, pos, length, All, L
 ghost use Rattle.gf_order.specs.Comparisons.{HasEntries};
 ghost use Rattle.gf_order.specs.Weights.{AreBounded};
 ghost use Rattle.gf_poly.specs.Polynomial.{Terms};
-ghost use Rattle.gf_buchberger.specs.Jobs.{HaveRingVariables, IsSuited};
+ghost use Rattle.gf_buchberger.specs.Tasks.{HaveRingVariables, IsSuited};
 
 use gf_order::Order;
 use gf_rows::fields;

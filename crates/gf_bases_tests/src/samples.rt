@@ -36,9 +36,9 @@ pub(crate) fn told(alloc: Global, call: &str, fields: &[&str]) -> Option<String>
                 Err(_) => texts::text(alloc, "none"),
             }
         }
-        ("member", [text, place, listed]) => {
+        ("member", [text, index, listed]) => {
             let (rows, listed) = (rows(alloc, text)?, whole(alloc, listed)?);
-            let member = (place.parse::<usize>().ok()?, listed.as_slice());
+            let member = (index.parse::<usize>().ok()?, listed.as_slice());
             match marked_set(alloc, 2, &[rows.as_slice()]) {
                 Ok(set) => texts::text(alloc, lists_members(&set, &[member])),
                 Err(_) => texts::text(alloc, "none"),

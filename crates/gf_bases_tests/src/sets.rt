@@ -1,6 +1,6 @@
 //! Polynomials, the basis by degree of the ideal that they generate, and the region of all positive vectors.
 ghost use Rattle.std.specs.Prelude.{◌≡◌, IfSome};
-ghost use Rattle.gf_buchberger.specs.Jobs.{HaveRingVariables};
+ghost use Rattle.gf_buchberger.specs.Tasks.{HaveRingVariables};
 ghost use Rattle.gf_facets_theory.specs.Regions.{all_positive};
 ghost use Rattle.gf_flip.specs.Reached.{IsReachedByFlips};
 ghost use Rattle.gf_reverse_theory.specs.Upward.{IsNode};

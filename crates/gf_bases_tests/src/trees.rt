@@ -143,13 +143,13 @@ fn walker_at(alloc: Global, n: u32, root: MarkedSet, pairs: u64) -> Option<Walke
     }
 }
 
-/// The basis at a place of the list below the root.
-fn basis_at(alloc: Global, n: u32, root: MarkedSet, place: u32) -> Option<MarkedSet>
+/// The basis at an index of the list below the root.
+fn basis_at(alloc: Global, n: u32, root: MarkedSet, index: u32) -> Option<MarkedSet>
     requires { IsNode (all_positive n) root }
     ensures { IfSome result (IsNode (all_positive n)) }
 {
     let mut walker = walker_at(alloc, n, root, 1000)?;
-    'steps: for _ in 0..place {
+    'steps: for _ in 0..index {
         if walker.advance().is_err() {
             return None;
         }
@@ -160,12 +160,12 @@ fn basis_at(alloc: Global, n: u32, root: MarkedSet, place: u32) -> Option<Marked
     }
 }
 
-/// What is above the basis at a place of the list below the root, by a flip with a budget of pairs.
-fn above(alloc: Global, n: u32, root: MarkedSet, place: u32, pairs: u64) -> Option<String>
+/// What is above the basis at an index of the list below the root, by a flip with a budget of pairs.
+fn above(alloc: Global, n: u32, root: MarkedSet, index: u32, pairs: u64) -> Option<String>
     requires { IsNode (all_positive n) root }
 {
     let region = positive(alloc, n)?;
-    let basis = basis_at(alloc, n, root, place)?;
+    let basis = basis_at(alloc, n, root, index)?;
     match parent(alloc, &basis, &region, pairs) {
         Ok(Parent::Root) => texts::text(alloc, "root"),
         Ok(Parent::Up { normal, basis }) => {
@@ -201,7 +201,7 @@ fn of_root(
             let bases = list_bases(alloc, root, &region, pairs).ok()?;
             texts::text(alloc, bases.len())
         }
-        ("parent", [place]) => above(alloc, n, root, place.parse::<u32>().ok()?, pairs),
+        ("parent", [index]) => above(alloc, n, root, index.parse::<u32>().ok()?, pairs),
         ("walker", [asked, more @ ..]) => {
             walked(alloc, walker_at(alloc, n, root, pairs)?, asked, more)
         }

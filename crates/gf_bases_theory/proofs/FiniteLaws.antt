@@ -3,7 +3,7 @@
 -- basis_everywhere, ListedInRegion, listed_in_region.
 use Rattle.std.proofs.Common.{◌≡◌, ◌⊎◌, ◌≢◌, ℕ, List, [], ◌∷◌, length, Contains, ℤ, arith, inl, inr}
 use Rattle.std.proofs.lemmas.List.Elements.{All-contains}
-use Rattle.gf_gordan.specs.Alternative.{AreRows}
+use Rattle.gf_facets_theory.specs.Alternative.{AreRows}
 use Rattle.gf_frac.specs.Fraction.{zero_ℚ}
 use Rattle.gf_exponents_theory.specs.Exponents.{IsInRing}
 use Rattle.gf_poly.specs.declared.Term.{Term}

@@ -32,7 +32,7 @@ use Rattle.gf_bases_theory.proofs.ShiftedWeightLaws.{vectors_have_bases as each_
 
 -- ---- Dickson's lemma
 
--- s is the monomial at a place before k
+-- s is the monomial at an index before k
 abbrev IsEarlier : (ℕ → Exponents) → ℕ → Exponents → Type 0
 IsEarlier t k s = (i : ℕ) × (i < k) × (t i ≡ s)
 

@@ -382,10 +382,10 @@ forms_of n fs ks below w form (j ∷ js) inside =
   where
     at : ((c : MarkedPolynomial) × IsForm n fs ks below w c × (same j.head c.head ≡ true)) → Forms n fs ks below w js →
         Forms n fs ks below w (j ∷ js)
-    at c r = with_place (placed c.0 r.items r.ascending)
+    at c r = with_index (placed c.0 r.items r.ascending)
       where
-        with_place : Placed c.0 r.items → Forms n fs ks below w (j ∷ js)
-        with_place p = record {
+        with_index : Placed c.0 r.items → Forms n fs ks below w (j ∷ js)
+        with_index p = record {
           items = p.items;
           ascending = p.ascending;
           each = λ d h. each d (p.only d h);

@@ -1,6 +1,6 @@
 -- The theorems on the set of reduced Gröbner bases that functions of this crate name.
 use Rattle.std.specs.Prelude.{◌≡◌, ◌↔◌, ℕ, ◌<◌, List, length, Contains, ℤ}
-use Rattle.gf_gordan.specs.Alternative.{AreRows}
+use Rattle.gf_facets_theory.specs.Alternative.{AreRows}
 use Rattle.gf_exponents_theory.specs.Exponents.{Exponents, Divides, IsInRing}
 use Rattle.gf_exponents_theory.specs.Orders.{lighter, gains, IsWeightedBelow}
 use Rattle.gf_poly.specs.Polynomial.{Terms}

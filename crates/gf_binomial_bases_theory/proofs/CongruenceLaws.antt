@@ -59,7 +59,7 @@ pub record AreCongruent (n : ℕ) (fs : List Terms) (x y : Exponents) : Type 0 w
 pub at_other : (x y : Exponents) → same y x ≡ false → indicator (Some x) y ≡ zero_ℚ
 at_other x y h = ap (λ b. if b then one_ℚ else zero_ℚ) h
 
--- both at one place
+-- both at one index
 pub monomials_same : (s : Option Exponents) (x y : Exponents) → IsTheMonomial s x → IsTheMonomial s y → same x y ≡ true
 monomials_same s x y h k = elim (same_or_not x y) [ inl t ↦ t | inr f ↦ absurd (one_not_zero (sym h.one ∙ k.like x ∙ at_other y x f)) ]
 

@@ -94,7 +94,7 @@ test_fits s o p (IsTestCause.pairs r q) = pairs_fit (map monic_of s.items) o (fo
 pub autoreduction_fits : (bs : List MarkedPolynomial) (o : Overflow) → AreMarkedBinomials (Contains bs) → IsAutoreductionRefusal bs (errors.Overflow o) → ⊥
 autoreduction_fits bs o two r = elim r [
   | inl k ↦ k.1 (monic_fits k.0.member.poly k.0.member.head o.op o.left o.right
-      (binomial-marked k.0.member (two k.0.member (k.0.place, k.0.needed.at.within, k.0.needed.at.is))) k.0.operation.operation)
+      (binomial-marked k.0.member (two k.0.member (k.0.index, k.0.needed.at.within, k.0.needed.at.is))) k.0.operation.operation)
   | inr q ↦ q.2.1 (tail_fits q.0 q.2.0.from q.2.0.at o.op o.left o.right (forms_binomials bs q.0 two q.1) q.2.0.tail q.2.0.operation)
 ]
 

@@ -119,7 +119,7 @@ module _ (n : ℕ) (b : MarkedPolynomial) (p : IsBinomialSet (record { variables
     needed_among ks m d c =
         let e = m.inside d c in
         made e.member d (Contains-permutation t.items (map monic_of (b ∷ [])) e.member (IsPermutation-sym (map monic_of (b ∷ [])) t.items a.members)
-        (e.place, e.needed.at.within, e.needed.at.is)) e.form
+        (e.index, e.needed.at.within, e.needed.at.is)) e.form
 
     pub tails_within : (e : PolyError) → IsAutoreductionRefusal t.items e → e ≡ errors.Memory
     tails_within (errors.Overflow o) r = absurd (monic_forms_fit (record { variables = n; items = b ∷ [] }) t o p a r)

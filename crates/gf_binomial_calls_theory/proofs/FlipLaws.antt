@@ -17,9 +17,9 @@ use Rattle.gf_initial_theory.proofs.MatchingLaws.{matched-map, matched-from}
 use Rattle.gf_initial_theory.proofs.PartLaws.{IsLevelPart}
 use Rattle.gf_initial_theory.proofs.SideLaws.{IsSide, level_of_along}
 use Rattle.gf_initial_theory.proofs.FlipLaws.{side_of_inside, along_negated, ArePartFacts, part_facts}
-use Rattle.gf_lines.specs.Along.{AreAlong, IsBasisOfParts}
-use Rattle.gf_lifts.specs.LiftRefusals.{IsLiftOperation}
-use Rattle.gf_flip.specs.Operations.{IsFlipOperation}
+use Rattle.gf_strands.specs.Along.{AreAlong, IsBasisOfParts}
+use Rattle.gf_tree.specs.LiftRefusals.{IsLiftOperation}
+use Rattle.gf_tree.specs.Operations.{IsFlipOperation}
 use Rattle.gf_binomials_theory.specs.Binomials.{AreBinomials, IsMarkedBinomial, AreMarkedBinomials}
 use Rattle.gf_binomials_theory.proofs.WholeLaws.{IsSmallWhole, fits-sub}
 use Rattle.gf_binomials_theory.proofs.BinomialLaws.{binomial-reached, binomial-monic, binomial-marked, coefficient-small, reduction_fits, monic_fits}
@@ -45,7 +45,7 @@ lift_fits bs h op left right two m (IsLiftOperation.difference r at f e l k) =
 pub forms_binomials : (ls ks : List MarkedPolynomial) → AreMarkedBinomials (Contains ls) → AreNeededForms ls ks → AreMarkedBinomials (Contains ks)
 forms_binomials ls ks two m k c =
     let f = m.inside k c in
-    binomial-monic f.member.poly k (binomial-marked f.member (two f.member (f.place, f.needed.at.within, f.needed.at.is))) f.form.form
+    binomial-monic f.member.poly k (binomial-marked f.member (two f.member (f.index, f.needed.at.within, f.needed.at.is))) f.form.form
 
 -- whatever the region is
 pub flip_fits : FlipsOfBinomialsFit
@@ -81,5 +81,5 @@ flip_fits n fs k bs a op left right vars gens b f o = at o
     at (IsFlipOperation.parts gs h r) = run_fits gs (IsFacetBelow (negated_row_of a)) op left right (along_binomials gs h) r
     at (IsFlipOperation.lift hs p r) = lift_fits bs r.member op left right two (members hs p r.member r.contained) r.operation
     at (IsFlipOperation.monic hs ls p l r) = monic_fits r.member.poly r.member.head op left right
-        (binomial-marked r.member (lifts hs ls p l r.member (r.place, r.needed.at.within, r.needed.at.is))) r.operation.operation
+        (binomial-marked r.member (lifts hs ls p l r.member (r.index, r.needed.at.within, r.needed.at.is))) r.operation.operation
     at (IsFlipOperation.tail hs ls ks p l m r) = tail_fits ks r.from r.at op left right (forms_binomials ls ks (lifts hs ls p l) m) r.tail r.operation

@@ -20,7 +20,7 @@ use Rattle.gf_ideal_theory.proofs.StepLaws.{IsWithin, sum_within, monic-monomial
 use Rattle.gf_division.specs.Autoreduction.{AreNeededForms}
 use Rattle.gf_buchberger.specs.declared.queue.Strategy.{Strategy}
 use Rattle.gf_buchberger.specs.Bases.{AreRunsWithinLimits}
-use Rattle.gf_buchberger.specs.Jobs.{HaveRingVariables}
+use Rattle.gf_buchberger.specs.Tasks.{HaveRingVariables}
 use Rattle.gf_buchberger.specs.Ruled.{AreRuledRunsWithinLimits}
 use Rattle.gf_buchberger.proofs.RuledLaws.{ruled_within_limits}
 use Rattle.gf_buchberger.specs.Pairs.{pairs_below}
@@ -35,8 +35,8 @@ use Rattle.gf_initial_theory.proofs.MatchingLaws.{matched-map, matched-from}
 use Rattle.gf_initial_theory.proofs.PartLaws.{IsLevelPart, part-there}
 use Rattle.gf_initial_theory.proofs.SideLaws.{IsSide, level_of_along}
 use Rattle.gf_initial_theory.proofs.FlipLaws.{side_of_inside, along_negated, part_facts}
-use Rattle.gf_lines.specs.Along.{AreAlong, IsBasisOfParts}
-use Rattle.gf_flip.specs.Operations.{IsFlipExponents, IsFlipWithinLimits}
+use Rattle.gf_strands.specs.Along.{AreAlong, IsBasisOfParts}
+use Rattle.gf_tree.specs.Operations.{IsFlipExponents, IsFlipWithinLimits}
 use Rattle.gf_reverse_theory.specs.Upward.{Fan, IsNodeIn}
 use Rattle.gf_tree.specs.Refusals.{IsConeStep, IsTreeWithinLimits}
 use Rattle.gf_binomials_theory.specs.Binomials.{IsBinomialOf, IsBinomial, AreBinomials}
@@ -196,7 +196,7 @@ flip_within n f k bs a budget v g b q = record {
     forms_among : (hs ls ks : List MarkedPolynomial) → IsBasisOfParts n bs a hs → AreLifts bs hs ls → AreNeededForms ls ks → AreAmong f ks
     forms_among hs ls ks p l m d c =
         let e = m.inside d c in
-        let w = lifts_within hs ls p l e.member (e.place, e.needed.at.within, e.needed.at.is) in
+        let w = lifts_within hs ls p l e.member (e.index, e.needed.at.within, e.needed.at.is) in
         record { head = w d.head e.form.form.there; within = λ x t. w x (monic-monomials e.member.poly d e.form.form x t) }
 
     exponents : (left right : ℕ) → IsFlipExponents n bs a left right → left + right < 2 ^ 31

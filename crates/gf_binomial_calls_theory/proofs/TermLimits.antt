@@ -33,8 +33,8 @@ no_normals n bs a k one h = at (row-from bs h.0 h.1)
 pub monomials_within : (F : Fan) (pairs : ℕ) → HaveOneMonomial F.ideal → IsTreeWithinLimits F pairs
 monomials_within F pairs one = record {
   flips = λ v a node q. absurd (none v a node q.inside.normal);
-  systems = λ v s node step. none v (normal_at step.cone step.place) node (step.is_cone.normals.only (normal_at step.cone step.place)
-      (Contains-get_or step.cone.normals step.place [] step.inside));
+  systems = λ v s node step. none v (normal_at step.cone step.index) node (step.is_cone.normals.only (normal_at step.cone step.index)
+      (Contains-get_or step.cone.normals step.index [] step.inside));
 }
   where
     none : (v : MarkedPolynomials) (a : List ℤ) → IsNodeIn F v → IsNormal v.items a → ⊥

@@ -10,10 +10,10 @@ use Rattle.gf_buchberger.specs.declared.bases.BasisError.TheVariants as flips
 use Rattle.gf_facets_theory.specs.Regions.{Region}
 use Rattle.gf_facets_theory.specs.Facets.{IsFlippable}
 use Rattle.gf_facets_theory.specs.MarkedBases.{IsBasisInRegion}
-use Rattle.gf_flip.specs.Operations.{IsFlipRefusal}
+use Rattle.gf_tree.specs.Operations.{IsFlipRefusal}
 use Rattle.gf_reverse_theory.specs.Upward.{Fan}
-use Rattle.gf_flip.specs.declared.error.TreeError.TheVariants as trees
-use Rattle.gf_flip.specs.TreeErrors.{of_flip_error}
+use Rattle.gf_tree.specs.TreeError.TheVariants as trees
+use Rattle.gf_tree.specs.TreeErrors.{of_flip_error}
 use Rattle.gf_tree.specs.Refusals.{IsTreeRefusal}
 use Rattle.gf_binomials_theory.specs.Binomials.{AreBinomials}
 use Rattle.gf_binomial_calls_theory.proofs.FlipLaws.{flip_fits}

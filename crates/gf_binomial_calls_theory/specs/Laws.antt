@@ -20,9 +20,9 @@ use Rattle.gf_initial_monomials.specs.Refusals.{IsConeRefusal}
 use Rattle.gf_facets_theory.specs.Regions.{Region}
 use Rattle.gf_facets_theory.specs.Facets.{IsFlippable}
 use Rattle.gf_facets_theory.specs.MarkedBases.{IsBasisInRegion}
-use Rattle.gf_flip.specs.Operations.{IsFlipOperation, IsFlipRefusal}
+use Rattle.gf_tree.specs.Operations.{IsFlipOperation, IsFlipRefusal}
 use Rattle.gf_reverse_theory.specs.Upward.{Fan}
-use Rattle.gf_flip.specs.declared.error.TreeError.TheVariants as tree_errors
+use Rattle.gf_tree.specs.TreeError.TheVariants as tree_errors
 use Rattle.gf_tree.specs.Ideals.{ideal_by}
 use Rattle.gf_tree.specs.Refusals.{IsTreeRefusal}
 use Rattle.gf_reduced.specs.declared.error.CheckError.TheVariants as check_errors

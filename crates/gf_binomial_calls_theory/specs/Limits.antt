@@ -15,12 +15,12 @@ use Rattle.gf_reduced.specs.Forms.{monic_set}
 use Rattle.gf_reduced.specs.Refusals.{AreChecksWithinLimits}
 use Rattle.gf_buchberger.specs.declared.queue.Strategy.{Strategy}
 use Rattle.gf_buchberger.specs.Bases.{AreRunsWithinLimits}
-use Rattle.gf_buchberger.specs.Jobs.{HaveRingVariables}
+use Rattle.gf_buchberger.specs.Tasks.{HaveRingVariables}
 use Rattle.gf_buchberger.specs.Ruled.{AreRuledRunsWithinLimits}
 use Rattle.gf_facets_theory.specs.Regions.{Region}
 use Rattle.gf_facets_theory.specs.Facets.{IsFlippable}
 use Rattle.gf_facets_theory.specs.MarkedBases.{IsBasisInRegion}
-use Rattle.gf_flip.specs.Operations.{IsFlipWithinLimits}
+use Rattle.gf_tree.specs.Operations.{IsFlipWithinLimits}
 use Rattle.gf_reverse_theory.specs.Upward.{Fan, IsNodeIn}
 use Rattle.gf_tree.specs.Refusals.{IsConeStep, IsTreeWithinLimits}
 use Rattle.gf_binomials_theory.specs.Antichains.{IsAntichain, HasShortExponents}

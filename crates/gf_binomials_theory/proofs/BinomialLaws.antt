@@ -139,7 +139,7 @@ pub step_fits : (by : MarkedPolynomial → Type 0) (f : Terms) (at : Exponents) 
 step_fits by f at Add left right m h o = absurd o
 step_fits by f at Div left right m h o = absurd o
 step_fits by f at Sub left right m h o =
-    let b = binomial-marked o.member (m o.member o.place.contained) in
+    let b = binomial-marked o.member (m o.member o.index.contained) in
     fits-sub 2 4 left right (omega arith) (omega arith) (subst (IsSmallWhole 2) (sym o.is_left) (coefficient-small f (plus o.rest o.exponents) h))
     (subst (IsSmallWhole 4) (sym o.is_right) (small-* 2 2 (coefficient f at) (coefficient o.member.poly o.exponents) (coefficient-small f at h)
     (coefficient-small o.member.poly o.exponents b)))
@@ -152,7 +152,7 @@ step_fits by f at Mul left right m h o = elim o.operands [
     x = coefficient-small f at h
 
     y : IsSmallWhole 2 (coefficient o.member.poly o.exponents)
-    y = coefficient-small o.member.poly o.exponents (binomial-marked o.member (m o.member o.place.contained))
+    y = coefficient-small o.member.poly o.exponents (binomial-marked o.member (m o.member o.index.contained))
 
 pub reduction_fits : (by : MarkedPolynomial → Type 0) (f : Terms) (op : Op) (left right : Fraction) → AreMarkedBinomials by → IsBinomial f →
     IsReductionOperation by f op left right → Fits op left right

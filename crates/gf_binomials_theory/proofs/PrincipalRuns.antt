@@ -66,9 +66,9 @@ shift_short f u b left right l m s k = these k.operands
 pub step_short : (f : Terms) (bs : List MarkedPolynomial) (g : Terms) (at : Exponents) (left right : ℕ) → IsAntichain f → HasShortExponents f → AreAmong f bs →
     IsWithin (HasMonomial f) g → IsStepExponents (Contains bs) g at left right → left + right < 2 ^ 31
 step_short f bs g at left right a l m w o =
-    let d = m o.member o.place.contained in
-    shift_short f o.rest o.member left right l d (unraised f o.rest o.member a d (there_along f at (plus o.rest o.member.head) o.place.divides
-    (w at o.place.there))) o.sum
+    let d = m o.member o.index.contained in
+    shift_short f o.rest o.member left right l d (unraised f o.rest o.member a d (there_along f at (plus o.rest o.member.head) o.index.divides
+    (w at o.index.there))) o.sum
 
 pub tail_within : (f : Terms) (bs : List MarkedPolynomial) (b : MarkedPolynomial) → IsAntichain f → AreAmong f bs → IsTail bs b →
     IsWithin (HasMonomial f) b.poly

@@ -120,7 +120,7 @@ join-turned [] (b ∷ y) = refl
 join-turned (a ∷ x) [] = refl
 join-turned (a ∷ x) (b ∷ y) = let e : max a b ≡ max b a = omega arith in rw e (ap (λ z. max b a ∷ z) (join-turned x y))
 
--- the number of the pair of b and c at the places i and j
+-- the number of the pair of b and c at the indices i and j
 abbrev number_of : List MarkedPolynomial → ℕ → ℕ → MarkedPolynomial → MarkedPolynomial → ℕ
 number_of bs i j b c = rank_number (length bs) (rank_of (join b.head c.head) i j)
 

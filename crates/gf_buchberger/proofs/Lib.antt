@@ -1,8 +1,8 @@
-pub mod PairsLaws  -- the marks of pairs: places, counts
+pub mod PairsLaws  -- the marks of pairs: indices, counts
 pub mod UnsettledLaws  -- the list of the unsettled pairs
 pub mod QueueLaws  -- the pair that comes first
 pub mod LeadingLaws  -- the greatest term
-pub mod JobLaws  -- positive weights, and which order is good on what
+pub mod TaskLaws  -- positive weights, and which order is good on what
 pub mod SingleLaws  -- members with one monomial
 pub mod RunLaws  -- the states of a run, one step further
 pub mod AppendLaws  -- a member that is appended

@@ -242,14 +242,14 @@ step_fits : (e : Exponents) (bs : List MarkedPolynomial) (f : Terms) (at : Expon
 step_fits e bs f at Add left right u s h = absurd h
 step_fits e bs f at Sub left right u s h = sub_fits left right (subst IsBit (sym h.is_left) (small_bit e f s (plus h.rest h.exponents)))
     (subst IsBit (sym h.is_right) (bit_product (coefficient f at) (coefficient h.member.poly h.exponents) (small_bit e f s at)
-    (small_bit e h.member.poly (inl (u h.member h.place.contained).poly) h.exponents)))
+    (small_bit e h.member.poly (inl (u h.member h.index.contained).poly) h.exponents)))
 step_fits e bs f at Mul left right u s h = these h.operands
   where
     x : IsBit (coefficient f at)
     x = small_bit e f s at
 
     y : IsBit (coefficient h.member.poly h.exponents)
-    y = small_bit e h.member.poly (inl (u h.member h.place.contained).poly) h.exponents
+    y = small_bit e h.member.poly (inl (u h.member h.index.contained).poly) h.exponents
 
     these : AreThese (coefficient f at) (coefficient h.member.poly h.exponents) left right → Fits Mul left right
     these (inl p) = mul_fits left right (subst IsBit (sym p.0) x) (subst IsBit (sym p.1) y)
@@ -303,9 +303,9 @@ shift_fits e u b left right l h s k = these k.operands
 step_sum_fits : (e : Exponents) (bs : List MarkedPolynomial) (f : Terms) (at : Exponents) (left right : ℕ) → AreShort e → AreUnits e bs → IsSmall e f →
     IsStepExponents (Contains bs) f at left right → left + right < 2 ^ 31
 step_sum_fits e bs f at left right l u s h =
-    let there = (small_there e f at s h.place.there).1 in
-    shift_fits e h.rest h.member left right l (u h.member h.place.contained) (unraised e h.rest h.member (u h.member h.place.contained)
-    (same_trans (plus h.rest h.member.head) at e (same_flip at (plus h.rest h.member.head) h.place.divides) there)) h.sum
+    let there = (small_there e f at s h.index.there).1 in
+    shift_fits e h.rest h.member left right l (u h.member h.index.contained) (unraised e h.rest h.member (u h.member h.index.contained)
+    (same_trans (plus h.rest h.member.head) at e (same_flip at (plus h.rest h.member.head) h.index.divides) there)) h.sum
 
 sum_fits : (e : Exponents) (below : Exponents → Exponents → Type 0) (left right : ℕ) → AreShort e → IsRunExponents (unit_monomial e ∷ []) below left right →
     left + right < 2 ^ 31

@@ -30,14 +30,14 @@ use Rattle.gf_buchberger.specs.declared.runs.Stop.TheVariants as stops
 use Rattle.gf_buchberger.specs.Bases.{AreRunsWithinLimits, IsWantOfMemory, is_of_numbers, IsRuledRefusal, IsRuledRunRefusal, IsSpentAnswer, IsStopAnswer}
 use Rattle.gf_buchberger.specs.Bases.{of_poly_error}
 use Rattle.gf_buchberger.specs.Generators.{IsRefusedEntry}
-use Rattle.gf_buchberger.specs.Jobs.{HaveRingVariables}
-use Rattle.gf_buchberger.specs.Pairs.{PairMarks, IsPairTable, pairs_below, place, one_if, is_settled, settled_count}
+use Rattle.gf_buchberger.specs.Tasks.{HaveRingVariables}
+use Rattle.gf_buchberger.specs.Pairs.{PairMarks, IsPairTable, pairs_below, index, one_if, is_settled, settled_count}
 use Rattle.gf_buchberger.specs.Progress.{IsGeneratorRefusal, IsRefusedRun, IsSpent, IsStop}
 use Rattle.gf_buchberger.specs.Ruled.{IsRuled, IsNextPair, IsRuledOrigin, IsRuledOperation, IsRuledExponents, IsRuledSpent, AreRuledRunsWithinLimits}
 use Rattle.gf_buchberger.specs.Runs.{State, state_of, with_pair, IsRun, IsAppendRefusal, IsRefusedPair}
 use Rattle.gf_buchberger.proofs.GeneratorsOfRuns.{run-none, entered_one}
 use Rattle.gf_buchberger.proofs.InterreductionOfRuns.{tails_refused}
-use Rattle.gf_buchberger.proofs.PairsLaws.{place-inside}
+use Rattle.gf_buchberger.proofs.PairsLaws.{index-inside}
 use Rattle.gf_buchberger.proofs.RunSteps.{state_eq, run-permuted}
 use Rattle.gf_buchberger.proofs.SettleLaws.{run-passed, run-more}
 
@@ -222,7 +222,7 @@ one_unset (true ∷ ms) (suc k) l e = let s = sum_by-cons one_if true ms in omeg
 one_unset (false ∷ ms) (suc k) l e = let s = sum_by-cons one_if false ms in omega (arith, s, one_unset ms k (omega (arith, l)) e)
 
 settled_fewer : (t : PairMarks) (i j : ℕ) → IsPairTable t → i < j → j < t.members → is_settled t i j ≡ false → settled_count t < pairs_below t.members
-settled_fewer t i j v l m e = omega (arith, one_unset t.marks (place i j) (omega (arith, v.each, place-inside i j t.members l m)) e, v.each)
+settled_fewer t i j v l m e = omega (arith, one_unset t.marks (index i j) (omega (arith, v.each, index-inside i j t.members l m)) e, v.each)
 
 -- where no run leaves the limits, none by the rule does
 pub ruled_within_limits : (strategy : Strategy) (order : MonomialOrder) (n : ℕ) (fs : List Terms) (budget : ℕ) → HaveRingVariables n fs →

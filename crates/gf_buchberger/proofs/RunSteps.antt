@@ -48,7 +48,7 @@ state_eq s t em et eq es =
 pub in_variables : (n : ℕ) (bs : List MarkedPolynomial) → MembersHaveVariables n bs → AreInVariables n (polys bs)
 in_variables n bs v f c = let m = Contains-marked bs f c in subst (IsInVariables n) m.2 (variables_by_terms n m.0.poly (v.polys m.0 m.1))
 
--- ---- places in a longer list
+-- ---- indices in a longer list
 
 pub at_old : (bs : List MarkedPolynomial) (b c : MarkedPolynomial) (i : ℕ) → i < length bs → IsAt (bs ++ b ∷ []) i c → IsAt bs i c
 at_old [] b c i l h = absurd (omega arith)
@@ -271,7 +271,7 @@ run-settled order n fs w s r h = record {
     valid = λ v c. r.state.valid v (Contains-there w v s.queue c);
   };
   settled = λ i j b c l x y e. settled_here i j b c l x y (settled-before s.table w.first w.second i j valid.0 l e);
-  waiting = λ i j l m. place i j l m (r.waiting i j l m);
+  waiting = λ i j l m. index i j l m (r.waiting i j l m);
 }
   where
     valid : (w.first < w.second) × (w.second < length s.members)
@@ -295,11 +295,11 @@ run-settled order n fs w s r h = record {
         (settled-here s.table w.first w.second r.state.table valid.0 (omega (arith, valid.1, r.state.size)))))
     back i j v f g (inr c) = inr (inl (record { pair = v; contained = c; first = f; second = g }))
 
-    place : (i j : ℕ) → i < j → j < length s.members → (is_settled s.table i j ≡ true) ⊎ IsWaiting (w ∷ s.queue) i j ⊎ IsCovered s.members i j →
+    index : (i j : ℕ) → i < j → j < length s.members → (is_settled s.table i j ≡ true) ⊎ IsWaiting (w ∷ s.queue) i j ⊎ IsCovered s.members i j →
         (is_settled (with_settled s.table w.first w.second) i j ≡ true) ⊎ IsWaiting s.queue i j ⊎ IsCovered s.members i j
-    place i j l m (inl e) = inl (kept i j e)
-    place i j l m (inr (inl v)) = back i j v.pair v.first v.second (Contains-cases w v.pair s.queue v.contained)
-    place i j l m (inr (inr c)) = inr (inr c)
+    index i j l m (inl e) = inl (kept i j e)
+    index i j l m (inr (inl v)) = back i j v.pair v.first v.second (Contains-cases w v.pair s.queue v.contained)
+    index i j l m (inr (inr c)) = inr (inr c)
 
 -- a reduced pair is settled: what is left of it is zero, or a member's multiple
 pub reduced_pair : (order : MonomialOrder) (n : ℕ) (fs : List Terms) (w : Waiting) (old new : State) → IsRun order n fs (with_pair w old) →

@@ -22,7 +22,7 @@ use Rattle.gf_buchberger.specs.Pairs.{PairMarks, IsPairTable, is_settled, settle
 use Rattle.gf_buchberger.specs.Runs.{AreReducers, State, with_pair, IsWaiting, IsState, IsRun, IsAppended, CountsAsSettled, IsExcused, IsPairWorkedOff}
 use Rattle.gf_buchberger.specs.Runs.{IsSettledBy, IsSettlingRefusal, IsSomeRun}
 use Rattle.gf_buchberger.proofs.PairsLaws.{settled_count-settle, settled_count-member, settled-member_old, IsPairTable-member}
-use Rattle.gf_buchberger.proofs.JobLaws.{run_reducers}
+use Rattle.gf_buchberger.proofs.TaskLaws.{run_reducers}
 use Rattle.gf_buchberger.proofs.RunSteps.{state_eq, excused_pair, reduced_pair, run-permuted, run-settled, length-last, contained_old}
 
 -- ---- the run so far
@@ -60,7 +60,7 @@ is_next order old s w done some h = record {
   pair = valid.0;
   second = valid.1;
   member = omega (arith, valid.1, run.state.size);
-  reducers = run_reducers order some.n some.fs (with_pair w s) some.job run;
+  reducers = run_reducers order some.n some.fs (with_pair w s) some.task run;
 }
   where
     run : IsRun order some.n some.fs (with_pair w s)
@@ -85,16 +85,16 @@ run-passed order n fs s w e r = record {
     moved v q (inl k) = inl (subst (λ (z : Waiting). is_settled s.table z.first z.second ≡ true) q k)
     moved v q (inr k) = inr (inr (subst (λ (z : Waiting). IsCovered s.members z.first z.second) q k))
 
-    place : (i j : ℕ) (v : Waiting) → v.first ≡ i → v.second ≡ j → (w ≡ v) ⊎ Contains s.queue v →
+    index : (i j : ℕ) (v : Waiting) → v.first ≡ i → v.second ≡ j → (w ≡ v) ⊎ Contains s.queue v →
         (is_settled s.table i j ≡ true) ⊎ IsWaiting s.queue i j ⊎ IsCovered s.members i j
-    place i j v f g (inl q) = subst (λ (z : ℕ). (is_settled s.table z j ≡ true) ⊎ IsWaiting s.queue z j ⊎ IsCovered s.members z j) f
+    index i j v f g (inl q) = subst (λ (z : ℕ). (is_settled s.table z j ≡ true) ⊎ IsWaiting s.queue z j ⊎ IsCovered s.members z j) f
         (subst (λ (z : ℕ). (is_settled s.table v.first z ≡ true) ⊎ IsWaiting s.queue v.first z ⊎ IsCovered s.members v.first z) g (moved v q e))
-    place i j v f g (inr c) = inr (inl (record { pair = v; contained = c; first = f; second = g }))
+    index i j v f g (inr c) = inr (inl (record { pair = v; contained = c; first = f; second = g }))
 
     stays : (i j : ℕ) → (is_settled s.table i j ≡ true) ⊎ IsWaiting (w ∷ s.queue) i j ⊎ IsCovered s.members i j →
         (is_settled s.table i j ≡ true) ⊎ IsWaiting s.queue i j ⊎ IsCovered s.members i j
     stays i j (inl q) = inl q
-    stays i j (inr (inl v)) = place i j v.pair v.first v.second (Contains-cases w v.pair s.queue v.contained)
+    stays i j (inr (inl v)) = index i j v.pair v.first v.second (Contains-cases w v.pair s.queue v.contained)
     stays i j (inr (inr c)) = inr (inr c)
 
 pub settling-skipped : (order : MonomialOrder) (old s : State) (w : Waiting) (done : ℕ) → IsFirst (w ∷ s.queue) w →

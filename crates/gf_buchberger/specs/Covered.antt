@@ -1,6 +1,6 @@
 -- Covered pairs: each is settled once pairs below it are, so that it needs no work of its own.
--- Pairs compare by the degree of the least common multiple of their marks, then by their later place, then by how far apart their
--- places are.
+-- Pairs compare by the degree of the least common multiple of their marks, then by their later index, then by how far apart their
+-- indices are.
 -- Laws: proofs/CoveredLaws.antt. Source: Gebauer, Möller, On an installation of Buchberger's algorithm; Becker, Weispfenning, Gröbner
 -- Bases, 5.5.
 use Rattle.std.specs.Prelude.{◌≡◌, ◌≢◌, ◌⊎◌, ℕ, ◌-◌, ◌<◌, max, min, List}
@@ -9,11 +9,11 @@ use Rattle.gf_poly.specs.Marking.{MarkedPolynomial}
 use Rattle.gf_ideal_theory.specs.Settled.{IsAt}
 use Rattle.gf_buchberger.specs.declared.covered.Rank.{Rank}
 
--- the rank of the pair of the places p and q, where the least common multiple of the marks is x
+-- the rank of the pair of the indices p and q, where the least common multiple of the marks is x
 abbrev pub rank_of : Exponents → ℕ → ℕ → Rank
 rank_of x p q = record { degree = degree x; later = max p q; apart = max p q - min p q }
 
--- r is below s: by the degree, then by the later place, then by how far apart the places are
+-- r is below s: by the degree, then by the later index, then by how far apart the indices are
 abbrev pub IsBelow : Rank → Rank → Type 0
 IsBelow r s = (r.degree < s.degree) ⊎ ((r.degree ≡ s.degree) × ((r.later < s.later) ⊎ ((r.later ≡ s.later) × (r.apart < s.apart))))
 
@@ -21,7 +21,7 @@ IsBelow r s = (r.degree < s.degree) ⊎ ((r.degree ≡ s.degree) × ((r.later < 
 abbrev pub AreCoprimeOrBelow : Exponents → Exponents → ℕ → ℕ → Rank → Type 0
 AreCoprimeOrBelow x y p q r = AreCoprime x y ⊎ IsBelow (rank_of (join x y) p q) r
 
--- the mark z at a third place k covers the pair of the marks x and y at i and j: it divides their least common multiple, and each of its
+-- the mark z at a third index k covers the pair of the marks x and y at i and j: it divides their least common multiple, and each of its
 -- pairs with them has coprime marks or is below theirs
 pub record IsCovering (x y z : Exponents) (i j k : ℕ) : Type 0 where
   pub not_first : k ≢ i

@@ -12,7 +12,7 @@ use Rattle.gf_buchberger.specs.declared.queue.Waiting.{Waiting}
 use Rattle.gf_buchberger.specs.declared.runs.Stop.{Stop}
 use Rattle.gf_buchberger.specs.declared.runs.Stop.TheVariants as stops
 use Rattle.gf_buchberger.specs.Generators.{IsRefusedEntry}
-use Rattle.gf_buchberger.specs.Jobs.{HaveRingVariables}
+use Rattle.gf_buchberger.specs.Tasks.{HaveRingVariables}
 use Rattle.gf_buchberger.specs.Keys.{IsFirst}
 use Rattle.gf_buchberger.specs.Pairs.{is_settled, settled_count}
 use Rattle.gf_buchberger.specs.Ruled.{IsRuled}

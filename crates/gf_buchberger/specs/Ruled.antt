@@ -65,8 +65,8 @@ pub data IsRuledOrigin (strategy : Strategy) (order : MonomialOrder) (fs : List 
 
 -- ---- the operations of such a run
 
--- the operation `op left right` is one of the run: of the reduction of what comes next, of an S-polynomial, of making a normal form monic, or, once no
--- pair waits, of a step at an unmarked term of a tail
+-- the operation `op left right` is one of the run: of any reduction of what comes next, whichever members its steps are by; of an S-polynomial; of making
+-- a normal form monic; or, once no pair waits, of a step at an unmarked term of a tail
 pub data IsRuledOperation (strategy : Strategy) (order : MonomialOrder) (fs : List Terms) (op : Op) (left right : Fraction) : Type 0 where
   step : (s : State) (f : Terms) → IsRuledOrigin strategy order fs s f → IsReductionOperation (Contains s.members) f op left right →
       IsRuledOperation strategy order fs op left right

@@ -26,7 +26,7 @@ use Rattle.gf_buchberger.specs.declared.runs.Run.{Run}
 use Rattle.gf_buchberger.specs.declared.queue.Waiting.{Waiting}
 use Rattle.gf_buchberger.specs.declared.queue.Strategy.{Strategy}
 use Rattle.gf_buchberger.specs.Keys.{IsKeyOf}
-use Rattle.gf_buchberger.specs.Jobs.{IsBasisJob}
+use Rattle.gf_buchberger.specs.Tasks.{IsBasisTask}
 use Rattle.gf_buchberger.specs.Covered.{IsCovered}
 use Rattle.gf_buchberger.specs.Pairs.{PairMarks, IsPairTable, is_settled, with_settled, with_member}
 
@@ -265,5 +265,5 @@ IsSettlingRefusal order s i j = UnlessMemory (IsRefusedPair order s i j)
 pub record IsSomeRun (order : MonomialOrder) (s : State) : Type 0 where
   pub n : ℕ
   pub fs : List Terms
-  pub job : IsBasisJob order n fs
+  pub task : IsBasisTask order n fs
   pub run : IsRun order n fs s

@@ -10,14 +10,14 @@ ghost use Rattle.gf_buchberger.specs.declared.queue.Strategy.TheVariants.{Degree
 ghost use Rattle.gf_buchberger.specs.Ruled.{AreRuledRunsWithinLimits};
 ghost use Rattle.gf_buchberger.specs.Bases.{IsArrangedBasis, IsBasisRefusal, IsRuledRefusal, AreRunsWithinLimits, IsWantOfMemory, IsSpentAnswer, IsStopAnswer};
 ghost use Rattle.gf_buchberger.specs.Bases.{HasStopVariables, of_poly_error};
-ghost use Rattle.gf_buchberger.specs.Jobs.{HaveRingVariables, IsSuited, IsBasisJob};
+ghost use Rattle.gf_buchberger.specs.Tasks.{HaveRingVariables, IsSuited, IsBasisTask};
 ghost use Rattle.gf_buchberger.specs.Runs.{MembersHaveVariables};
 
 use crate::generators::entered;
 use crate::guides::{guide_of, is_by_degree, ranking_of};
 use crate::members::{Members, are_short};
 use crate::queue::Strategy;
-use crate::runs::{Numbers, Run, Stop, settle_all};
+use crate::runs::{Arithmetic, Run, Stop, settle_all};
 use crate::wide_run::by_sugar;
 use gf_division::{Guide, autoreduce_by};
 use gf_frac::Overflow;
@@ -33,7 +33,7 @@ pub enum BasisError {
     Overflow(Overflow),
     /// A sum of two exponents leaves its range.
     Exponent(ExponentOverflow),
-    /// The budget of pairs is spent: the members so far, and the pairs of places that aren't settled.
+    /// The budget of pairs is spent: the members so far, and the pairs of indices that aren't settled.
     PairBudget { basis: MarkedSet, unsettled: Pairs },
     /// There is no memory.
     Memory,
@@ -41,7 +41,7 @@ pub enum BasisError {
 
 /// What a run works on: the polynomials in `n` variables, the order, and how many pairs it may settle.
 #[derive(Clone, Copy)]
-pub struct Job<'a> {
+pub struct Task<'a> {
     pub n: u32,
     pub set: &'a [Poly],
     pub order: &'a Order,
@@ -99,7 +99,7 @@ fn interreduced(
     alloc: Global,
     set: &MarkedSet,
     guide: &mut Guide,
-    numbers: &Numbers,
+    numbers: &Arithmetic,
 ) -> Result<MarkedSet, PolyError>
     requires { IsRealisable set.now.variables set.now.items }
     ensures value { IfOk result (IsAutoreduced set.now) }
@@ -111,8 +111,8 @@ fn interreduced(
     match autoreduce_by(alloc, set, guide) {
         Ok(basis) => Ok(basis),
         Err(refusal) => match numbers {
-            Numbers::Narrow | Numbers::Mixed => Err(refusal),
-            Numbers::Wide(first) => match wide_autoreduce(alloc, set, guide, first) {
+            Arithmetic::Narrow | Arithmetic::Mixed => Err(refusal),
+            Arithmetic::Wide(first) => match wide_autoreduce(alloc, set, guide, first) {
                 Ok(basis) => Ok(basis),
                 Err(_) => Err(refusal),
             },
@@ -120,39 +120,41 @@ fn interreduced(
     }
 }
 
-/// The reduced Gröbner basis of the ideal of the polynomials of the job for its order, by one run of Buchberger's algorithm, which takes the pairs by
+/// The reduced Gröbner basis of the ideal of the polynomials of the task for its order, by one run of Buchberger's algorithm, which takes the pairs by
 /// `strategy` and reduces in `numbers`.
 ///
 /// # Errors
 ///
-/// `Overflow` and `Exponent` hold the operands of an operation of this run, and that don't fit. `PairBudget` where more pairs than the job allows would
+/// `Overflow` and `Exponent` hold the operands of an operation of this run, and that don't fit. `PairBudget` where more pairs than the task allows would
 /// have to be settled: it holds the members so far, and the pairs that aren't settled. `Memory` if memory runs out.
 pub fn run_by(
     alloc: Global,
-    job: &Job,
+    task: &Task,
     strategy: Strategy,
-    numbers: Numbers,
+    numbers: Arithmetic,
 ) -> Result<MarkedSet, BasisError>
-    requires { IsBasisJob job.now.order.now job.now.n job.now.set.now }
-    ensures ok { IfOk result (IsArrangedBasis job.now.order.now job.now.n job.now.set.now) }
-    ensures err { IfErr result (IsBasisRefusal job.now.order.now job.now.n job.now.set.now job.now.pairs) }
-    ensures by_rule { IfErr result (IsRuledRefusal strategy job.now.order.now job.now.set.now job.now.pairs) }
+    requires { IsBasisTask task.now.order.now task.now.n task.now.set.now }
+    ensures ok { IfOk result (IsArrangedBasis task.now.order.now task.now.n task.now.set.now) }
+    ensures err { IfErr result (IsBasisRefusal task.now.order.now task.now.n task.now.set.now task.now.pairs) }
+    ensures by_rule { IfErr result (IsRuledRefusal strategy task.now.order.now task.now.set.now task.now.pairs) }
 {
-    let guide = match guide_of(alloc, job.n, job.order) {
+    let guide = match guide_of(alloc, task.n, task.order) {
         Ok(guide) => guide,
         Err(_) => return Err(BasisError::Memory),
     };
     let ranking = match &numbers {
-        Numbers::Narrow => None,
-        Numbers::Mixed | Numbers::Wide(_) => ranking_of(alloc, job.n, job.order),
+        Arithmetic::Narrow => None,
+        Arithmetic::Mixed | Arithmetic::Wide(_) => ranking_of(alloc, task.n, task.order),
     };
-    let start = match entered(alloc, job.set, job.order, strategy, numbers, guide, ranking) {
+    let start = match entered(
+        alloc, task.set, task.order, strategy, numbers, guide, ranking,
+    ) {
         Ok(start) => start,
         Err(refusal) => return Err(refused(refusal)),
     };
-    let run = match settle_all(alloc, start, job.order, job.pairs) {
+    let run = match settle_all(alloc, start, task.order, task.pairs) {
         Ok(run) => run,
-        Err(stop) => return Err(stopped(alloc, job.n, stop)),
+        Err(stop) => return Err(stopped(alloc, task.n, stop)),
     };
     let is_silent = run.is_silent();
     let Run {
@@ -161,7 +163,7 @@ pub fn run_by(
         numbers,
         ..
     } = run;
-    let members = set_of(job.n, members);
+    let members = set_of(task.n, members);
     match interreduced(alloc, &members, &mut guide, &numbers) {
         Ok(basis) => Ok(basis),
         Err(refusal) => {
@@ -192,32 +194,32 @@ impl BasisError {
 /// The basis by a run that takes the pairs by degree and goes over to whole numbers once coefficients are long. Where whole numbers don't answer then,
 /// a run in wide numbers that takes them by sugar is tried if the order compares degrees first (by others there is a walk, which takes less time). Last
 /// comes one in fractions of 128 bits alone, whose refusal is told.
-fn by_runs(alloc: Global, job: &Job) -> Result<MarkedSet, BasisError>
-    requires { IsBasisJob job.now.order.now job.now.n job.now.set.now }
-    ensures ok { IfOk result (IsArrangedBasis job.now.order.now job.now.n job.now.set.now) }
-    ensures err { IfErr result (IsBasisRefusal job.now.order.now job.now.n job.now.set.now job.now.pairs) }
-    ensures by_rule { IfErr result (IsRuledRefusal Degree job.now.order.now job.now.set.now job.now.pairs) }
+fn by_runs(alloc: Global, task: &Task) -> Result<MarkedSet, BasisError>
+    requires { IsBasisTask task.now.order.now task.now.n task.now.set.now }
+    ensures ok { IfOk result (IsArrangedBasis task.now.order.now task.now.n task.now.set.now) }
+    ensures err { IfErr result (IsBasisRefusal task.now.order.now task.now.n task.now.set.now task.now.pairs) }
+    ensures by_rule { IfErr result (IsRuledRefusal Degree task.now.order.now task.now.set.now task.now.pairs) }
 {
-    let refusal = match run_by(alloc, job, Strategy::Degree, Numbers::Mixed) {
+    let refusal = match run_by(alloc, task, Strategy::Degree, Arithmetic::Mixed) {
         Ok(found) => return Ok(found),
         Err(refusal) => refusal,
     };
     if refusal.is_told_at_once() {
         return Err(refusal);
     }
-    if refusal.is_of_memory() && is_by_degree(job.n, job.order) {
-        if let Ok(found) = by_sugar(alloc, job) {
+    if refusal.is_of_memory() && is_by_degree(task.n, task.order) {
+        if let Ok(found) = by_sugar(alloc, task) {
             return Ok(found);
         }
     }
-    run_by(alloc, job, Strategy::Degree, Numbers::Narrow)
+    run_by(alloc, task, Strategy::Degree, Arithmetic::Narrow)
 }
 
 /// The reduced Gröbner basis for the order of the ideal of these polynomials in `n` variables: marked at the greatest
 /// monomials, monic, ascending by the exponents of the marked monomials. It is worked out by a run of Buchberger's
 /// algorithm that reduces in fractions of 128 bits, and once a coefficient of a member exceeds 2^10 in size in whole numbers of 512 bits.
-/// Where that isn't answered then, another such run takes the pairs by sugar, if the order compares degrees first; and last comes one in
-/// fractions of 128 bits alone. Each may settle `pairs` pairs.
+/// Where that isn't answered then, another such run takes the pairs by sugar, if the order compares degrees first and the first one hasn't spent its
+/// budget; and last comes one in fractions of 128 bits alone. Each may settle `pairs` pairs.
 ///
 /// Zero polynomials are passed over. The others enter one after another, each as a remainder by those before, made
 /// monic; then at most `pairs` pairs are settled, in the first run and the last one first those whose least common multiple has the least degree, of these
@@ -232,13 +234,14 @@ fn by_runs(alloc: Global, job: &Job) -> Result<MarkedSet, BasisError>
 ///
 /// `Overflow` and `Exponent` only at an operation that a run of Buchberger's algorithm on these polynomials by this order
 /// may have, and whose operands don't fit; it holds them. `PairBudget` only where more pairs would have to be settled: it
-/// holds a list of such a run, and the pairs of places of it that aren't settled, which all but `pairs` are, each of them
+/// holds a list of such a run, and the pairs of indices of it that aren't settled, which all but `pairs` are, each of them
 /// once. So where no operation that a run may have leaves its range, and no list of one has more than `pairs` pairs, only
 /// memory may be wanting.
 ///
 /// More is promised of the run that tells a refusal, the one in fractions alone, which follows a rule (`IsRuled`): the generators enter in turn; of
 /// the pairs that wait the one of least key is taken; what is left of a polynomial is its normal form, by the first member whose mark divides a term.
 /// The operands are those of an operation of this run, and where all of its operations fit and `pairs` pairs suffice, only memory may be wanting.
+/// To its operations belong those of every reduction of such a polynomial, at any terms and by any members that divide them.
 pub fn basis(
     alloc: Global,
     n: u32,
@@ -255,11 +258,11 @@ pub fn basis(
     ensures complete { AreRunsWithinLimits order.now set.now pairs → IfErr result IsWantOfMemory }
     ensures complete_by_rule { AreRuledRunsWithinLimits Degree order.now set.now pairs → IfErr result IsWantOfMemory }
 {
-    let job = Job {
+    let task = Task {
         n,
         set,
         order,
         pairs,
     };
-    by_runs(alloc, &job)
+    by_runs(alloc, &task)
 }

@@ -1,6 +1,6 @@
 //! Pairs that need no work of their own, since pairs below them settle them.
 //!
-//! Whether one place covers a pair is proved; which places are tried isn't: a pair that is found covered by none of them waits.
+//! Whether one index covers a pair is proved; which indices are tried isn't: a pair that is found covered by none of them waits.
 //!
 //! Source: Gebauer, Möller, On an installation of Buchberger's algorithm.
 
@@ -18,13 +18,13 @@ use std::alloc::{AllocError, Global};
 pub struct Rank {
     /// The degree of the least common multiple of the marks.
     pub degree: u64,
-    /// The later of the two places.
+    /// The later of the two indices.
     pub later: usize,
-    /// How far apart the places are.
+    /// How far apart the indices are.
     pub apart: usize,
 }
 
-/// The rank of the pair of the places p and q, where the marks have this least common multiple.
+/// The rank of the pair of the indices p and q, where the marks have this least common multiple.
 fn rank_of(multiple: &Mono, p: usize, q: usize) -> Rank
     ensures { result ≡ rank_by multiple.now p q }
 {
@@ -36,8 +36,8 @@ fn rank_of(multiple: &Mono, p: usize, q: usize) -> Rank
 }
 
 impl Rank {
-    /// Whether a pair of this rank comes before those of the other: by the degree, then by the later place, then by how far apart the
-    /// places are.
+    /// Whether a pair of this rank comes before those of the other: by the degree, then by the later index, then by how far apart the
+    /// indices are.
     fn is_below(self, other: Rank) -> bool
         ensures { IsTrue result ↔ IsBelow self other }
     {
@@ -59,7 +59,7 @@ fn are_coprime_or_below(x: &Mono, y: &Mono, p: usize, q: usize, rank: Rank) -> b
     rank_of(&x.lcm(y), p, q).is_below(rank) || are_coprime(x, y)
 }
 
-/// Whether k is a third place beside i and j, and the mark z there divides the least common multiple of theirs.
+/// Whether k is a third index beside i and j, and the mark z there divides the least common multiple of theirs.
 fn is_third_divisor(z: &Mono, multiple: &Mono, i: usize, j: usize, k: usize) -> bool
     requires { length z.now ≡ length multiple.now }
     ensures { IsTrue result → (k ≢ i) × (k ≢ j) × Divides z.now multiple.now }
@@ -67,7 +67,7 @@ fn is_third_divisor(z: &Mono, multiple: &Mono, i: usize, j: usize, k: usize) -> 
     k != i && k != j && z.divides(multiple)
 }
 
-/// Whether the mark z at the place k covers the pair of the marks x and y at i and j, whose least common multiple is `multiple`.
+/// Whether the mark z at the index k covers the pair of the marks x and y at i and j, whose least common multiple is `multiple`.
 fn is_covering(x: &Mono, y: &Mono, multiple: &Mono, z: &Mono, i: usize, j: usize, k: usize) -> bool
     requires pair { length x.now ≡ length y.now }
     requires third { length z.now ≡ length x.now }
@@ -98,7 +98,7 @@ fn mask_of(x: &Mono) -> u64 {
 /// What is kept of a member.
 #[derive(Clone, Copy)]
 struct Kept {
-    /// The place of a later member whose mark divides its mark, or its own place where there was none.
+    /// The index of a later member whose mark divides its mark, or its own index where there was none.
     by: usize,
     /// The mask of its mark.
     mask: u64,

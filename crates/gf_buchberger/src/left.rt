@@ -31,7 +31,7 @@ pub fn left_of(order: &Order, r: Poly) -> Result<Option<Marked>, PolyError>
     Ok(Some(member))
 }
 
-/// Of two places the one of the greater monomial, and the first where they are equal.
+/// Of two indices the one of the greater monomial, and the first where they are equal.
 fn greater(order: &Order, f: &WidePoly, at: usize, i: usize) -> usize
     requires inside { at < length f.now }
     requires next { i < length f.now }
@@ -46,7 +46,7 @@ fn greater(order: &Order, f: &WidePoly, at: usize, i: usize) -> usize
     }
 }
 
-/// The place of the greatest term.
+/// The index of the greatest term.
 fn leading_of_wide(order: &Order, f: &WidePoly) -> usize
     requires some { 0 < length f.now }
     requires comparable { IsComparable order.now f.now }

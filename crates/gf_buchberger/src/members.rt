@@ -107,7 +107,7 @@ impl Members {
         &self.marked
     }
 
-    /// The member at a place.
+    /// The member at an index.
     pub fn at(&self, i: usize) -> &Marked
         requires { i < length self.now.items }
         ensures { result.now ≡ slice_index_or self.now.items i result.now }

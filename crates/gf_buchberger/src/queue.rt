@@ -33,7 +33,7 @@ pub struct Key {
     pub exponents: [u32; ROOM],
 }
 
-/// A pair of places, with its key; of pairs with one key the later member decides, then the earlier.
+/// A pair of indices, with its key; of pairs with one key the later member decides, then the earlier.
 #[derive(Clone, Copy, Debug, PartialEq, Eq, PartialOrd, Ord)]
 pub struct Waiting {
     pub key: Key,

@@ -33,13 +33,13 @@ pub struct Run {
     pub strategy: Strategy,
     pub sugars: Sugars,
     pub redundant: Redundant,
-    pub numbers: Numbers,
+    pub numbers: Arithmetic,
     pub guide: Guide,
 }
 
 /// By which numbers polynomials are reduced.
 #[derive(Drop)]
-pub enum Numbers {
+pub enum Arithmetic {
     /// By fractions of 128 bits.
     Narrow,
     /// Once coefficients are long by whole numbers of 512 bits, and else by fractions of 128 bits. From then on `Memory` is told in place of an operation
@@ -156,7 +156,7 @@ impl Run {
     pub fn new(
         alloc: Global,
         strategy: Strategy,
-        numbers: Numbers,
+        numbers: Arithmetic,
         guide: Guide,
         ranking: Option<Ranking>,
     ) -> Run
@@ -179,7 +179,7 @@ impl Run {
 
     /// Whether the run has gone over to whole numbers, and doesn't tell which operation is refused.
     pub fn is_silent(&self) -> bool {
-        matches!(self.numbers, Numbers::Mixed) && self.members.have_begun()
+        matches!(self.numbers, Arithmetic::Mixed) && self.members.have_begun()
     }
 
     /// Adds a member; its pairs wait, unless they are covered.
@@ -383,8 +383,8 @@ impl Run {
         ensures { IfSome result (IsLeftOfPair order.now (state_of self.now) i j) }
     {
         match &self.numbers {
-            Numbers::Narrow | Numbers::Mixed => None,
-            Numbers::Wide(first) => match self.wide_left(alloc, order, i, j, first) {
+            Arithmetic::Narrow | Arithmetic::Mixed => None,
+            Arithmetic::Wide(first) => match self.wide_left(alloc, order, i, j, first) {
                 Ok(left) => Some(left),
                 Err(_) => None,
             },

@@ -3,12 +3,12 @@
 ghost use Rattle.std.specs.Prelude.{◌≡◌, IfOk, IfErr};
 ghost use Rattle.gf_order.specs.Comparisons.{HasEntries};
 ghost use Rattle.gf_buchberger.specs.Bases.{IsArrangedBasis, IsBasisRefusal, AreRunsWithinLimits, IsWantOfMemory, is_of_numbers, refusal_told};
-ghost use Rattle.gf_buchberger.specs.Jobs.{HaveRingVariables, IsSuited, IsBasisJob};
+ghost use Rattle.gf_buchberger.specs.Tasks.{HaveRingVariables, IsSuited, IsBasisTask};
 
-use crate::bases::{BasisError, Job, run_by};
+use crate::bases::{BasisError, Task, run_by};
 use crate::guides::is_by_degree;
 use crate::queue::Strategy;
-use crate::runs::Numbers;
+use crate::runs::Arithmetic;
 use gf_order::Order;
 use gf_poly::{MarkedSet, Poly};
 use std::alloc::Global;
@@ -35,16 +35,16 @@ pub fn more_telling(first: BasisError, second: BasisError) -> BasisError
 
 /// The basis by the second run, or the refusal that is told. Where the order compares degrees first, that run would be the first one again, and isn't
 /// made.
-fn by_second_run(alloc: Global, job: &Job, first: BasisError) -> Result<MarkedSet, BasisError>
-    requires good { IsBasisJob job.now.order.now job.now.n job.now.set.now }
-    requires first { IsBasisRefusal job.now.order.now job.now.n job.now.set.now job.now.pairs first }
-    ensures ok { IfOk result (IsArrangedBasis job.now.order.now job.now.n job.now.set.now) }
-    ensures err { IfErr result (IsBasisRefusal job.now.order.now job.now.n job.now.set.now job.now.pairs) }
+fn by_second_run(alloc: Global, task: &Task, first: BasisError) -> Result<MarkedSet, BasisError>
+    requires good { IsBasisTask task.now.order.now task.now.n task.now.set.now }
+    requires first { IsBasisRefusal task.now.order.now task.now.n task.now.set.now task.now.pairs first }
+    ensures ok { IfOk result (IsArrangedBasis task.now.order.now task.now.n task.now.set.now) }
+    ensures err { IfErr result (IsBasisRefusal task.now.order.now task.now.n task.now.set.now task.now.pairs) }
 {
-    if is_by_degree(job.n, job.order) {
+    if is_by_degree(task.n, task.order) {
         return Err(first);
     }
-    match run_by(alloc, job, Strategy::Order, Numbers::Narrow) {
+    match run_by(alloc, task, Strategy::Order, Arithmetic::Narrow) {
         Ok(second) => Ok(second),
         Err(second) => Err(more_telling(first, second)),
     }
@@ -79,11 +79,11 @@ pub fn basis_by_second_run(
     ensures err { IfErr result (IsBasisRefusal order.now n set.now pairs) }
     ensures complete { AreRunsWithinLimits order.now set.now pairs → IfErr result IsWantOfMemory }
 {
-    let job = Job {
+    let task = Task {
         n,
         set,
         order,
         pairs,
     };
-    by_second_run(alloc, &job, first)
+    by_second_run(alloc, &task, first)
 }

@@ -5,55 +5,55 @@ ghost use Rattle.gf_order.specs.Comparisons.{HasEntries};
 ghost use Rattle.gf_buchberger.specs.declared.queue.Strategy.TheVariants.{Degree};
 ghost use Rattle.gf_buchberger.specs.Ruled.{AreRuledRunsWithinLimits};
 ghost use Rattle.gf_buchberger.specs.Bases.{IsArrangedBasis, IsBasisRefusal, IsRuledRefusal, AreRunsWithinLimits, IsWantOfMemory};
-ghost use Rattle.gf_buchberger.specs.Jobs.{HaveRingVariables, IsSuited, IsBasisJob};
+ghost use Rattle.gf_buchberger.specs.Tasks.{HaveRingVariables, IsSuited, IsBasisTask};
 
-use crate::bases::{BasisError, Job, run_by};
+use crate::bases::{BasisError, Task, run_by};
 use crate::guides::precedence_of;
 use crate::queue::Strategy;
-use crate::runs::Numbers;
+use crate::runs::Arithmetic;
 use crate::second_run::more_telling;
 use gf_order::Order;
 use gf_poly::{MarkedSet, Poly};
 use std::alloc::Global;
 
 /// The basis by a run in wide numbers that takes the pairs by their sugar, or its refusal.
-pub fn by_sugar(alloc: Global, job: &Job) -> Result<MarkedSet, BasisError>
-    requires { IsBasisJob job.now.order.now job.now.n job.now.set.now }
-    ensures ok { IfOk result (IsArrangedBasis job.now.order.now job.now.n job.now.set.now) }
-    ensures err { IfErr result (IsBasisRefusal job.now.order.now job.now.n job.now.set.now job.now.pairs) }
+pub fn by_sugar(alloc: Global, task: &Task) -> Result<MarkedSet, BasisError>
+    requires { IsBasisTask task.now.order.now task.now.n task.now.set.now }
+    ensures ok { IfOk result (IsArrangedBasis task.now.order.now task.now.n task.now.set.now) }
+    ensures err { IfErr result (IsBasisRefusal task.now.order.now task.now.n task.now.set.now task.now.pairs) }
 {
-    match precedence_of(alloc, job.n, job.order) {
-        Ok(precedence) => run_by(alloc, job, Strategy::Sugar, Numbers::Wide(precedence)),
+    match precedence_of(alloc, task.n, task.order) {
+        Ok(precedence) => run_by(alloc, task, Strategy::Sugar, Arithmetic::Wide(precedence)),
         Err(_) => Err(BasisError::Memory),
     }
 }
 
 /// The basis by a run in wide numbers that takes the pairs by degree, or its refusal.
-fn by_degree(alloc: Global, job: &Job) -> Result<MarkedSet, BasisError>
-    requires { IsBasisJob job.now.order.now job.now.n job.now.set.now }
-    ensures ok { IfOk result (IsArrangedBasis job.now.order.now job.now.n job.now.set.now) }
-    ensures err { IfErr result (IsBasisRefusal job.now.order.now job.now.n job.now.set.now job.now.pairs) }
-    ensures by_rule { IfErr result (IsRuledRefusal Degree job.now.order.now job.now.set.now job.now.pairs) }
+fn by_degree(alloc: Global, task: &Task) -> Result<MarkedSet, BasisError>
+    requires { IsBasisTask task.now.order.now task.now.n task.now.set.now }
+    ensures ok { IfOk result (IsArrangedBasis task.now.order.now task.now.n task.now.set.now) }
+    ensures err { IfErr result (IsBasisRefusal task.now.order.now task.now.n task.now.set.now task.now.pairs) }
+    ensures by_rule { IfErr result (IsRuledRefusal Degree task.now.order.now task.now.set.now task.now.pairs) }
 {
-    match precedence_of(alloc, job.n, job.order) {
-        Ok(precedence) => run_by(alloc, job, Strategy::Degree, Numbers::Wide(precedence)),
+    match precedence_of(alloc, task.n, task.order) {
+        Ok(precedence) => run_by(alloc, task, Strategy::Degree, Arithmetic::Wide(precedence)),
         Err(_) => Err(BasisError::Memory),
     }
 }
 
 /// The basis by a run in wide numbers that takes the pairs by sugar, and by another one that takes them by degree where that one is refused; or the
 /// refusal of the latter, but for a spent budget of the former where numbers of the latter don't fit.
-fn by_wide_runs(alloc: Global, job: &Job) -> Result<MarkedSet, BasisError>
-    requires { IsBasisJob job.now.order.now job.now.n job.now.set.now }
-    ensures ok { IfOk result (IsArrangedBasis job.now.order.now job.now.n job.now.set.now) }
-    ensures err { IfErr result (IsBasisRefusal job.now.order.now job.now.n job.now.set.now job.now.pairs) }
-    ensures complete_by_rule { AreRuledRunsWithinLimits Degree job.now.order.now job.now.set.now job.now.pairs → IfErr result IsWantOfMemory }
+fn by_wide_runs(alloc: Global, task: &Task) -> Result<MarkedSet, BasisError>
+    requires { IsBasisTask task.now.order.now task.now.n task.now.set.now }
+    ensures ok { IfOk result (IsArrangedBasis task.now.order.now task.now.n task.now.set.now) }
+    ensures err { IfErr result (IsBasisRefusal task.now.order.now task.now.n task.now.set.now task.now.pairs) }
+    ensures complete_by_rule { AreRuledRunsWithinLimits Degree task.now.order.now task.now.set.now task.now.pairs → IfErr result IsWantOfMemory }
 {
-    let other = match by_sugar(alloc, job) {
+    let other = match by_sugar(alloc, task) {
         Ok(found) => return Ok(found),
         Err(other) => other,
     };
-    let refusal = match by_degree(alloc, job) {
+    let refusal = match by_degree(alloc, task) {
         Ok(found) => return Ok(found),
         Err(refusal) => refusal,
     };
@@ -95,11 +95,11 @@ pub fn wide_basis(
     ensures complete { AreRunsWithinLimits order.now set.now pairs → IfErr result IsWantOfMemory }
     ensures complete_by_rule { AreRuledRunsWithinLimits Degree order.now set.now pairs → IfErr result IsWantOfMemory }
 {
-    let job = Job {
+    let task = Task {
         n,
         set,
         order,
         pairs,
     };
-    by_wide_runs(alloc, &job)
+    by_wide_runs(alloc, &task)
 }

@@ -265,11 +265,11 @@ one_equation [] entries l e = absurd (omega (arith, l))
 one_equation (x ∷ []) entries l e = subst (λ (z : List ℤ). (x ∷ []) ≡ get_or z 0 (pos 0) ∷ []) (sym e) refl
 one_equation (x ∷ (y ∷ es)) entries l e = absurd (omega (arith, l))
 
--- the normal that is read at its place
+-- the normal that is read at its index
 pub normal_read : (ns given : List (List ℤ)) (i : ℕ) (a : List ℤ) → i < length ns → given ≡ ns → a ≡ get_or given i a → a ≡ get_or ns i []
 normal_read ns given i a l e f = f ∙ ap (λ (z : List (List ℤ)). get_or z i a) e ∙ get_or_default ns i a [] l
 
--- where vectors are kept, and the unit vectors stand behind them: a vector at a place of the kept ones is the row there
+-- where vectors are kept, and the unit vectors stand behind them: a vector at an index of the kept ones is the row there
 pub kept_in_all : (c : ConeRows) (kept behind : List (List ℤ)) (i : ℕ) (a : List ℤ) → all_rows c ≡ kept ++ behind → i < length kept → a ≡ get_or kept i a →
     a ≡ get_or (all_rows c) i a
 kept_in_all c kept behind i a e l f = f ∙ sym (get_or-append kept behind a i l) ∙ ap (λ (z : List (List ℤ)). get_or z i a) (sym e)

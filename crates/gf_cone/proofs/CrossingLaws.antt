@@ -18,7 +18,7 @@ use Rattle.gf_int_theory.proofs.ListLaws.{Contains-here, all_by}
 use Rattle.gf_vec.specs.Vector.{dot, vector_sum, zeros}
 use Rattle.gf_vec.proofs.VectorLaws.{dot-plus}
 use Rattle.gf_gordan.specs.Alternative.{AreRows, IsSolution}
-use Rattle.gf_ideal_theory.proofs.ListLaws.{Contains-there}
+use Rattle.gf_facets_theory.proofs.ListLaws.{Contains-there}
 use Rattle.gf_facets_theory.specs.Normals.{others_of}
 use Rattle.gf_facets_theory.specs.Systems.{unit, units}
 use Rattle.gf_facets_theory.proofs.UnitLaws.{length-unit, positive_by_units, units_on_positive}
@@ -27,7 +27,7 @@ use Rattle.gf_cone.specs.Cones.{ConeRows, all_rows, normal_at, other_rows, HasUn
 use Rattle.gf_cone.specs.Crossing.{IsShownBy, IsCrossable, IsFlipDecided, IsCrossingDecided}
 use Rattle.gf_cone.proofs.AnswerLaws.{others-append, crossable_flippable, kept_in_all, row_read, length-units}
 
--- ---- the others of one, by places
+-- ---- the others of one, by indices
 
 others_by : (P : List ℤ → Type 0) (vs : List (List ℤ)) (i : ℕ) → i < length vs → ((k : ℕ) → k < length vs → (k ≡ i → ⊥) → P (get_or vs k [])) →
     All P (others_of i vs)
@@ -171,13 +171,13 @@ not_crossable_above c i j a u e l h m p s =
 -- ---- as a program asks
 
 -- one vector more is as asked
-pub shown_next : (vectors : List (List ℤ)) (place k : ℕ) (w v : List ℤ) → k < length vectors → v ≡ get_or vectors k v →
-    (eqb k place ≡ true → dot v w ≡ pos 0) → (eqb k place ≡ false → pos 0 <ℤ dot v w) → IsShownBy vectors place w k
-shown_next vectors place k w v l e z p =
+pub shown_next : (vectors : List (List ℤ)) (index k : ℕ) (w v : List ℤ) → k < length vectors → v ≡ get_or vectors k v →
+    (eqb k index ≡ true → dot v w ≡ pos 0) → (eqb k index ≡ false → pos 0 <ℤ dot v w) → IsShownBy vectors index w k
+shown_next vectors index k w v l e z p =
     let r : v ≡ get_or vectors k [] = e ∙ get_or_default vectors k v [] l in
     record {
-      zero = λ q. subst (λ (t : List ℤ). dot t w ≡ pos 0) r (z (eq-eqb k place q));
-      positive = λ n. subst (λ (t : List ℤ). pos 0 <ℤ dot t w) r (p (ne_eqb k place n));
+      zero = λ q. subst (λ (t : List ℤ). dot t w ≡ pos 0) r (z (eq-eqb k index q));
+      positive = λ n. subst (λ (t : List ℤ). pos 0 <ℤ dot t w) r (p (ne_eqb k index n));
     }
 
 -- where vectors are kept and the unit vectors stand behind them: two kept ones make the normal
@@ -194,7 +194,7 @@ sum_at c kept behind i j k a b d e wide l lj lk nj nk qa rb rd s x =
     not_crossable_sum c i j k l jl kl nj nk (sym (ap (λ (z : List ℤ). length z) qb) ∙ wb ∙ sym wd ∙ ap (λ (z : List ℤ). length z) qd)
     (sym qa ∙ s ∙ ap (λ (z : List ℤ). vector_sum z d) qb ∙ ap (λ (z : List ℤ). vector_sum (get_or (all_rows c) j []) z) qd) x
 
--- a unit vector at its place behind them
+-- a unit vector at its index behind them
 pub unit_in_all : (n i : ℕ) (kept : List (List ℤ)) → i < n → get_or (kept ++ units n n) (length kept + i) [] ≡ unit n i
 unit_in_all n i kept l = get_or-append-add kept (units n n) i [] ∙ at n l
   where
@@ -247,7 +247,7 @@ unit_zero (suc n) zero (suc k) e = zeros_entry n k
 unit_zero (suc n) (suc i) zero e = refl
 unit_zero (suc n) (suc i) (suc k) e = unit_zero n i k (λ q. e (ap suc q))
 
--- the normal at a place is above zero
+-- the normal at an index is above zero
 pub above_at : (c : ConeRows) (kept : List (List ℤ)) (i j : ℕ) (a entries : List ℤ) → all_rows c ≡ kept ++ units c.variables c.variables →
     AreRows c.variables kept → length c.normals ≤ length kept → HasUnits c → i < length c.normals → a ≡ get_or kept i a → entries ≡ a →
     All (λ x. pos 0 ≤ℤ x) entries → j < length entries → pos 0 <ℤ get_or entries j (pos 0) → IsCrossable c i → ⊥
@@ -271,7 +271,7 @@ decided_crossing c i l (Ok (Some w)) shown refuted = λ n k bs is. (crossable_fl
 decided_crossing c i l (Ok None) shown refuted = λ n k bs is f. refuted refl ((crossable_flippable n k bs c i l is).1 f)
 decided_crossing c i l (Err e) shown refuted = tt
 
--- the sign of the normal at a place
+-- the sign of the normal at an index
 pub negative_told : (r : List ℤ) (c : ConeRows) (given : List (List ℤ)) (i : ℕ) (a : List ℤ) (o : Ordering) → given ≡ c.normals → i < length c.normals →
     a ≡ get_or given i a → (o ≡ Less) ↔ IsNegative r a → o ≡ Less → IsTrue true ↔ IsNegative r (normal_at c i)
 negative_told r c given i a o e l ra t q =
@@ -284,7 +284,7 @@ not_negative_told r c given i a o e l ra t q =
     let qa : a ≡ normal_at c i = ra ∙ ap (λ (z : List (List ℤ)). get_or z i a) e ∙ get_or_default c.normals i a [] l in
     (λ u. absurd (false≢true u), λ h. absurd (q (t.1 (subst (IsNegative r) (sym qa) h))))
 
--- the normal at a place is small
+-- the normal at an index is small
 pub small_read : (c : ConeRows) (given : List (List ℤ)) (i : ℕ) (a : List ℤ) → given ≡ c.normals → All IsSmall given → i < length c.normals →
     a ≡ get_or given i a → IsSmall a
 small_read c given i a e s l r = subst IsSmall (sym r) (s i a (subst (λ (z : List (List ℤ)). i < length z) (sym e) l))

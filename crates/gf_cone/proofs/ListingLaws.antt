@@ -1,5 +1,5 @@
 -- Ascending lists of vectors: a vector put in, the normals collected, the others of one.
--- To cite: lower_through, higher_at, place_between, is_in, inserted, gathers_none, gathers_one, gathers_append, has_small, gathered.
+-- To cite: lower_through, higher_at, index_between, is_in, inserted, gathers_none, gathers_one, gathers_append, has_small, gathered.
 use Rattle.std.specs.List.{insert}
 use Rattle.std.specs.Ordering.{int_cmp, MatchOrdering}
 use Rattle.std.specs.Cmp.Lexicographic.{slice_cmp}
@@ -13,7 +13,7 @@ use Rattle.std.proofs.lemmas.List.Elements.{All-contains, Contains-append_left, 
 use Rattle.gf_int_theory.proofs.ListLaws.{Contains-here, all_by}
 use Rattle.gf_vec.specs.Primitive.{IsPrimitivePart}
 use Rattle.gf_poly.specs.Marking.{MarkedPolynomial}
-use Rattle.gf_ideal_theory.proofs.ListLaws.{Contains-there, Contains-cases}
+use Rattle.gf_facets_theory.proofs.ListLaws.{Contains-there, Contains-cases}
 use Rattle.gf_reverse_search.specs.Path.{Precedes}
 use Rattle.gf_facets_theory.specs.Rows.{rows_of_polynomials}
 use Rattle.gf_facets_theory.proofs.PrimitiveLaws.{primitive_unique}
@@ -22,7 +22,7 @@ use Rattle.gf_facets_theory.specs.Normals.{Ascends, AreNormals}
 use Rattle.gf_cone.specs.Small.{IsSmall}
 use Rattle.gf_cone.specs.Placing.{GoesInAt, Gathers}
 
--- ---- the place of a vector
+-- ---- the index of a vector
 
 -- all of the first i come before v
 abbrev pub AreLower : List ℤ → ℕ → List (List ℤ) → Type 0
@@ -31,9 +31,9 @@ AreLower v i xs = (y : List ℤ) → Contains (take i xs) y → Precedes ◌<ℤ
 compared : (x v : List ℤ) (o : Ordering) → o ≡ slice_cmp int_cmp x v → MatchOrdering o (Precedes ◌<ℤ◌ x v) (x ≡ v) (Precedes ◌<ℤ◌ v x)
 compared x v o e = subst (λ (p : Ordering). MatchOrdering p (Precedes ◌<ℤ◌ x v) (x ≡ v) (Precedes ◌<ℤ◌ v x)) (sym e) (vectors_compare x v)
 
-place_more : (v x : List ℤ) (xs : List (List ℤ)) (i : ℕ) (o : Ordering) → i < length xs → x ≡ get_or xs i x → o ≡ slice_cmp int_cmp x v → o ≡ Less →
+index_more : (v x : List ℤ) (xs : List (List ℤ)) (i : ℕ) (o : Ordering) → i < length xs → x ≡ get_or xs i x → o ≡ slice_cmp int_cmp x v → o ≡ Less →
     AreLower v i xs → AreLower v (i + 1) xs
-place_more v x xs i o l e c q h y k = at (Contains-append_cases (take i xs) (x ∷ []) y
+index_more v x xs i o l e c q h y k = at (Contains-append_cases (take i xs) (x ∷ []) y
     (subst (λ (z : List (List ℤ)). Contains z y) (take_more xs i x l ∙ ap (λ (z : List ℤ). take i xs ++ z ∷ []) (sym e)) k))
   where
     below : Precedes ◌<ℤ◌ x v
@@ -57,10 +57,10 @@ ended : (v : List ℤ) (xs : List (List ℤ)) → ((y : List ℤ) → Contains x
 ended v [] h = tt
 ended v (x ∷ xs) h = (h x (Contains-here x xs), ended v xs (λ y k. h y (Contains-there x y xs k)))
 
-place_end : (v : List ℤ) (xs : List (List ℤ)) (i : ℕ) → length xs ≤ i → AreLower v i xs → GoesInAt v (length xs) xs
-place_end v xs i l h = ended v xs (λ y k. h y (subst (λ (z : List (List ℤ)). Contains z y) (sym (take_all i xs l)) k))
+index_end : (v : List ℤ) (xs : List (List ℤ)) (i : ℕ) → length xs ≤ i → AreLower v i xs → GoesInAt v (length xs) xs
+index_end v xs i l h = ended v xs (λ y k. h y (subst (λ (z : List (List ℤ)). Contains z y) (sym (take_all i xs l)) k))
 
--- what stands before a place comes before what stands there
+-- what stands before an index comes before what stands there
 ascends_before : (xs : List (List ℤ)) (i : ℕ) (x y : List ℤ) → Ascends xs → i < length xs → x ≡ get_or xs i x → Contains (take i xs) y → Precedes ◌<ℤ◌ y x
 ascends_before [] i x y h l e c = absurd (omega arith)
 ascends_before (z ∷ xs) zero x y h l e c = absurd (omega (arith, c.1))
@@ -69,15 +69,15 @@ ascends_before (z ∷ xs) (suc i) x y h l e c = elim (Contains-cases z y (take i
   | inr k ↦ ascends_before xs i x y h.1 (omega arith) e k
 ]
 
--- so in an ascending list all up to a place are lower, where what stands there is
+-- so in an ascending list all up to an index are lower, where what stands there is
 pub lower_through : (v x : List ℤ) (xs : List (List ℤ)) (i : ℕ) (o : Ordering) → Ascends xs → i < length xs → x ≡ get_or xs i x → o ≡ slice_cmp int_cmp x v →
     o ≡ Less → AreLower v (i + 1) xs
-lower_through v x xs i o h l e c q = place_more v x xs i o l e c q (λ y k. before_strict.transitive y x v (ascends_before xs i x y h l e k) below)
+lower_through v x xs i o h l e c q = index_more v x xs i o l e c q (λ y k. before_strict.transitive y x v (ascends_before xs i x y h l e k) below)
   where
     below : Precedes ◌<ℤ◌ x v
     below = subst (λ (p : Ordering). MatchOrdering p (Precedes ◌<ℤ◌ x v) (x ≡ v) (Precedes ◌<ℤ◌ v x)) q (compared x v o c)
 
--- what stands at the place i, if anything does, comes after v
+-- what stands at the index i, if anything does, comes after v
 pub record IsHigher (v : List ℤ) (i : ℕ) (xs : List (List ℤ)) : Type 0 where
   pub at : (d : List ℤ) → i < length xs → Precedes ◌<ℤ◌ v (get_or xs i d)
 
@@ -89,23 +89,23 @@ higher_at v x xs i o l e c q = record { at = λ d m. subst (Precedes ◌<ℤ◌ 
     above = subst (λ (p : Ordering). MatchOrdering p (Precedes ◌<ℤ◌ x v) (x ≡ v) (Precedes ◌<ℤ◌ v x)) q (compared x v o c)
 
 -- between what is lower and what is higher
-pub place_between : (v : List ℤ) (xs : List (List ℤ)) (low high : ℕ) → low ≡ high → high ≤ length xs → AreLower v low xs → IsHigher v high xs →
+pub index_between : (v : List ℤ) (xs : List (List ℤ)) (low high : ℕ) → low ≡ high → high ≤ length xs → AreLower v low xs → IsHigher v high xs →
     GoesInAt v low xs
-place_between v xs low high e m h k = at (cases_lt low (length xs))
+index_between v xs low high e m h k = at (cases_lt low (length xs))
   where
     at : (low < length xs) ⊎ (length xs ≤ low) → GoesInAt v low xs
     at (inl l) =
         let n : high < length xs = omega arith in
         placed v (get_or xs low []) xs low l (get_or_default xs low [] (get_or xs low []) l) (subst (λ (i : ℕ). Precedes ◌<ℤ◌ v (get_or xs i [])) (sym e)
         (k.at [] n)) h
-    at (inr g) = let q : length xs ≡ low = omega arith in subst (λ (i : ℕ). GoesInAt v i xs) q (place_end v xs low g h)
+    at (inr g) = let q : length xs ≡ low = omega arith in subst (λ (i : ℕ). GoesInAt v i xs) q (index_end v xs low g h)
 
 -- ---- a vector put in
 
-pub place_inside : (v : List ℤ) (i : ℕ) (xs : List (List ℤ)) → GoesInAt v i xs → i ≤ length xs
-place_inside v zero xs p = omega arith
-place_inside v (suc i) [] p = absurd p
-place_inside v (suc i) (x ∷ xs) p = omega (arith, place_inside v i xs p.1)
+pub index_inside : (v : List ℤ) (i : ℕ) (xs : List (List ℤ)) → GoesInAt v i xs → i ≤ length xs
+index_inside v zero xs p = omega arith
+index_inside v (suc i) [] p = absurd p
+index_inside v (suc i) (x ∷ xs) p = omega (arith, index_inside v i xs p.1)
 
 inserted_cases : (v a : List ℤ) (i : ℕ) (xs : List (List ℤ)) → GoesInAt v i xs → Contains (insert xs i v) a → (a ≡ v) ⊎ Contains xs a
 inserted_cases v a zero xs p c = elim (Contains-cases v a xs c) [ inl e ↦ inl (sym e) | inr k ↦ inr k ]

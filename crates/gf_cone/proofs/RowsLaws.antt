@@ -15,7 +15,7 @@ use Rattle.gf_poly.specs.Monomial.{IsMonomial}
 use Rattle.gf_poly.specs.Polynomial.{Terms, HasVariables}
 use Rattle.gf_poly.specs.Marking.{MarkedPolynomial, Each, HaveVariables, HasMarkedTerm}
 use Rattle.gf_poly.proofs.CoefficientLaws.{apart, term_length}
-use Rattle.gf_ideal_theory.proofs.ListLaws.{each_contained, contained_each}
+use Rattle.gf_facets_theory.proofs.ListLaws.{each_contained, contained_each}
 use Rattle.gf_facets_theory.specs.Rows.{differences, row_between, rows_of_terms, rows_of_polynomials}
 use Rattle.gf_facets_theory.specs.Systems.{unit}
 use Rattle.gf_cone.specs.Small.{IsSmall}

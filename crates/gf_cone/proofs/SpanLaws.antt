@@ -1,5 +1,5 @@
 -- What shows that a normal is in the cone of other vectors, up to a multiple.
--- To cite: rows_wide, place_in_all, unit_entry_in, not_crossable_spanned.
+-- To cite: rows_wide, index_in_all, unit_entry_in, not_crossable_spanned.
 use Rattle.std.proofs.Common.{◌≡◌, ◌⊎◌, ℕ, ◌+◌, ◌-◌, ◌<◌, ◌≤◌, List, [], ◌++◌, length, get_or, ℤ, pos, ◌+ℤ◌, ◌*ℤ◌, ◌<ℤ◌, ◌≤ℤ◌, arith, sym, ap, ap₂, ◌∙◌, subst}
 use Rattle.std.proofs.Common.{inl, inr, length-append}
 use Rattle.std.proofs.lemmas.Int.{ints}
@@ -23,7 +23,7 @@ use Rattle.gf_cone.specs.declared.spans.Span.{Span}
 use Rattle.gf_cone.proofs.AnswerLaws.{length-units}
 use Rattle.gf_cone.proofs.CrossingLaws.{in_all, other_positive, normal_zero, unit_in_all}
 
--- ---- rows by their places
+-- ---- rows by their indices
 
 -- all rows have as many entries as there are variables
 pub rows_wide : (c : ConeRows) (kept : List (List ℤ)) → all_rows c ≡ kept ++ units c.variables c.variables → AreRows c.variables kept →
@@ -39,10 +39,10 @@ rows_wide c kept e w = subst (AreRows c.variables) (sym e) (All-append (λ t. le
 row_wide : (c : ConeRows) (j : ℕ) → AreRows c.variables (all_rows c) → j < length (all_rows c) → length (get_or (all_rows c) j []) ≡ c.variables
 row_wide c j w l = w j [] l
 
--- a place of a kept vector or of a unit vector is one of a row
-pub place_in_all : (c : ConeRows) (kept : List (List ℤ)) (j : ℕ) → all_rows c ≡ kept ++ units c.variables c.variables →
+-- an index of a kept vector or of a unit vector is one of a row
+pub index_in_all : (c : ConeRows) (kept : List (List ℤ)) (j : ℕ) → all_rows c ≡ kept ++ units c.variables c.variables →
     (j < length kept) ⊎ (j - length kept < c.variables) → j < length (all_rows c)
-place_in_all c kept j e h = subst (λ (z : List (List ℤ)). j < length z) (sym e) (at h)
+index_in_all c kept j e h = subst (λ (z : List (List ℤ)). j < length z) (sym e) (at h)
   where
     at : (j < length kept) ⊎ (j - length kept < c.variables) → j < length (kept ++ units c.variables c.variables)
     at (inl l) = omega (arith, l, length-append kept (units c.variables c.variables))
@@ -67,11 +67,11 @@ unit_entry_in c kept j i e g l =
 
 -- a share on a vector
 abbrev share_on : (c : ConeRows) (s : Share) (w : List ℤ) → ℤ
-share_on c s w = s.times *ℤ dot (get_or (all_rows c) s.place []) w
+share_on c s w = s.times *ℤ dot (get_or (all_rows c) s.index []) w
 
 -- what holds entry by entry holds on each vector
-balanced_on : (c : ConeRows) (i : ℕ) (s : Span) (w : List ℤ) → AreRows c.variables (all_rows c) → i < length c.normals → s.first.place < length (all_rows c) →
-    s.second.place < length (all_rows c) → s.third.place < length (all_rows c) → length (normal_at c i) ≡ c.variables →
+balanced_on : (c : ConeRows) (i : ℕ) (s : Span) (w : List ℤ) → AreRows c.variables (all_rows c) → i < length c.normals → s.first.index < length (all_rows c) →
+    s.second.index < length (all_rows c) → s.third.index < length (all_rows c) → length (normal_at c i) ≡ c.variables →
     ((j : ℕ) → j < c.variables → IsBalancedAt c i s j) → share_on c s.first w +ℤ share_on c s.second w +ℤ share_on c s.third w ≡ s.normal *ℤ dot (normal_at c i)
     w
 balanced_on c i s w r l m n o q h = sym sums ∙ ap (λ (z : List ℤ). dot z w) same ∙ dot-times s.normal normal w
@@ -80,22 +80,22 @@ balanced_on c i s w r l m n o q h = sym sums ∙ ap (λ (z : List ℤ). dot z w)
     normal = normal_at c i
 
     a : List ℤ
-    a = get_or (all_rows c) s.first.place []
+    a = get_or (all_rows c) s.first.index []
 
     b : List ℤ
-    b = get_or (all_rows c) s.second.place []
+    b = get_or (all_rows c) s.second.index []
 
     d : List ℤ
-    d = get_or (all_rows c) s.third.place []
+    d = get_or (all_rows c) s.third.index []
 
     wa : length (scaled s.first.times a) ≡ c.variables
-    wa = length-times s.first.times a ∙ row_wide c s.first.place r m
+    wa = length-times s.first.times a ∙ row_wide c s.first.index r m
 
     wb : length (scaled s.second.times b) ≡ c.variables
-    wb = length-times s.second.times b ∙ row_wide c s.second.place r n
+    wb = length-times s.second.times b ∙ row_wide c s.second.index r n
 
     wd : length (scaled s.third.times d) ≡ c.variables
-    wd = length-times s.third.times d ∙ row_wide c s.third.place r o
+    wd = length-times s.third.times d ∙ row_wide c s.third.index r o
 
     two : List ℤ
     two = vector_sum (scaled s.first.times a) (scaled s.second.times b)
@@ -132,14 +132,14 @@ not_crossable_spanned c i s r l f g h some b x = against some
     none : share_on c s.first w +ℤ share_on c s.second w +ℤ share_on c s.third w ≡ pos 0
     none = balanced_on c i s w r l f.inside g.inside h.inside wide b ∙ ap (λ (z : ℤ). s.normal *ℤ z) (normal_zero c i w x.1) ∙ *ℤ-zero s.normal
 
-    above : (t : Share) → IsShare c i t → pos 0 <ℤ dot (get_or (all_rows c) t.place []) w
-    above t k = other_positive c i t.place w l k.inside k.other x.1
+    above : (t : Share) → IsShare c i t → pos 0 <ℤ dot (get_or (all_rows c) t.index []) w
+    above t k = other_positive c i t.index w l k.inside k.other x.1
 
     least : (t : Share) → IsShare c i t → pos 0 ≤ℤ share_on c t w
-    least t k = 0≤-*ℤ t.times (dot (get_or (all_rows c) t.place []) w) k.least (let p = above t k in omega (arith, ints, p))
+    least t k = 0≤-*ℤ t.times (dot (get_or (all_rows c) t.index []) w) k.least (let p = above t k in omega (arith, ints, p))
 
     most : (t : Share) → IsShare c i t → pos 0 <ℤ t.times → pos 0 <ℤ share_on c t w
-    most t k p = 0<-*ℤ t.times (dot (get_or (all_rows c) t.place []) w) p (above t k)
+    most t k p = 0<-*ℤ t.times (dot (get_or (all_rows c) t.index []) w) p (above t k)
 
     against : IsSomePositive s → ⊥
     against (inl p) = absurd (let a = most s.first f p in let d = least s.second g in let e = least s.third h in omega (arith, ints, none, a, d, e))

@@ -8,16 +8,16 @@ use Rattle.gf_facets_theory.specs.Facets.{IsFlippable}
 use Rattle.gf_poly.specs.Marking.{MarkedPolynomial}
 use Rattle.gf_cone.specs.Cones.{ConeRows, normal_at, other_rows, IsConeOf}
 
--- the vector at the place i is zero on w, and that at each other place k is positive
+-- the vector at the index i is zero on w, and that at each other index k is positive
 pub record IsShownBy (vectors : List (List ℤ)) (i : ℕ) (w : List ℤ) (k : ℕ) : Type 0 where
   pub zero : k ≡ i → dot (slice_index_or vectors k []) w ≡ pos 0
   pub positive : (k ≡ i → ⊥) → pos 0 <ℤ dot (slice_index_or vectors k []) w
 
--- w is zero on the normal at the place i and positive on all other rows
+-- w is zero on the normal at the index i and positive on all other rows
 abbrev pub IsShownAt : ConeRows → List ℤ → ℕ → Type 0
 IsShownAt c w i = (i < length c.normals) × IsSolution c.variables (other_rows c i) (normal_at c i ∷ []) w
 
--- some vector is zero on the normal at a place and positive on all other rows: a flip may cross its facet
+-- some vector is zero on the normal at an index and positive on all other rows: a flip may cross its facet
 abbrev pub IsCrossable : ConeRows → ℕ → Type 0
 IsCrossable c i = IsSolvable c.variables (other_rows c i) (normal_at c i ∷ [])
 

@@ -6,7 +6,7 @@ use Rattle.gf_facets_theory.specs.Normals.{Ascends}
 use Rattle.gf_cone.specs.declared.listing.Placing.{Placing}
 use Rattle.gf_cone.specs.declared.listing.Placing.TheVariants.{New, Known}
 
--- the vectors up to the place i come before v, and v before the one there
+-- the vectors up to the index i come before v, and v before the one there
 abbrev pub GoesInAt : List ℤ → ℕ → List (List ℤ) → Type 0
 GoesInAt v zero [] = Unit {0}
 GoesInAt v zero (x ∷ xs) = IsBefore v x

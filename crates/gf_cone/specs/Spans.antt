@@ -4,10 +4,10 @@ use Rattle.gf_cone.specs.Cones.{ConeRows, all_rows, normal_at}
 use Rattle.gf_cone.specs.declared.spans.Share.{Share}
 use Rattle.gf_cone.specs.declared.spans.Span.{Span}
 
--- s is a share of another vector than the normal at the place i, and not negative
+-- s is a share of another vector than the normal at the index i, and not negative
 pub record IsShare (c : ConeRows) (i : ℕ) (s : Share) : Type 0 where
-  pub inside : s.place < length (all_rows c)
-  pub other : s.place ≡ i → ⊥
+  pub inside : s.index < length (all_rows c)
+  pub other : s.index ≡ i → ⊥
   pub least : pos 0 ≤ℤ s.times
 
 -- one of the three shares is positive
@@ -16,7 +16,7 @@ IsSomePositive s = (pos 0 <ℤ s.first.times) ⊎ ((pos 0 <ℤ s.second.times) �
 
 -- the entry of a share
 abbrev pub part_at : ConeRows → Share → ℕ → ℤ
-part_at c s j = s.times *ℤ slice_index_or (slice_index_or (all_rows c) s.place []) j (pos 0)
+part_at c s j = s.times *ℤ slice_index_or (slice_index_or (all_rows c) s.index []) j (pos 0)
 
 -- the entry of three shares together is that of so many times the normal
 abbrev pub IsBalancedAt : ConeRows → ℕ → Span → ℕ → Type 0

@@ -26,15 +26,15 @@ fn is_as_asked(normal: &IntVec, zero: bool, w: &[i128], short: bool) -> bool
     }
 }
 
-/// Whether the normal at a place is zero on `w`, and all others are positive. False where a product or sum leaves the range.
-fn normals_show(normals: &[IntVec], place: usize, w: &[i128], short: bool) -> bool
+/// Whether the normal at an index is zero on `w`, and all others are positive. False where a product or sum leaves the range.
+fn normals_show(normals: &[IntVec], index: usize, w: &[i128], short: bool) -> bool
     requires widths { AreRows (length w.now) normals.now }
     requires small { All IsSmall normals.now }
     requires short { IsTrue short → IsShort w.now }
-    ensures { IsTrue result → (k : ℕ) → k < length normals.now → IsShownBy normals.now place w.now k }
+    ensures { IsTrue result → (k : ℕ) → k < length normals.now → IsShownBy normals.now index w.now k }
 {
     for k in 0..normals.len() {
-        if !is_as_asked(&normals[k], k == place, w, short) {
+        if !is_as_asked(&normals[k], k == index, w, short) {
             return false;
         }
     }
@@ -101,13 +101,13 @@ pub fn is_positive_beside(cone: &Cone, w: &[i128]) -> bool
     all_positive(w) && rows_are_positive(cone.rows(), w)
 }
 
-/// Whether the normal at a place is zero on `w`, and all other rows are positive. False where a product or sum leaves the range.
-pub fn shows(cone: &Cone, place: usize, w: &[i128]) -> bool
-    requires place { place < length cone.now.normals }
+/// Whether the normal at an index is zero on `w`, and all other rows are positive. False where a product or sum leaves the range.
+pub fn shows(cone: &Cone, index: usize, w: &[i128]) -> bool
+    requires index { index < length cone.now.normals }
     requires width { length w.now ≡ cone.now.variables }
-    ensures { IsTrue result → IsSolution cone.now.variables (other_rows cone.now place) (normal_at cone.now place ∷ []) w.now }
+    ensures { IsTrue result → IsSolution cone.now.variables (other_rows cone.now index) (normal_at cone.now index ∷ []) w.now }
 {
-    is_positive_beside(cone, w) && normals_show(cone.normals(), place, w, is_short(w))
+    is_positive_beside(cone, w) && normals_show(cone.normals(), index, w, is_short(w))
 }
 
 /// Whether all rows are positive on `w`. False where a product or sum leaves the range.
@@ -186,21 +186,21 @@ fn some_positive(a: &[i128]) -> bool
     false
 }
 
-/// Whether the normal at a place is seen to be a sum of unit vectors.
-pub fn is_above_zero(cone: &Cone, place: usize) -> bool
-    requires { place < length cone.now.normals }
-    ensures { IsTrue result → IsCrossable cone.now place → ⊥ }
+/// Whether the normal at an index is seen to be a sum of unit vectors.
+pub fn is_above_zero(cone: &Cone, index: usize) -> bool
+    requires { index < length cone.now.normals }
+    ensures { IsTrue result → IsCrossable cone.now index → ⊥ }
 {
-    let normal = cone.kept()[place].as_slice();
+    let normal = cone.kept()[index].as_slice();
     none_negative(normal) && some_positive(normal)
 }
 
-/// The entry at a place of the unit vector of the variable `at`, of `n`.
-pub(crate) fn unit_entry(n: usize, at: usize, place: usize) -> i128
-    requires { place < n }
-    ensures { result ≡ slice_index_or (unit n at) place (pos 0) }
+/// The entry at an index of the unit vector of the variable `at`, of `n`.
+pub(crate) fn unit_entry(n: usize, at: usize, index: usize) -> i128
+    requires { index < n }
+    ensures { result ≡ slice_index_or (unit n at) index (pos 0) }
 {
-    if place == at { 1 } else { 0 }
+    if index == at { 1 } else { 0 }
 }
 
 /// Whether `a` is the sum of `b` and the unit vector of the variable `at`. False where `b` has an entry of more than 32 bits.
@@ -217,37 +217,37 @@ fn is_raised(a: &[i128], b: &[i128], at: usize) -> bool
     true
 }
 
-/// Whether the normal at a place is the sum of the kept vector at another place and the unit vector of the variable `at`. False where
+/// Whether the normal at an index is the sum of the kept vector at another index and the unit vector of the variable `at`. False where
 /// an entry has more than 32 bits.
-fn is_raised_to(cone: &Cone, place: usize, other: usize, at: usize) -> bool
-    requires { place < length cone.now.normals }
-    ensures { IsTrue result → IsCrossable cone.now place → ⊥ }
+fn is_raised_to(cone: &Cone, index: usize, other: usize, at: usize) -> bool
+    requires { index < length cone.now.normals }
+    ensures { IsTrue result → IsCrossable cone.now index → ⊥ }
 {
     let kept = cone.kept();
-    if other >= kept.len() || other == place || at >= cone.variables() as usize {
+    if other >= kept.len() || other == index || at >= cone.variables() as usize {
         return false;
     }
-    is_raised(kept[place].as_slice(), kept[other].as_slice(), at)
+    is_raised(kept[index].as_slice(), kept[other].as_slice(), at)
 }
 
-/// Whether the normal at a place is the sum of the vectors at two other places, which aren't both unit vectors. False where one of these has
+/// Whether the normal at an index is the sum of the vectors at two other indices, which aren't both unit vectors. False where one of these has
 /// an entry of more than 32 bits.
-pub fn is_sum_of(cone: &Cone, place: usize, b: usize, c: usize) -> bool
-    requires { place < length cone.now.normals }
-    ensures { IsTrue result → IsCrossable cone.now place → ⊥ }
+pub fn is_sum_of(cone: &Cone, index: usize, b: usize, c: usize) -> bool
+    requires { index < length cone.now.normals }
+    ensures { IsTrue result → IsCrossable cone.now index → ⊥ }
 {
     let kept = cone.kept();
     if b >= kept.len() {
-        return is_raised_to(cone, place, c, b - kept.len());
+        return is_raised_to(cone, index, c, b - kept.len());
     }
     if c >= kept.len() {
-        return is_raised_to(cone, place, b, c - kept.len());
+        return is_raised_to(cone, index, b, c - kept.len());
     }
-    if b == place || c == place {
+    if b == index || c == index {
         return false;
     }
     is_sum(
-        kept[place].as_slice(),
+        kept[index].as_slice(),
         kept[b].as_slice(),
         kept[c].as_slice(),
     )

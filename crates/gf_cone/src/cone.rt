@@ -192,7 +192,7 @@ impl Cone {
         true
     }
 
-    /// Whether the normal at a place, counted from 0, is one of a facet.
+    /// Whether the normal at an index, counted from 0, is one of a facet.
     ///
     /// The answer holds a vector that is zero on it and positive on all other normals, or so many times the normal as a
     /// combination of the other normals (Farkas' lemma; Schrijver, *Theory of Linear and Integer Programming*, 7.3).
@@ -200,19 +200,19 @@ impl Cone {
     /// # Errors
     /// `Cone` names a step of the system of the other normals, with this one as the equation, that leaves the range;
     /// `Memory` may come at any time.
-    pub fn facet(&self, place: usize) -> Result<FacetAnswer, GordanError>
-        requires place { place < length self.now.normals }
+    pub fn facet(&self, index: usize) -> Result<FacetAnswer, GordanError>
+        requires index { index < length self.now.normals }
         requires interior { HasInterior self.now }
-        ensures ok { IfOk result (AnswersFacet self.now place) }
-        ensures told { IfOk result (IsFacetAnswered self.now place) }
-        ensures err { IfErr result (Failed (IsNormalStep self.now.variables (others_of place self.now.normals) (normal_at self.now place))) }
+        ensures ok { IfOk result (AnswersFacet self.now index) }
+        ensures told { IfOk result (IsFacetAnswered self.now index) }
+        ensures err { IfErr result (Failed (IsNormalStep self.now.variables (others_of index self.now.normals) (normal_at self.now index))) }
         // no step leaves the range with three variables and entries up to 500
         ensures three_columns { self.now.variables ≤ 3 → HaveEntriesUpTo 500 self.now.normals → IfErr result (λ e. e ≡ Memory) }
     {
         let normals = self.normals();
         let alloc = *self.vectors.allocator();
-        let rows = others(alloc, normals, place)?;
-        match solved(alloc, self.variables, rows.as_slice(), &normals[place])? {
+        let rows = others(alloc, normals, index)?;
+        match solved(alloc, self.variables, rows.as_slice(), &normals[index])? {
             FlipAnswer::Yes { witness } => Ok(FacetAnswer::Facet { witness }),
             FlipAnswer::No { times, multipliers } => {
                 Ok(FacetAnswer::Redundant { times, multipliers })
@@ -220,7 +220,7 @@ impl Cone {
         }
     }
 
-    /// Whether a flip may cross the facet of the normal at a place, counted from 0, inside a region.
+    /// Whether a flip may cross the facet of the normal at an index, counted from 0, inside a region.
     ///
     /// The answer holds a vector of the region that is zero on it and positive on all other normals, or so many times the normal
     /// as a combination of the other normals, the rows of the region and the unit vectors. On some vector of the region all
@@ -229,41 +229,41 @@ impl Cone {
     /// # Errors
     /// `Cone` names a step of the system of the other normals, the rows of the region and the unit vectors, with this normal as
     /// the equation, that leaves the range; `Memory` may come at any time.
-    pub fn flippable(&self, place: usize, region: &Region) -> Result<FlipAnswer, GordanError>
-        requires place { place < length self.now.normals }
+    pub fn flippable(&self, index: usize, region: &Region) -> Result<FlipAnswer, GordanError>
+        requires index { index < length self.now.normals }
         requires width { length region.now.root ≡ self.now.variables }
         requires interior { HasInterior (in_region region.now self.now) }
-        ensures ok { IfOk result (AnswersFlip (in_region region.now self.now) place) }
-        ensures told { IfOk result (IsFlipToldIn region.now self.now place) }
-        ensures err { IfErr result (Failed (IsNormalStep self.now.variables (other_rows (in_region region.now self.now) place) (normal_at self.now place))) }
+        ensures ok { IfOk result (AnswersFlip (in_region region.now self.now) index) }
+        ensures told { IfOk result (IsFlipToldIn region.now self.now index) }
+        ensures err { IfErr result (Failed (IsNormalStep self.now.variables (other_rows (in_region region.now self.now) index) (normal_at self.now index))) }
         // no step leaves the range with three variables and entries up to 500
         ensures three_columns { self.now.variables ≤ 3 → HaveEntriesUpTo 500 (all_rows (in_region region.now self.now)) → IfErr result (λ e. e ≡ Memory) }
     {
         let normals = self.normals();
         let alloc = *self.vectors.allocator();
-        let list = others(alloc, normals, place)?;
+        let list = others(alloc, normals, index)?;
         let more = with_copies(list, region.rows())?;
         let rows = with_units(alloc, more, self.variables as usize)?;
-        solved(alloc, self.variables, rows.as_slice(), &normals[place])
+        solved(alloc, self.variables, rows.as_slice(), &normals[index])
     }
 
-    /// A positive vector that is zero on the normal at a place and positive on all other normals, or none where there is none.
+    /// A positive vector that is zero on the normal at an index and positive on all other normals, or none where there is none.
     ///
     /// # Errors
     /// `Cone` names a step of the system of the other normals and the unit vectors, with this normal as the equation, that
     /// leaves the range; `Memory` may come at any time.
-    pub fn crossing(&self, place: usize) -> Result<Option<IntVec>, GordanError>
-        requires { place < length self.now.normals }
-        ensures yes { IfOk result (λ o. IfSome o (IsSolution self.now.variables (other_rows self.now place) (normal_at self.now place ∷ []))) }
-        ensures no { IfOk result (λ o. IsNone o → IsCrossable self.now place → ⊥) }
-        ensures err { IfErr result (Failed (IsNormalStep self.now.variables (other_rows self.now place) (normal_at self.now place))) }
+    pub fn crossing(&self, index: usize) -> Result<Option<IntVec>, GordanError>
+        requires { index < length self.now.normals }
+        ensures yes { IfOk result (λ o. IfSome o (IsSolution self.now.variables (other_rows self.now index) (normal_at self.now index ∷ []))) }
+        ensures no { IfOk result (λ o. IsNone o → IsCrossable self.now index → ⊥) }
+        ensures err { IfErr result (Failed (IsNormalStep self.now.variables (other_rows self.now index) (normal_at self.now index))) }
         // no step leaves the range with three variables and entries up to 500
         ensures three_columns { self.now.variables ≤ 3 → HaveEntriesUpTo 500 (all_rows self.now) → IfErr result (λ e. e ≡ Memory) }
     {
         let kept = self.kept();
         let alloc = *self.vectors.allocator();
-        let list = others(alloc, kept, place)?;
+        let list = others(alloc, kept, index)?;
         let rows = with_units(alloc, list, self.variables as usize)?;
-        solution_at(alloc, self.variables, rows.as_slice(), &kept[place])
+        solution_at(alloc, self.variables, rows.as_slice(), &kept[index])
     }
 }

@@ -15,7 +15,7 @@ use gf_vec::IntVec;
 use std::alloc::{AllocError, Global};
 use std::cmp::Ordering;
 
-/// Where a vector goes into an ascending list: before that at a place, or nowhere, since it is there.
+/// Where a vector goes into an ascending list: before that at an index, or nowhere, since it is there.
 #[derive(Drop)]
 enum Placing {
     New(usize),
@@ -23,13 +23,13 @@ enum Placing {
 }
 
 /// Where a vector goes into an ascending list, which is halved until it is found.
-fn place_in(list: &[IntVec], v: &IntVec) -> Placing
+fn index_in(list: &[IntVec], v: &IntVec) -> Placing
     requires { Ascends list.now }
     ensures { IsPlacing list.now v.now result }
 {
     let mut low = 0;
     let mut high = list.len();
-    'places: while low < high {
+    'indices: while low < high {
         let middle = low + (high - low) / 2;
         match list[middle].lex_cmp(v) {
             Ordering::Less => low = middle + 1,
@@ -53,14 +53,14 @@ fn with_vector(
     ensures rises { IfOk result (λ more. Ascends more.items) }
     ensures has { IfOk result (λ more. (a : List ℤ) → Contains more.items a ↔ ((a ≡ v) ⊎ Contains list.items a)) }
 {
-    match place_in(list.as_slice(), &v) {
+    match index_in(list.as_slice(), &v) {
         Placing::Known => {
             spare.keep(v);
             Ok(list)
         }
-        Placing::New(place) => {
+        Placing::New(index) => {
             let mut more = list;
-            more.insert(place, v)?;
+            more.insert(index, v)?;
             Ok(more)
         }
     }

@@ -29,7 +29,7 @@ pub fn with_copies(list: Vec<IntVec>, from: &[IntVec]) -> Result<Vec<IntVec>, Al
     Ok(more)
 }
 
-/// Copies of all vectors but that at a place.
+/// Copies of all vectors but that at an index.
 ///
 /// # Errors
 /// Want of memory.

@@ -83,23 +83,23 @@ over_none A top = record {
   says = λ v. ((λ f x k. absurd (none_in x k)), (λ f h k. absurd (none_in h k)));
 }
 
-next_place : (places : List ℕ) (x k : ℕ) → k < length places → x ≡ get_or places k 0 → take (k + 1) places ≡ take k places ++ x ∷ []
-next_place places x k l e = take_more places k 0 l ∙ ap (λ z. take k places ++ z ∷ []) (sym e)
+next_index : (indices : List ℕ) (x k : ℕ) → k < length indices → x ≡ get_or indices k 0 → take (k + 1) indices ≡ take k indices ++ x ∷ []
+next_index indices x k l e = take_more indices k 0 l ∙ ap (λ z. take k indices ++ z ∷ []) (sym e)
 
 not_above : (x : ℤ) → x ≤ℤ x
 not_above x = omega (arith, ints)
 
-pub over_left : (A : List (List ℤ)) (top : ℕ) (places : List ℕ) (rows : List (List ℤ)) (x k : ℕ) → k < length places → x ≡ get_or places k 0 → x ≡ top →
-    AreRowsOver A top (take k places) rows → AreRowsOver A top (take (k + 1) places) rows
-over_left A top places rows x k l e q r = subst (λ z. AreRowsOver A top z rows) (sym (next_place places x k l e)) (record {
+pub over_left : (A : List (List ℤ)) (top : ℕ) (indices : List ℕ) (rows : List (List ℤ)) (x k : ℕ) → k < length indices → x ≡ get_or indices k 0 → x ≡ top →
+    AreRowsOver A top (take k indices) rows → AreRowsOver A top (take (k + 1) indices) rows
+over_left A top indices rows x k l e q r = subst (λ z. AreRowsOver A top z rows) (sym (next_index indices x k l e)) (record {
   wide = r.wide;
   drawn = r.drawn;
   says = λ v. (
-    (λ f y i. elim (Contains-last (take k places) x y i) [
+    (λ f y i. elim (Contains-last (take k indices) x y i) [
       | inl j ↦ (r.says v).0 f y j
       | inr s ↦ subst (λ z. dot (point_at A z) v ≤ℤ dot (point_at A top) v) (sym (s ∙ q)) (not_above (dot (point_at A top) v))
     ]),
-    (λ f. (r.says v).1 (λ y j. f y (first_in (take k places) x y j))),
+    (λ f. (r.says v).1 (λ y j. f y (first_in (take k indices) x y j))),
   );
 })
 
@@ -109,24 +109,24 @@ up_below a b h e u = omega (arith, ints, e, u)
 below_up : (a b h : ℤ) → h ≡ a -ℤ b → b ≤ℤ a → pos 0 ≤ℤ h
 below_up a b h e u = omega (arith, ints, e, u)
 
-pub over_more : (A : List (List ℤ)) (top : ℕ) (places : List ℕ) (rows new : List (List ℤ)) (h : List ℤ) (x k : ℕ) → top < length A → x < length A →
-    k < length places → x ≡ get_or places k 0 → IsDifference (point_at A top) (point_at A x) h → new ≡ rows ++ h ∷ [] →
-    AreRowsOver A top (take k places) rows → AreRowsOver A top (take (k + 1) places) new
-over_more A top places rows new h x k lt lx l e d n r =
-    subst (λ z. AreRowsOver A top (take (k + 1) places) z) (sym n) (subst (λ z. AreRowsOver A top z (rows ++ h ∷ []))
-    (sym (next_place places x k l e)) (record {
+pub over_more : (A : List (List ℤ)) (top : ℕ) (indices : List ℕ) (rows new : List (List ℤ)) (h : List ℤ) (x k : ℕ) → top < length A → x < length A →
+    k < length indices → x ≡ get_or indices k 0 → IsDifference (point_at A top) (point_at A x) h → new ≡ rows ++ h ∷ [] →
+    AreRowsOver A top (take k indices) rows → AreRowsOver A top (take (k + 1) indices) new
+over_more A top indices rows new h x k lt lx l e d n r =
+    subst (λ z. AreRowsOver A top (take (k + 1) indices) z) (sym n) (subst (λ z. AreRowsOver A top z (rows ++ h ∷ []))
+    (sym (next_index indices x k l e)) (record {
       wide = λ m w. All-push (λ t. length t ≡ m) rows h (r.wide m w) (d.long ∙ w top [] lt);
       drawn = λ g i. elim (Contains-last rows h g i) [ inl j ↦ r.drawn g j | inr s ↦ subst (IsDifferenceOf A) (sym s) (drawn_at A top x h lt lx d) ];
       says = λ v. (
-        (λ f y i. elim (Contains-last (take k places) x y i) [
+        (λ f y i. elim (Contains-last (take k indices) x y i) [
           | inl j ↦ (r.says v).0 (λ g kg. f g (first_in rows h g kg)) y j
           | inr s ↦ subst (λ z. dot (point_at A z) v ≤ℤ dot (point_at A top) v) (sym s)
               (up_below (dot (point_at A top) v) (dot (point_at A x) v) (dot h v) (d.value v) (f h (Contains-push rows h)))
         ]),
         (λ f g i. elim (Contains-last rows h g i) [
-          | inl j ↦ (r.says v).1 (λ y z. f y (first_in (take k places) x y z)) g j
+          | inl j ↦ (r.says v).1 (λ y z. f y (first_in (take k indices) x y z)) g j
           | inr s ↦ subst (λ (z : List ℤ). pos 0 ≤ℤ dot z v) (sym s)
-              (below_up (dot (point_at A top) v) (dot (point_at A x) v) (dot h v) (d.value v) (f x (Contains-push (take k places) x)))
+              (below_up (dot (point_at A top) v) (dot (point_at A x) v) (dot h v) (d.value v) (f x (Contains-push (take k indices) x)))
         ]),
       );
     }))
@@ -147,10 +147,10 @@ of_more_rows c p rows v e f i = (
   λ h k. up_in p v h i (subst (λ (z : List (List ℤ)). Contains z h) (sym e) (Contains-append_right c.inequalities rows h k)),
 )
 
-pub part_by : (n : ℕ) (A : List (List ℤ)) (top : ℕ) (places : List ℕ) (c p : Rows) (rows given : List (List ℤ)) →
-    ((v : List ℤ) → ((h : List ℤ) → Contains rows h → pos 0 ≤ℤ dot h v) ↔ IsAbove A top places v) → given ≡ rows →
-    p.inequalities ≡ c.inequalities ++ given → p.equations ≡ c.equations → IsPartOver n A top places c p
-part_by n A top places c p rows given says s e f v lv =
+pub part_by : (n : ℕ) (A : List (List ℤ)) (top : ℕ) (indices : List ℕ) (c p : Rows) (rows given : List (List ℤ)) →
+    ((v : List ℤ) → ((h : List ℤ) → Contains rows h → pos 0 ≤ℤ dot h v) ↔ IsAbove A top indices v) → given ≡ rows →
+    p.inequalities ≡ c.inequalities ++ given → p.equations ≡ c.equations → IsPartOver n A top indices c p
+part_by n A top indices c p rows given says s e f v lv =
     let q : p.inequalities ≡ c.inequalities ++ rows = e ∙ ap (λ z. c.inequalities ++ z) s in (
       (λ i. let r = of_more_rows c p rows v q f i in (r.0, (says v).0 r.1)),
       (λ i. more_in c p rows v q f i.0 ((says v).1 i.1)),

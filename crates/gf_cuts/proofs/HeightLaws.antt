@@ -35,12 +35,12 @@ as_wide n A xs x a e l w g = subst (λ m. AreRows m xs) (sym (ap length e ∙ w 
 pub height_at : (xs : List (List ℤ)) (a x : List ℤ) → (k : Contains xs x) → get_or (heights xs a) k.0 (pos 0) ≡ dot a x
 height_at xs a x k = get_or-map (dot a) xs k.0 x (pos 0) k.1 ∙ ap (dot a) k.2
 
-pub height_place : (xs : List (List ℤ)) (a x : List ℤ) → (k : Contains xs x) → k.0 < length (heights xs a)
-height_place xs a x k = let e = length-map xs (dot a) in let l = k.1 in omega (arith, e, l)
+pub height_index : (xs : List (List ℤ)) (a x : List ℤ) → (k : Contains xs x) → k.0 < length (heights xs a)
+height_index xs a x k = let e = length-map xs (dot a) in let l = k.1 in omega (arith, e, l)
 
 pub heights_below : (xs : List (List ℤ)) (a b x : List ℤ) → IsBelow (heights xs a) (heights xs b) → Contains xs x → dot a x ≤ℤ dot b x
 heights_below xs a b x low k =
-    let u = low.up k.0 (height_place xs a x k) in
+    let u = low.up k.0 (height_index xs a x k) in
     let p = height_at xs a x k in
     let q = height_at xs b x k in
     omega (arith, ints, u, p, q)
@@ -54,7 +54,7 @@ table_long c A = length-map A (heights (generators_of c))
 pub same_width : (n : ℕ) (A : List (List ℤ)) (x y : ℕ) → AreRows n A → x < length A → y < length A → length (point_at A x) ≡ length (point_at A y)
 same_width n A x y w l m = w x [] l ∙ sym (w y [] m)
 
--- thinned places are those of points such that each one is nowhere above one of them
+-- thinned indices are those of points such that each one is nowhere above one of them
 pub tops_of : (c : RowsAndRays) (A rows : List (List ℤ)) (count : ℕ) (all tops : List ℕ) → HasItsRays c → AreRows c.ambient A → rows ≡ table c A →
     count ≡ length rows → All (λ x. x < count) all → ((k : ℕ) → k < count → Contains all k) → IsThinned rows all tops → AreTops c.ambient A (rows_of c) tops
 tops_of c A rows count all tops r w e m below every t x l =

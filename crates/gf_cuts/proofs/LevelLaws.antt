@@ -24,7 +24,7 @@ use Rattle.gf_levels_theory.proofs.LevelLaws.{level_join}
 no_higher : (x : ℤ) → x ≤ℤ x
 no_higher x = omega (arith, ints)
 
--- where no point is above the one at a place, the part of the cone on which that holds is the cone
+-- where no point is above the one at an index, the part of the cone on which that holds is the cone
 pub over_itself : (n : ℕ) (A : List (List ℤ)) (t : ℕ) (c : Rows) → IsPartOver n A t (t ∷ []) c c
 over_itself n A t c v lv = (
   (λ s. (
@@ -59,7 +59,7 @@ pub parts_alone : (n : ℕ) (A : List (List ℤ)) (t : ℕ) (c : RowsAndRays) (o
     AreTopParts One n A t (rows_of c) (map rows_of out)
 parts_alone n A t c out e = (rows_of c, (ap (map rows_of) e, same_refl n (rows_of c)))
 
--- those of a point at one place more
+-- those of a point at one index more
 pub of_next : (members : Members) (n : ℕ) (A : List (List ℤ)) (c : Rows) (tops : List ℕ) (t k : ℕ) (out parts new : List RowsAndRays) → k < length tops →
     t ≡ get_or tops k 0 → new ≡ out ++ parts → AreOfTop members n A c tops t (map rows_of parts) →
     AreOfTops members n A c tops (take k tops) (map rows_of out) → AreOfTops members n A c tops (take (k + 1) tops) (map rows_of new)

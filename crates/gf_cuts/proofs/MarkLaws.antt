@@ -1,4 +1,4 @@
--- Marks of places where two lists are the same.
+-- Marks of indices where two lists are the same.
 use Rattle.std.proofs.Common.{◌≡◌, ℕ, ◌+◌, ◌-◌, ◌<◌, List, [], ◌∷◌, ◌++◌, length, length-append, get_or, ℤ, pos, negsuc, arith}
 use Rattle.std.proofs.Common.{sym, ap, ◌∙◌, subst, All, inl, inr}
 use Rattle.std.proofs.lemmas.Int.{ints}
@@ -6,13 +6,13 @@ use Rattle.std.proofs.lemmas.List.{get_or_append_left, get_or-append_right, get_
 use Rattle.std.proofs.lemmas.List.Elements.{All-push}
 use Rattle.gf_int_theory.specs.Range.{InRange}
 use Rattle.gf_int_theory.proofs.SignLaws.{equal_or_not}
-use Rattle.gf_duality_theory.proofs.ListLaws.{place, less, at, more}
+use Rattle.gf_duality_theory.proofs.ListLaws.{index, less, at, more}
 use Rattle.gf_cuts.specs.Heights.{IsBelow, IsMark, AreMarks, AreZero, row_at}
 
--- one element more: what holds at each place so far and at the new one
+-- one element more: what holds at each index so far and at the new one
 pub at_each : {X : Type 0} (P : ℕ → X → Type 0) (out new : List X) (x d : X) (k : ℕ) → length out ≡ k → new ≡ out ++ x ∷ [] → P k x →
     ((j : ℕ) → j < k → P j (get_or out j d)) → (j : ℕ) → j < k + 1 → P j (get_or new j d)
-at_each P out new x d k e n p f j l = subst (λ z. P j (get_or z j d)) (sym n) (elim (place k j) [
+at_each P out new x d k e n p f j l = subst (λ z. P j (get_or z j d)) (sym n) (elim (index k j) [
   | less g ↦ subst (P j) (sym (get_or_append_left out (x ∷ []) d j (omega (arith, g, e)))) (f j g)
   | at g ↦ subst (λ i. P i (get_or (out ++ x ∷ []) i d)) g (subst (P k) (sym (last_of out x d k e)) p)
   | more g ↦ absurd (omega (arith, g, l))
@@ -85,7 +85,7 @@ tied_where top xs ys ms ns k a b low l e =
       | inr d ↦ let m : get_or ns k (pos 0) ≡ negsuc 0 = (b.each k l).other d in absurd (omega (arith, ints, z, u, m))
     ]
 
--- where all marks are zero, both lists are the same at each place
+-- where all marks are zero, both lists are the same at each index
 pub all_tied : (top ys ns : List ℤ) (k : ℕ) → AreMarks top ys ns → AreZero ns → k < length top →
     get_or top k (pos 0) ≡ get_or ys k (pos 0)
 all_tied top ys ns k b f l =

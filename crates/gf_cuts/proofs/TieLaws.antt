@@ -14,9 +14,9 @@ use Rattle.gf_patterns_theory.specs.PatternRows.{point_at}
 use Rattle.gf_rays.specs.Cones.{RowsAndRays, rows_of}
 use Rattle.gf_levels_theory.specs.Parts.{IsTopOn, IsTiePart, AreTieParts}
 use Rattle.gf_levels_theory.proofs.ProductLaws.{below_on, tied_too}
-use Rattle.gf_cuts.specs.Heights.{HasItsRays, generators_of, table, row_at, IsThinned, ArePlacesBut, AreMarks, AreMarkRows, AreZero}
+use Rattle.gf_cuts.specs.Heights.{HasItsRays, generators_of, table, row_at, IsThinned, AreIndicesBut, AreMarks, AreMarkRows, AreZero}
 use Rattle.gf_cuts.proofs.MarkLaws.{tied_where, all_tied}
-use Rattle.gf_cuts.proofs.HeightLaws.{height_at, height_place, table_row, table_long, same_width, thinned_as}
+use Rattle.gf_cuts.proofs.HeightLaws.{height_at, height_index, table_row, table_long, same_width, thinned_as}
 
 -- the heights of two points at a vector that generates the cone, and what marks say of them
 pub tied_at : (c : RowsAndRays) (A : List (List ℤ)) (top x : ℕ) (z : List ℤ) → top < length A → x < length A → (k : Contains (generators_of c) z) →
@@ -31,11 +31,11 @@ at_tied c A top x z lt lx k e =
     sym (height_at (generators_of c) (point_at A top) z k) ∙ ap (λ s. get_or s k.0 (pos 0)) (sym (table_row c A top lt)) ∙ e
     ∙ ap (λ s. get_or s k.0 (pos 0)) (table_row c A x lx) ∙ height_at (generators_of c) (point_at A x) z k
 
-at_place : (c : RowsAndRays) (A : List (List ℤ)) (top : ℕ) (z : List ℤ) → top < length A → (k : Contains (generators_of c) z) →
+at_index : (c : RowsAndRays) (A : List (List ℤ)) (top : ℕ) (z : List ℤ) → top < length A → (k : Contains (generators_of c) z) →
     k.0 < length (row_at (table c A) top)
-at_place c A top z lt k = subst (λ s. k.0 < length s) (sym (table_row c A top lt)) (height_place (generators_of c) (point_at A top) z k)
+at_index c A top z lt k = subst (λ s. k.0 < length s) (sym (table_row c A top lt)) (height_index (generators_of c) (point_at A top) z k)
 
--- what is known of the parts of a cone: the marks of the points against the highest one, and thinned places
+-- what is known of the parts of a cone: the marks of the points against the highest one, and thinned indices
 pub record AreMarked (c : RowsAndRays) (A rows marks : List (List ℤ)) (top count : ℕ) (others kept : List ℕ) : Type 0 where
   pub are_rays : HasItsRays c
   pub wide : AreRows c.ambient A
@@ -44,12 +44,12 @@ pub record AreMarked (c : RowsAndRays) (A rows marks : List (List ℤ)) (top cou
   pub rows_are : rows ≡ table c A
   pub marks_are : AreMarkRows rows top marks
   pub count_is : count ≡ length A
-  pub others_are : ArePlacesBut count top others
+  pub others_are : AreIndicesBut count top others
   pub thinned : IsThinned marks others kept
 
 -- as it was found
 pub marked_of : (c : RowsAndRays) (A rows marks read : List (List ℤ)) (top count : ℕ) (others given kept : List ℕ) → HasItsRays c → AreRows c.ambient A →
-    top < length A → IsTopOn c.ambient A top (rows_of c) → rows ≡ table c A → AreMarkRows rows top marks → count ≡ length A → ArePlacesBut count top others →
+    top < length A → IsTopOn c.ambient A top (rows_of c) → rows ≡ table c A → AreMarkRows rows top marks → count ≡ length A → AreIndicesBut count top others →
     read ≡ marks → given ≡ others → IsThinned read given kept → AreMarked c A rows marks top count others kept
 marked_of c A rows marks read top count others given kept r w l highest e m q o f g t = record {
   are_rays = r;
@@ -76,7 +76,7 @@ marked_row c A rows marks top count others kept m x l =
     subst (λ z. AreMarks (row_at z top) (row_at z x) (row_at marks x)) m.rows_are
     (m.marks_are.each x (let e = ap length m.rows_are ∙ table_long c A in omega (arith, l, e)))
 
--- for each other place one that is kept, whose point is as high as the highest one wherever that of the place is
+-- for each other index one that is kept, whose point is as high as the highest one wherever that of the index is
 pub kept_for : (c : RowsAndRays) (A rows marks : List (List ℤ)) (top count : ℕ) (others kept : List ℕ) → AreMarked c A rows marks top count others kept →
     (x : ℕ) → x < length A → x ≢ top → (y : ℕ) × (Contains kept y × ((v : List ℤ) → length v ≡ c.ambient → IsInCone (rows_of c) v →
     dot (point_at A x) v ≡ dot (point_at A top) v → dot (point_at A y) v ≡ dot (point_at A top) v))
@@ -92,7 +92,7 @@ kept_for c A rows marks top count others kept m x lx o =
         λ v lv iv e. tied_too c.ambient (rows_of c) c.lineality c.rays A top x y v m.are_rays m.wide m.inside lx ly m.highest
             (λ z kz q. at_tied c A top y z m.inside ly kz
             (tied_where (row_at (table c A) top) (row_at (table c A) x) (row_at (table c A) y) (row_at marks x) (row_at marks y) kz.0 mx my k.1.1
-            (at_place c A top z m.inside kz) (tied_at c A top x z m.inside lx kz q))) lv iv e,
+            (at_index c A top z m.inside kz) (tied_at c A top x z m.inside lx kz q))) lv iv e,
       ),
     )
 
@@ -104,7 +104,7 @@ whole_tied c A rows marks top count others kept m y ky f v lv iv =
     let ly = (kept_inside c A rows marks top count others kept m y ky).0 in
     let my = marked_row c A rows marks top count others kept m y ly in
     let same : (z : List ℤ) → Contains (generators_of c) z → dot (point_at A top) z ≡ dot (point_at A y) z = λ z kz.
-    at_tied c A top y z m.inside ly kz (all_tied (row_at (table c A) top) (row_at (table c A) y) (row_at marks y) kz.0 my f (at_place c A top z m.inside kz)) in
+    at_tied c A top y z m.inside ly kz (all_tied (row_at (table c A) top) (row_at (table c A) y) (row_at marks y) kz.0 my f (at_index c A top z m.inside kz)) in
     let e = same_width c.ambient A top y m.wide m.inside ly in
     let p = below_on c.ambient (rows_of c) c.lineality c.rays (point_at A top) (point_at A y) v m.are_rays e
     (λ z kz. let q = same z kz in omega (arith, ints, q)) lv iv in
@@ -112,7 +112,7 @@ whole_tied c A rows marks top count others kept m y ky f v lv iv =
     (λ z kz. let q = same z kz in omega (arith, ints, q)) lv iv in
     omega (arith, ints, p, q)
 
--- the parts at the places that are kept
+-- the parts at the indices that are kept
 pub kept_parts : (c : RowsAndRays) (A rows marks : List (List ℤ)) (top count : ℕ) (others kept : List ℕ) (out : List RowsAndRays) →
     AreMarked c A rows marks top count others kept →
     AllZip (λ (x : ℕ) (p : RowsAndRays). IsTiePart c.ambient A top x (rows_of c) (rows_of p)) kept out →
@@ -167,9 +167,9 @@ even_rows c A rows x y lx ly e =
 pub rows_long : (c : RowsAndRays) (A rows : List (List ℤ)) → rows ≡ table c A → length rows ≡ length A
 rows_long c A rows e = ap length e ∙ table_long c A
 
--- other places are places of marks
+-- other indices are indices of marks
 pub others_inside : (rows marks : List (List ℤ)) (top count : ℕ) (others : List ℕ) → AreMarkRows rows top marks → count ≡ length rows →
-    ArePlacesBut count top others → All (λ x. x < length marks) others
+    AreIndicesBut count top others → All (λ x. x < length marks) others
 others_inside rows marks top count others m e o = all_by (λ x. x < length marks) others (λ x k.
     let l = (o.each x k).0 in
     let q = m.long in

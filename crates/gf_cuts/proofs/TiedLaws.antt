@@ -10,7 +10,7 @@ use Rattle.gf_vec.specs.Vector.{dot, opposite}
 use Rattle.gf_gordan.specs.Alternative.{AreRows}
 use Rattle.gf_duality_theory.specs.Rays.{IsRays}
 use Rattle.gf_duality_theory.specs.Faces.{Rows, IsInCone, SameCone, part}
-use Rattle.gf_duality_theory.proofs.ListLaws.{none_in, in_cons, first_in, place, less, at, more}
+use Rattle.gf_duality_theory.proofs.ListLaws.{none_in, in_cons, first_in, index, less, at, more}
 use Rattle.gf_duality_theory.proofs.Determined.{same_rays_of}
 use Rattle.gf_fans_theory.specs.FaceLists.{IsPartOn, numbered}
 use Rattle.gf_fans_theory.proofs.FaceLaws.{face_rays}
@@ -19,26 +19,26 @@ use Rattle.gf_fans_theory.proofs.PartNumbers.{at_number, of_number, numbered_asc
 use Rattle.gf_patterns_theory.specs.PatternRows.{point_at}
 use Rattle.gf_rays.specs.Cones.{RowsAndRays, rows_of}
 use Rattle.gf_levels_theory.specs.Parts.{IsTopOn, IsTiePart}
-use Rattle.gf_cuts.specs.Heights.{HasItsRays, generators_of, heights, table, row_at, AreTiedPlaces}
+use Rattle.gf_cuts.specs.Heights.{HasItsRays, generators_of, heights, table, row_at, AreTiedIndices}
 use Rattle.gf_cuts.proofs.AboveLaws.{IsDifference}
 use Rattle.gf_cuts.proofs.HeightLaws.{table_row, table_long}
 use Rattle.gf_cuts.proofs.TieLaws.{at_tied, tied_at}
 
--- ---- places at which two lists have the same entry, one place further
+-- ---- indices at which two lists have the same entry, one index further
 
-pub tied_none : (xs ys : List ℤ) → AreTiedPlaces xs ys 0 []
+pub tied_none : (xs ys : List ℤ) → AreTiedIndices xs ys 0 []
 tied_none xs ys = record {
   ascending = λ i j d h l. absurd (omega (arith, l));
   each = λ k c. absurd (none_in k c);
   every = λ k l e. absurd (omega (arith, l));
 }
 
-pub tied_left : (xs ys : List ℤ) (k : ℕ) (out : List ℕ) → get_or xs k (pos 0) ≢ get_or ys k (pos 0) → AreTiedPlaces xs ys k out →
-    AreTiedPlaces xs ys (k + 1) out
+pub tied_left : (xs ys : List ℤ) (k : ℕ) (out : List ℕ) → get_or xs k (pos 0) ≢ get_or ys k (pos 0) → AreTiedIndices xs ys k out →
+    AreTiedIndices xs ys (k + 1) out
 tied_left xs ys k out d t = record {
   ascending = t.ascending;
   each = λ j c. let r = t.each j c in let l = r.0 in (omega (arith, l), r.1);
-  every = λ j l e. elim (place k j) [
+  every = λ j l e. elim (index k j) [
     | less g ↦ t.every j g e
     | at g ↦ absurd (d (subst (λ z. get_or xs z (pos 0) ≡ get_or ys z (pos 0)) (sym g) e))
     | more g ↦ absurd (omega (arith, g, l))
@@ -46,23 +46,23 @@ tied_left xs ys k out d t = record {
 }
 
 pub tied_more : (xs ys : List ℤ) (k : ℕ) (out new : List ℕ) → get_or xs k (pos 0) ≡ get_or ys k (pos 0) → new ≡ out ++ k ∷ [] →
-    AreTiedPlaces xs ys k out → AreTiedPlaces xs ys (k + 1) new
-tied_more xs ys k out new q n t = subst (AreTiedPlaces xs ys (k + 1)) (sym n) (record {
+    AreTiedIndices xs ys k out → AreTiedIndices xs ys (k + 1) new
+tied_more xs ys k out new q n t = subst (AreTiedIndices xs ys (k + 1)) (sym n) (record {
   ascending = all_pairs_push (λ i j. i < j) out k t.ascending (λ i d l. (t.each (get_or out i d) (i, l, get_or_default out i (get_or out i d) d l)).0);
   each = λ j c. elim (Contains-last out k j c) [
     | inl i ↦ let r = t.each j i in let l = r.0 in (omega (arith, l), r.1)
     | inr e ↦ (omega (arith, e), subst (λ z. get_or xs z (pos 0) ≡ get_or ys z (pos 0)) (sym e) q)
   ];
-  every = λ j l e. elim (place k j) [
+  every = λ j l e. elim (index k j) [
     | less g ↦ first_in out k j (t.every j g e)
     | at g ↦ subst (Contains (out ++ k ∷ [])) g (Contains-push out k)
     | more g ↦ absurd (omega (arith, g, l))
   ];
 })
 
--- ---- the rays at these places
+-- ---- the rays at these indices
 
--- a ray has its place among what generates the cone
+-- a ray has its index among what generates the cone
 ray_inside : (c : RowsAndRays) (i : ℕ) → i < length c.rays → i < length (generators_of c)
 ray_inside c i l = let e = length-append c.rays (c.lineality ++ map opposite c.lineality) in omega (arith, e, l)
 
@@ -84,14 +84,14 @@ only h s P p k = elim (in_cons h [] s k) [ inl q ↦ subst P (sym q) p | inr o �
 pub one_row : (n : ℕ) (h : List ℤ) → length h ≡ n → AreRows n (h ∷ [])
 one_row n h e = all_by (λ t. length t ≡ n) (h ∷ []) (λ t k. only h t (λ (t : List ℤ). length t ≡ n) e k)
 
-tied_part : (c : RowsAndRays) (A : List (List ℤ)) (top x : ℕ) (h : List ℤ) (places : List ℕ) → HasItsRays c → top < length A → x < length A →
-    IsDifference (point_at A top) (point_at A x) h → AreTiedPlaces (row_at (table c A) top) (row_at (table c A) x) (length c.rays) places →
-    IsPartOn (h ∷ []) c.rays (numbered c.rays places)
-tied_part c A top x h places r lt lx d t = record {
-  ascending = numbered_ascends c.rays places r.ascending
-      (record { ascending = t.ascending; inside = all_by (λ i. i < length c.rays) places (λ i k. (t.each i k).0) });
+tied_part : (c : RowsAndRays) (A : List (List ℤ)) (top x : ℕ) (h : List ℤ) (indices : List ℕ) → HasItsRays c → top < length A → x < length A →
+    IsDifference (point_at A top) (point_at A x) h → AreTiedIndices (row_at (table c A) top) (row_at (table c A) x) (length c.rays) indices →
+    IsPartOn (h ∷ []) c.rays (numbered c.rays indices)
+tied_part c A top x h indices r lt lx d t = record {
+  ascending = numbered_ascends c.rays indices r.ascending
+      (record { ascending = t.ascending; inside = all_by (λ i. i < length c.rays) indices (λ i k. (t.each i k).0) });
   each = λ z k.
-      let o = of_number c.rays places z k in
+      let o = of_number c.rays indices z k in
       let e = t.each o.0 o.1.0 in
       let y : List ℤ = get_or c.rays o.0 [] in
       let at_y : get_or c.rays o.0 y ≡ y = get_or_default c.rays o.0 y [] e.0 in
@@ -104,7 +104,7 @@ tied_part c A top x h places r lt lx d t = record {
   every = λ z kz f.
       let e : get_or c.rays kz.0 [] ≡ z = get_or_default c.rays kz.0 [] z kz.1 ∙ kz.2 in
       let q = zero_same (dot (point_at A top) z) (dot (point_at A x) z) (dot h z) (d.value z) (f h (Contains-here h [])) in
-      subst (Contains (numbered c.rays places)) e (at_number c.rays places kz.0 (t.every kz.0 kz.1 (tied_at c A top x z lt lx
+      subst (Contains (numbered c.rays indices)) e (at_number c.rays indices kz.0 (t.every kz.0 kz.1 (tied_at c A top x z lt lx
       (kz.0, ray_inside c kz.0 kz.1, ray_at c kz.0 z kz.1 kz.2) q)));
 }
 
@@ -130,28 +130,28 @@ out_of_row c h v iv = is_in (rows_of c) v (λ g k. up_in (with_row c h) v g iv (
     (λ g k. zero_in (with_row c h) v g iv k)
 
 -- the part of a cone on which another point is as high as the highest one has the rays on which it is
-pub tied_rays : (c : RowsAndRays) (A : List (List ℤ)) (top x : ℕ) (h : List ℤ) (places : List ℕ) → HasItsRays c → top < length A → x < length A →
+pub tied_rays : (c : RowsAndRays) (A : List (List ℤ)) (top x : ℕ) (h : List ℤ) (indices : List ℕ) → HasItsRays c → top < length A → x < length A →
     IsTopOn c.ambient A top (rows_of c) → IsDifference (point_at A top) (point_at A x) h →
-    AreTiedPlaces (row_at (table c A) top) (row_at (table c A) x) (length c.rays) places →
-    IsRays c.ambient c.inequalities (c.equations ++ h ∷ []) c.lineality (numbered c.rays places)
-tied_rays c A top x h places r lt lx highest d t =
+    AreTiedIndices (row_at (table c A) top) (row_at (table c A) x) (length c.rays) indices →
+    IsRays c.ambient c.inequalities (c.equations ++ h ∷ []) c.lineality (numbered c.rays indices)
+tied_rays c A top x h indices r lt lx highest d t =
     let n : ℕ = c.ambient in
     let e : Rows = with_row c h in
     let zero : List (List ℤ) = h ∷ [] in
     let whole : SameCone n (rows_of c) e = λ v lv. ((λ s. into_row c h v s (row_up c A top x h v lx highest d lv s)), λ s. out_of_row c h v s) in
-    let face : IsRays n e.inequalities (c.equations ++ zero) c.lineality (numbered c.rays places) =
-    face_rays n e.inequalities c.equations c.lineality c.rays zero (numbered c.rays places) (same_rays_of n (rows_of c) e c.lineality c.rays whole r)
-    (λ s k. Contains-append_right c.inequalities zero s k) (tied_part c A top x h places r lt lx d t) in
+    let face : IsRays n e.inequalities (c.equations ++ zero) c.lineality (numbered c.rays indices) =
+    face_rays n e.inequalities c.equations c.lineality c.rays zero (numbered c.rays indices) (same_rays_of n (rows_of c) e c.lineality c.rays whole r)
+    (λ s k. Contains-append_right c.inequalities zero s k) (tied_part c A top x h indices r lt lx d t) in
     let same : SameCone n (part e zero) (part (rows_of c) zero) = λ v lv. (
       (λ s. part_in (rows_of c) zero v (out_of_row c h v (of_part e zero v s)) (λ g k. part_zero e zero v g s k)),
       (λ s.
           let s_in = of_part (rows_of c) zero v s in
           part_in e zero v (into_row c h v s_in (row_up c A top x h v lx highest d lv s_in)) (λ g k. part_zero (rows_of c) zero v g s k)),
     ) in
-    same_rays_of n (part e zero) (part (rows_of c) zero) c.lineality (numbered c.rays places) same face
+    same_rays_of n (part e zero) (part (rows_of c) zero) c.lineality (numbered c.rays indices) same face
 
-pub tied_inside : (xs ys : List ℤ) (count : ℕ) (places : List ℕ) → AreTiedPlaces xs ys count places → All (λ i. i < count) places
-tied_inside xs ys count places t = all_by (λ i. i < count) places (λ i k. (t.each i k).0)
+pub tied_inside : (xs ys : List ℤ) (count : ℕ) (indices : List ℕ) → AreTiedIndices xs ys count indices → All (λ i. i < count) indices
+tied_inside xs ys count indices t = all_by (λ i. i < count) indices (λ i k. (t.each i k).0)
 
 -- rows as they are read: at least as many entries as rays
 pub rays_fit : (c : RowsAndRays) (A rows : List (List ℤ)) (x : ℕ) (a : List ℤ) → x < length A → rows ≡ table c A → a ≡ get_or rows x a →
@@ -165,15 +165,15 @@ rays_fit c A rows x a l e f =
     omega (arith, width, parts)
 
 -- as they were found
-pub tied_as : (c : RowsAndRays) (A rows : List (List ℤ)) (top x : ℕ) (a b : List ℤ) (count : ℕ) (places : List ℕ) → top < length A → x < length A →
-    rows ≡ table c A → a ≡ get_or rows top a → b ≡ get_or rows x b → count ≡ length c.rays → AreTiedPlaces a b count places →
-    AreTiedPlaces (row_at (table c A) top) (row_at (table c A) x) (length c.rays) places
-tied_as c A rows top x a b count places lt lx e f g q t =
+pub tied_as : (c : RowsAndRays) (A rows : List (List ℤ)) (top x : ℕ) (a b : List ℤ) (count : ℕ) (indices : List ℕ) → top < length A → x < length A →
+    rows ≡ table c A → a ≡ get_or rows top a → b ≡ get_or rows x b → count ≡ length c.rays → AreTiedIndices a b count indices →
+    AreTiedIndices (row_at (table c A) top) (row_at (table c A) x) (length c.rays) indices
+tied_as c A rows top x a b count indices lt lx e f g q t =
     let long : length rows ≡ length A = ap length e ∙ table_long c A in
     let first : a ≡ row_at (table c A) top = f ∙ get_or_default rows top a [] (omega (arith, lt, long)) ∙ ap (λ z. row_at z top) e in
     let second : b ≡ row_at (table c A) x = g ∙ get_or_default rows x b [] (omega (arith, lx, long)) ∙ ap (λ z. row_at z x) e in
-    subst (λ z. AreTiedPlaces z (row_at (table c A) x) (length c.rays) places) first
-    (subst (λ z. AreTiedPlaces a z (length c.rays) places) second (subst (λ k. AreTiedPlaces a b k places) q t))
+    subst (λ z. AreTiedIndices z (row_at (table c A) x) (length c.rays) indices) first
+    (subst (λ z. AreTiedIndices a z (length c.rays) indices) second (subst (λ k. AreTiedIndices a b k indices) q t))
 
 -- ---- the part itself
 

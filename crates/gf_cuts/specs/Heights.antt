@@ -24,31 +24,31 @@ heights xs a = map (dot a) xs
 abbrev pub table : RowsAndRays → List (List ℤ) → List (List ℤ)
 table c A = map (heights (generators_of c)) A
 
--- equally many numbers, none of them above that of the other list at its place
+-- equally many numbers, none of them above that of the other list at its index
 pub record IsBelow (xs ys : List ℤ) : Type 0 where
   pub long : length xs ≡ length ys
   pub up : (k : ℕ) → k < length xs → slice_index_or xs k (pos 0) ≤ℤ slice_index_or ys k (pos 0)
 
--- the row at a place
+-- the row at an index
 abbrev pub row_at : List (List ℤ) → ℕ → List ℤ
 row_at rows i = slice_index_or rows i []
 
--- some of the places, so that the row at each of the places is below that at one of these
-pub record IsThinned (rows : List (List ℤ)) (places kept : List ℕ) : Type 0 where
-  pub each : (y : ℕ) → Contains kept y → Contains places y
-  pub every : (x : ℕ) → Contains places x → (y : ℕ) × (Contains kept y × IsBelow (row_at rows x) (row_at rows y))
+-- some of the indices, so that the row at each of the indices is below that at one of these
+pub record IsThinned (rows : List (List ℤ)) (indices kept : List ℕ) : Type 0 where
+  pub each : (y : ℕ) → Contains kept y → Contains indices y
+  pub every : (x : ℕ) → Contains indices x → (y : ℕ) × (Contains kept y × IsBelow (row_at rows x) (row_at rows y))
 
--- the places below a number but one
-pub record ArePlacesBut (count but : ℕ) (places : List ℕ) : Type 0 where
-  pub each : (k : ℕ) → Contains places k → (k < count) × (k ≢ but)
-  pub every : (k : ℕ) → k < count → k ≢ but → Contains places k
+-- the indices below a number but one
+pub record AreIndicesBut (count but : ℕ) (indices : List ℕ) : Type 0 where
+  pub each : (k : ℕ) → Contains indices k → (k < count) × (k ≢ but)
+  pub every : (k : ℕ) → k < count → k ≢ but → Contains indices k
 
 -- 0 where both numbers are the same, else -1
 pub record IsMark (x y m : ℤ) : Type 0 where
   pub same : x ≡ y → m ≡ pos 0
   pub other : x ≢ y → m ≡ negsuc 0
 
--- that for each place of two lists
+-- that for each index of two lists
 pub record AreMarks (xs ys ms : List ℤ) : Type 0 where
   pub long : length ms ≡ length xs
   pub each : (k : ℕ) → k < length xs → IsMark (slice_index_or xs k (pos 0)) (slice_index_or ys k (pos 0)) (slice_index_or ms k (pos 0))
@@ -62,14 +62,14 @@ pub record AreMarkRows (rows : List (List ℤ)) (top : ℕ) (marks : List (List 
 abbrev pub AreZero : List ℤ → Type 0
 AreZero xs = (k : ℕ) → k < length xs → slice_index_or xs k (pos 0) ≡ pos 0
 
--- the places below a number, ascending, at which both lists have the same entry
-pub record AreTiedPlaces (xs ys : List ℤ) (count : ℕ) (places : List ℕ) : Type 0 where
-  pub ascending : AllPairs (λ i j. i < j) places
-  pub each : (k : ℕ) → Contains places k → (k < count) × (slice_index_or xs k (pos 0) ≡ slice_index_or ys k (pos 0))
-  pub every : (k : ℕ) → k < count → slice_index_or xs k (pos 0) ≡ slice_index_or ys k (pos 0) → Contains places k
+-- the indices below a number, ascending, at which both lists have the same entry
+pub record AreTiedIndices (xs ys : List ℤ) (count : ℕ) (indices : List ℕ) : Type 0 where
+  pub ascending : AllPairs (λ i j. i < j) indices
+  pub each : (k : ℕ) → Contains indices k → (k < count) × (slice_index_or xs k (pos 0) ≡ slice_index_or ys k (pos 0))
+  pub every : (k : ℕ) → k < count → slice_index_or xs k (pos 0) ≡ slice_index_or ys k (pos 0) → Contains indices k
 
--- rows that are negative nowhere exactly where none of the points at these places is above the one at top; each is one of the points less one of them
-pub record AreRowsOver (A : List (List ℤ)) (top : ℕ) (places : List ℕ) (rows : List (List ℤ)) : Type 0 where
+-- rows that are negative nowhere exactly where none of the points at these indices is above the one at top; each is one of the points less one of them
+pub record AreRowsOver (A : List (List ℤ)) (top : ℕ) (indices : List ℕ) (rows : List (List ℤ)) : Type 0 where
   pub wide : (n : ℕ) → AreRows n A → AreRows n rows
   pub drawn : (h : List ℤ) → Contains rows h → IsDifferenceOf A h
-  pub says : (v : List ℤ) → ((h : List ℤ) → Contains rows h → pos 0 ≤ℤ dot h v) ↔ IsAbove A top places v
+  pub says : (v : List ℤ) → ((h : List ℤ) → Contains rows h → pos 0 ≤ℤ dot h v) ↔ IsAbove A top indices v

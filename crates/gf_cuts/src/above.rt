@@ -24,7 +24,7 @@ pub(crate) fn difference(x: &IntVec, y: &IntVec) -> Result<IntVec, VecError>
     Ok(x.add(&turned)?)
 }
 
-/// The point at `top` less each of those at these places but itself.
+/// The point at `top` less each of those at these indices but itself.
 ///
 /// # Errors
 /// A difference that leaves the range; want of memory.
@@ -32,15 +32,15 @@ fn rows_over(
     alloc: Global,
     points: &[IntVec],
     top: usize,
-    places: &[usize],
+    indices: &[usize],
 ) -> Result<Vec<IntVec>, VecError>
     requires wide { (n : ℕ) × AreRows n points.now }
     requires top { top < length points.now }
-    requires places { All (λ x. x < length points.now) places.now }
-    ensures { IfOk result (λ out. AreRowsOver points.now top places.now out.items) }
+    requires indices { All (λ x. x < length points.now) indices.now }
+    ensures { IfOk result (λ out. AreRowsOver points.now top indices.now out.items) }
 {
     let mut out = Vec::new(alloc);
-    for x in places {
+    for x in indices {
         if *x != top {
             out.push(difference(&points[top], &points[*x])?)?;
         }
@@ -48,7 +48,7 @@ fn rows_over(
     Ok(out)
 }
 
-/// The part of a cone on which none of the points at these places is above the one at `top`.
+/// The part of a cone on which none of the points at these indices is above the one at `top`.
 ///
 /// # Errors
 /// An operation that leaves the range; want of memory.
@@ -57,15 +57,15 @@ pub(crate) fn part_over(
     points: &[IntVec],
     cone: &Rays,
     top: usize,
-    places: &[usize],
+    indices: &[usize],
 ) -> Result<Rays, CutError>
     requires wide { AreRows cone.now.ambient points.now }
     requires top { top < length points.now }
-    requires places { All (λ x. x < length points.now) places.now }
+    requires indices { All (λ x. x < length points.now) indices.now }
     ensures ambient { IfOk result (λ p. p.ambient ≡ cone.now.ambient) }
-    ensures part { IfOk result (λ p. IsPartOver cone.now.ambient points.now top places.now (rows_of cone.now) (rows_of p)) }
+    ensures part { IfOk result (λ p. IsPartOver cone.now.ambient points.now top indices.now (rows_of cone.now) (rows_of p)) }
     ensures rows { IfOk result (λ p. IsDrawnFrom points.now (rows_of cone.now) (rows_of p)) }
 {
-    let rows = rows_over(alloc, points, top, places)?;
+    let rows = rows_over(alloc, points, top, indices)?;
     Ok(cone.with_more(&rows)?)
 }

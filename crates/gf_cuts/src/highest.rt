@@ -5,12 +5,12 @@ ghost use Rattle.gf_rays.specs.Cones.{rows_of};
 ghost use Rattle.gf_cuts.specs.Heights.{table, HasItsRays};
 ghost use Rattle.gf_levels_theory.specs.Parts.{AreTops};
 
-use crate::thinning::{places_below, thinned};
+use crate::thinning::{indices_below, thinned};
 use gf_rays::Rays;
 use gf_vec::IntVec;
 use std::alloc::{AllocError, Global};
 
-/// The places, counted from 0, of some of the points, so that on the cone each point is nowhere above one of these: the products with its rays and
+/// The indices, counted from 0, of some of the points, so that on the cone each point is nowhere above one of these: the products with its rays and
 /// lineality vectors, which are in `rows`, show it. Of points whose products are the same one is kept.
 ///
 /// # Errors
@@ -27,6 +27,6 @@ pub(crate) fn tops(
     ensures inside { IfOk result (λ out. All (λ x. x < length points.now) out.items) }
     ensures tops { IfOk result (λ out. AreTops cone.now.ambient points.now (rows_of cone.now) out.items) }
 {
-    let all = places_below(alloc, rows.len())?;
+    let all = indices_below(alloc, rows.len())?;
     thinned(alloc, rows, &all)
 }

@@ -43,13 +43,13 @@ fn is_inside(c: &Rays, d: &Rays) -> bool
     same_vectors(c.lineality(), d.lineality()) && are_some(c.rays(), d.rays())
 }
 
-/// Whether the cone lies inside one of those at these places, as their rays show.
-fn is_inside_some(cone: &Rays, cones: &[Rays], places: &[usize]) -> bool
+/// Whether the cone lies inside one of those at these indices, as their rays show.
+fn is_inside_some(cone: &Rays, cones: &[Rays], indices: &[usize]) -> bool
     requires { All (λ (d : RowsAndRays). d.ambient ≡ cone.now.ambient) cones.now }
     ensures { IsTrue result → (d : RowsAndRays) × (Contains cones.now d × IsHeldBy cone.now.ambient (rows_of cone.now) (rows_of d)) }
 {
-    for place in places {
-        let Some(d) = cones.get(*place) else {
+    for index in indices {
+        let Some(d) = cones.get(*index) else {
             continue;
         };
         if is_inside(cone, d) {

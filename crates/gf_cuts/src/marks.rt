@@ -12,7 +12,7 @@ fn mark(x: i128, y: i128) -> i128
     if x == y { 0 } else { -1 }
 }
 
-/// For each place 0 where both vectors have the same number there, else -1.
+/// For each index 0 where both vectors have the same number there, else -1.
 ///
 /// # Errors
 /// Want of memory alone.
@@ -38,7 +38,7 @@ pub(crate) fn mark_rows(
     rows: &[IntVec],
     top: usize,
 ) -> Result<Vec<IntVec>, AllocError>
-    requires place { top < length rows.now }
+    requires index { top < length rows.now }
     requires long { (k : ℕ) → k < length rows.now → length (row_at rows.now k) ≡ length (row_at rows.now top) }
     ensures { IfOk result (λ out. AreMarkRows rows.now top out.items) }
 {
@@ -62,12 +62,12 @@ fn is_zero(x: &IntVec) -> bool
     true
 }
 
-/// Whether all marks of one of these places are zero.
-pub(crate) fn is_some_zero(marks: &[IntVec], places: &[usize]) -> bool
-    requires { All (λ x. x < length marks.now) places.now }
-    ensures { IsTrue result → (y : ℕ) × (Contains places.now y × AreZero (row_at marks.now y)) }
+/// Whether all marks of one of these indices are zero.
+pub(crate) fn is_some_zero(marks: &[IntVec], indices: &[usize]) -> bool
+    requires { All (λ x. x < length marks.now) indices.now }
+    ensures { IsTrue result → (y : ℕ) × (Contains indices.now y × AreZero (row_at marks.now y)) }
 {
-    for y in places {
+    for y in indices {
         if is_zero(&marks[*y]) {
             return true;
         }

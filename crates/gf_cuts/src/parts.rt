@@ -14,7 +14,7 @@ use crate::heights::table;
 use crate::highest::tops;
 use crate::inside::{joined, outer};
 use crate::marks::{is_some_zero, mark_rows};
-use crate::thinning::{places_but, thinned};
+use crate::thinning::{indices_but, thinned};
 use crate::ties::tie_part;
 use gf_levels_theory::Members;
 use gf_rays::Rays;
@@ -33,7 +33,7 @@ fn alone(alloc: Global, cone: Rays) -> Result<Vec<Rays>, AllocError>
     Ok(out)
 }
 
-/// The parts of a cone on which the points at these places are as high as the one at `top`.
+/// The parts of a cone on which the points at these indices are as high as the one at `top`.
 ///
 /// # Errors
 /// An operation that leaves the range; want of memory.
@@ -44,20 +44,20 @@ fn tie_parts(
     cone: &Rays,
     rows: &[IntVec],
     top: usize,
-    places: &[usize],
+    indices: &[usize],
 ) -> Result<Vec<Rays>, CutError>
     requires wide { AreRows cone.now.ambient points.now }
     requires rows { rows.now ≡ table cone.now points.now }
     requires top { top < length points.now }
-    requires places { All (λ x. x < length points.now) places.now }
+    requires indices { All (λ x. x < length points.now) indices.now }
     requires highest { IsTopOn cone.now.ambient points.now top (rows_of cone.now) }
     ensures ambient { IfOk result (λ out. All (λ (p : RowsAndRays). p.ambient ≡ cone.now.ambient) out.items) }
     ensures parts { IfOk result (λ out. AllZip (λ (x : ℕ) (p : RowsAndRays). IsTiePart cone.now.ambient points.now top x (rows_of cone.now) (rows_of p))
-        places.now out.items) }
+        indices.now out.items) }
     ensures rows { IfOk result (λ out. AreDrawnFrom points.now (rows_of cone.now ∷ []) (map rows_of out.items)) }
 {
-    let mut out = Vec::with_capacity(alloc, places.len())?;
-    for x in places {
+    let mut out = Vec::with_capacity(alloc, indices.len())?;
+    for x in indices {
         out.push(tie_part(alloc, points, cone, rows, top, *x)?)?;
     }
     Ok(out)
@@ -85,7 +85,7 @@ fn all_tie_parts(
     ensures rows { IfOk result (λ out. AreDrawnFrom points.now (rows_of cone ∷ []) (map rows_of out.items)) }
 {
     let marks = mark_rows(alloc, rows, top)?;
-    let others = places_but(alloc, points.len(), top)?;
+    let others = indices_but(alloc, points.len(), top)?;
     let kept = thinned(alloc, &marks, &others)?;
     if is_some_zero(&marks, &kept) {
         return Ok(alone(alloc, cone)?);

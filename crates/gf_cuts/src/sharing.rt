@@ -10,7 +10,7 @@ const MULTIPLIER: u64 = 0x9e37_79b9_7f4a_7c15;
 /// The fewest cones that are worth buckets.
 const FEWEST: usize = 16;
 
-/// The places of some cones, and for each bucket of rays the places of those that have a ray in it.
+/// The indices of some cones, and for each bucket of rays the indices of those that have a ray in it.
 #[derive(Drop)]
 pub(crate) struct Sharing {
     all: Vec<usize>,
@@ -53,25 +53,25 @@ impl Sharing {
         })
     }
 
-    /// One cone more, at a place.
+    /// One cone more, at an index.
     ///
     /// # Errors
     /// Want of memory alone.
-    pub(crate) fn add(&mut self, place: usize, cone: &Rays) -> Result<(), AllocError> {
-        self.all.push(place)?;
+    pub(crate) fn add(&mut self, index: usize, cone: &Rays) -> Result<(), AllocError> {
+        self.all.push(index)?;
         let count = self.buckets.len();
         for ray in cone.rays() {
             let Some(k) = bucket(ray, count) else {
                 continue;
             };
-            if let Some(places) = self.buckets.get_mut(k) {
-                places.push(place)?;
+            if let Some(indices) = self.buckets.get_mut(k) {
+                indices.push(index)?;
             }
         }
         Ok(())
     }
 
-    /// The places of the cones that may have all rays of this one: those in the smallest of the buckets of its rays.
+    /// The indices of the cones that may have all rays of this one: those in the smallest of the buckets of its rays.
     pub(crate) fn near(&self, cone: &Rays) -> &[usize] {
         let count = self.buckets.len();
         let mut best = &self.all;
@@ -79,9 +79,9 @@ impl Sharing {
             let Some(k) = bucket(ray, count) else {
                 continue;
             };
-            if let Some(places) = self.buckets.get(k) {
-                if places.len() < best.len() {
-                    best = places;
+            if let Some(indices) = self.buckets.get(k) {
+                if indices.len() < best.len() {
+                    best = indices;
                 }
             }
         }

@@ -1,11 +1,11 @@
 //! Rows that are nowhere above another one.
 ghost use Rattle.std.specs.Prelude.{◌<◌, ℕ, All, Contains, IfOk, IsTrue, length};
-ghost use Rattle.gf_cuts.specs.Heights.{row_at, ArePlacesBut, IsBelow, IsThinned};
+ghost use Rattle.gf_cuts.specs.Heights.{row_at, AreIndicesBut, IsBelow, IsThinned};
 
 use gf_vec::IntVec;
 use std::alloc::{AllocError, Global};
 
-/// Whether no number of `x` is above that of `y` at its place.
+/// Whether no number of `x` is above that of `y` at its index.
 fn is_below(x: &IntVec, y: &IntVec) -> bool
     ensures { IsTrue result → IsBelow x.now y.now }
 {
@@ -22,9 +22,9 @@ fn is_below(x: &IntVec, y: &IntVec) -> bool
     true
 }
 
-/// Whether the row at `x` is below one of those at these places.
+/// Whether the row at `x` is below one of those at these indices.
 fn is_below_some(rows: &[IntVec], x: usize, kept: &[usize]) -> bool
-    requires place { x < length rows.now }
+    requires index { x < length rows.now }
     requires kept { All (λ y. y < length rows.now) kept.now }
     ensures { IsTrue result → (y : ℕ) × (Contains kept.now y × IsBelow (row_at rows.now x) (row_at rows.now y)) }
 {
@@ -36,13 +36,13 @@ fn is_below_some(rows: &[IntVec], x: usize, kept: &[usize]) -> bool
     false
 }
 
-/// The places whose rows aren't below one at a place before them that is kept.
-fn thinned_once(alloc: Global, rows: &[IntVec], places: &[usize]) -> Result<Vec<usize>, AllocError>
-    requires { All (λ x. x < length rows.now) places.now }
-    ensures { IfOk result (λ out. IsThinned rows.now places.now out.items) }
+/// The indices whose rows aren't below one at an index before them that is kept.
+fn thinned_once(alloc: Global, rows: &[IntVec], indices: &[usize]) -> Result<Vec<usize>, AllocError>
+    requires { All (λ x. x < length rows.now) indices.now }
+    ensures { IfOk result (λ out. IsThinned rows.now indices.now out.items) }
 {
     let mut kept = Vec::new(alloc);
-    for x in places {
+    for x in indices {
         if !is_below_some(rows, *x, &kept) {
             kept.push(*x)?;
         }
@@ -50,19 +50,19 @@ fn thinned_once(alloc: Global, rows: &[IntVec], places: &[usize]) -> Result<Vec<
     Ok(kept)
 }
 
-/// Some of the places, so that the row at each of them is below that at one of these, and as few as will do.
+/// Some of the indices, so that the row at each of them is below that at one of these, and as few as will do.
 ///
 /// # Errors
 /// Want of memory alone.
 pub(crate) fn thinned(
     alloc: Global,
     rows: &[IntVec],
-    places: &[usize],
+    indices: &[usize],
 ) -> Result<Vec<usize>, AllocError>
-    requires { All (λ x. x < length rows.now) places.now }
-    ensures { IfOk result (λ out. IsThinned rows.now places.now out.items) }
+    requires { All (λ x. x < length rows.now) indices.now }
+    ensures { IfOk result (λ out. IsThinned rows.now indices.now out.items) }
 {
-    let mut kept = thinned_once(alloc, rows, places)?;
+    let mut kept = thinned_once(alloc, rows, indices)?;
     kept.reverse();
     thinned_once(alloc, rows, &kept)
 }
@@ -71,7 +71,7 @@ pub(crate) fn thinned(
 ///
 /// # Errors
 /// Want of memory alone.
-pub(crate) fn places_below(alloc: Global, count: usize) -> Result<Vec<usize>, AllocError>
+pub(crate) fn indices_below(alloc: Global, count: usize) -> Result<Vec<usize>, AllocError>
     ensures below { IfOk result (λ out. All (λ x. x < count) out.items) }
     ensures every { IfOk result (λ out. (k : ℕ) → k < count → Contains out.items k) }
 {
@@ -86,8 +86,8 @@ pub(crate) fn places_below(alloc: Global, count: usize) -> Result<Vec<usize>, Al
 ///
 /// # Errors
 /// Want of memory alone.
-pub(crate) fn places_but(alloc: Global, count: usize, but: usize) -> Result<Vec<usize>, AllocError>
-    ensures { IfOk result (λ out. ArePlacesBut count but out.items) }
+pub(crate) fn indices_but(alloc: Global, count: usize, but: usize) -> Result<Vec<usize>, AllocError>
+    ensures { IfOk result (λ out. AreIndicesBut count but out.items) }
 {
     let mut out = Vec::with_capacity(alloc, count)?;
     for k in 0..count {

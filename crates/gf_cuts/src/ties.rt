@@ -5,7 +5,7 @@ ghost use Rattle.gf_patterns_theory.specs.PatternRows.{point_at, vector_differen
 ghost use Rattle.gf_rays.specs.Cones.{rows_of};
 ghost use Rattle.gf_levels_theory.specs.Parts.{IsTopOn, IsTiePart};
 ghost use Rattle.gf_cuts.specs.Drawn.{IsDrawnFrom};
-ghost use Rattle.gf_cuts.specs.Heights.{table, AreTiedPlaces};
+ghost use Rattle.gf_cuts.specs.Heights.{table, AreTiedIndices};
 
 use crate::above::difference;
 use crate::error::CutError;
@@ -13,7 +13,7 @@ use gf_rays::Rays;
 use gf_vec::{IntVec, VecError};
 use std::alloc::Global;
 
-/// Whether two lists have the same entry at a place.
+/// Whether two lists have the same entry at an index.
 fn is_same_at(left: &[i128], right: &[i128], k: usize) -> bool
     requires first { k < length left.now }
     requires second { k < length right.now }
@@ -22,14 +22,14 @@ fn is_same_at(left: &[i128], right: &[i128], k: usize) -> bool
     left[k] == right[k]
 }
 
-/// The places below a number, ascending, at which two vectors have the same entry.
+/// The indices below a number, ascending, at which two vectors have the same entry.
 ///
 /// # Errors
-/// Want of memory, as where there are `2^32` places or more.
-fn tied_places(alloc: Global, x: &IntVec, y: &IntVec, count: usize) -> Result<Vec<u32>, CutError>
+/// Want of memory, as where there are `2^32` indices or more.
+fn tied_indices(alloc: Global, x: &IntVec, y: &IntVec, count: usize) -> Result<Vec<u32>, CutError>
     requires first { count ≤ length x.now }
     requires second { count ≤ length y.now }
-    ensures { IfOk result (λ out. AreTiedPlaces x.now y.now count out.items) }
+    ensures { IfOk result (λ out. AreTiedIndices x.now y.now count out.items) }
 {
     let left = x.as_slice();
     let right = y.as_slice();
@@ -52,7 +52,7 @@ fn tied_places(alloc: Global, x: &IntVec, y: &IntVec, count: usize) -> Result<Ve
 fn tie_row(alloc: Global, points: &[IntVec], top: usize, x: usize) -> Result<Vec<IntVec>, VecError>
     requires wide { (n : ℕ) × AreRows n points.now }
     requires top { top < length points.now }
-    requires place { x < length points.now }
+    requires index { x < length points.now }
     ensures { IfOk result (λ out. out.items ≡ vector_difference (point_at points.now top) (point_at points.now x) ∷ []) }
 {
     let mut out = Vec::with_capacity(alloc, 1)?;
@@ -76,14 +76,14 @@ pub(crate) fn tie_part(
     requires wide { AreRows cone.now.ambient points.now }
     requires rows { rows.now ≡ table cone.now points.now }
     requires top { top < length points.now }
-    requires place { x < length points.now }
+    requires index { x < length points.now }
     requires highest { IsTopOn cone.now.ambient points.now top (rows_of cone.now) }
     ensures ambient { IfOk result (λ p. p.ambient ≡ cone.now.ambient) }
     ensures part { IfOk result (λ p. IsTiePart cone.now.ambient points.now top x (rows_of cone.now) (rows_of p)) }
     ensures rows { IfOk result (λ p. IsDrawnFrom points.now (rows_of cone.now) (rows_of p)) }
 {
     let rays = cone.rays();
-    let numbers = tied_places(alloc, &rows[top], &rows[x], rays.len())?;
+    let numbers = tied_indices(alloc, &rows[top], &rows[x], rays.len())?;
     let zero = tie_row(alloc, points, top, x)?;
     Ok(cone.part(&zero, &numbers)?)
 }

@@ -11,7 +11,7 @@ use Rattle.gf_dividing.specs.declared.Factors.{Factors}
 abbrev pub DividesAll : Exponents → Terms → Type 0
 DividesAll u f = Each (λ (t : Term). (k : ℕ) → entry u k ≤ entry t.mono k) f
 
--- an exponent that no monomial of f is below at a place is at most that of u there
+-- an exponent that no monomial of f is below at an index is at most that of u there
 abbrev pub IsGreatest : Exponents → Terms → Type 0
 IsGreatest u f = (j k : ℕ) → Each (λ (t : Term). j ≤ entry t.mono k) f → j ≤ entry u k
 

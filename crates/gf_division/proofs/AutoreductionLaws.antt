@@ -38,7 +38,7 @@ use Rattle.gf_division.proofs.NeededLaws.{needed_divisible}
 
 -- ---- all tails
 
--- cs are the members ks with their tails reduced by bs, place by place, and kept in as many variables
+-- cs are the members ks with their tails reduced by bs, index by index, and kept in as many variables
 pub record AreTails (bs ks cs : List MarkedPolynomial) : Type 0 where
   pub tails : AreReducedTails bs ks cs
   pub forms : AreKeptForms bs cs
@@ -76,7 +76,7 @@ forms_marked : (w : List ℕ) (bs ks : List MarkedPolynomial) → ((b : MarkedPo
     AreMarked (lighter w) ks
 forms_marked w bs ks r h k c =
     let f = h.inside k c in
-    monic_realised w f.member k f.form.form (same_of k.head f.member.head f.form.head) (r f.member (member_contained bs f.place f.member f.needed.at))
+    monic_realised w f.member k f.form.form (same_of k.head f.member.head f.form.head) (r f.member (member_contained bs f.index f.member f.needed.at))
 
 pub forms_weight : (n : ℕ) (bs cs ks ls : List MarkedPolynomial) → cs ≡ bs → ls ≡ ks → IsRealisable n bs → AreNeededForms cs ks → HasSomeWeight ls
 forms_weight n bs cs ks ls e q r h =
@@ -124,7 +124,7 @@ forms_basis n fs w bs ks p r h b = record {
 
     member : (k : MarkedPolynomial) → IsNeededForm bs k → IsMember n fs k.poly
     member k f =
-        let m = monic_of bs b.forms b.monic f.member (member_contained bs f.place f.member f.needed.at) in
+        let m = monic_of bs b.forms b.monic f.member (member_contained bs f.index f.member f.needed.at) in
         member-equal n fs m.0.poly k.poly (same_forms f.member k m.0 f.form m.2 m.3) (b.basis.members m.0 m.1)
 
 -- ---- the whole

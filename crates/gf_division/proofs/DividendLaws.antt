@@ -1,4 +1,4 @@
--- Moves of the place in a polynomial under reduction.
+-- Moves of the index in a polynomial under reduction.
 -- To cite: moved, over_last, shorter, terms_up, first_coefficient, first_nonzero, first_length.
 use Rattle.std.specs.Prelude.{◌≡◌, ◌≢◌, ℕ, zero, suc, ◌-◌, ◌<◌, [], ◌∷◌, ◌++◌, length, reverse}
 use Rattle.std.specs.declared.cmp.Ordering.TheVariants.{Greater}
@@ -14,13 +14,13 @@ use Rattle.gf_poly.proofs.DescendingLaws.{greater_trans}
 use Rattle.gf_division.proofs.DescendingParts.{descending-back, variables-back, coefficient-midst}
 use Rattle.gf_division.specs.Dividends.{Split, joined_terms, IsSound, IsTermInFront, AreOver, PassesOne, MovesUp}
 
--- ---- one term over the place
+-- ---- one term over the index
 
 pub moved : (a b c d : Terms) (t : Term) → b ≡ d ++ t ∷ [] → c ≡ a ++ t ∷ [] →
     PassesOne (record { above = a; below = reverse b }) (record { above = c; below = reverse d })
 moved a b c d t e k = record { term = t; below = ap reverse e ∙ reverse-append d (t ∷ []); above = k }
 
--- ---- the last term above the place
+-- ---- the last term above the index
 
 at_last : (x : Exponents) (f : Terms) (k : ℕ) (t : Term) → length f ≡ suc k → t ≡ get_or f k t → deglex t.mono x ≡ Greater → IsDescending f → AreOver x f
 at_last x [] k t l e g d = absurd (omega arith)
@@ -40,7 +40,7 @@ over_last x f (suc n) t l z e g d =
 
 -- ---- many terms down
 
--- old became new as terms greater than x went above the place
+-- old became new as terms greater than x went above the index
 pub record Descending (x : Exponents) (old new : Split) : Type 0 where
   pub passed : Terms
   pub above : new.above ≡ old.above ++ passed
@@ -61,7 +61,7 @@ pub terms_down : (old new : Split) → PassesOne old new → joined_terms new �
 terms_down old new a = ap (λ (z : Terms). z ++ new.below) a.above ∙ append_assoc old.above (a.term ∷ []) new.below ∙
     ap (λ (z : Terms). old.above ++ z) (sym a.below)
 
--- ---- the first term below the place
+-- ---- the first term below the index
 
 pub first_coefficient : (n : ℕ) (s : Split) (t : Term) → IsSound n s → IsTermInFront s.below t → coefficient (joined_terms s) (head_of s.below zero) ≡ t.coef
 first_coefficient n s t h f =

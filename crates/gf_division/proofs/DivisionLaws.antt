@@ -1,5 +1,5 @@
 -- The loop of a division: the quotients of the steps, and what their sums are.
--- To cite: Dividing, dividing-none, dividing-more, sum_at, places_at, variables_at, forms_at, sums_refused.
+-- To cite: Dividing, dividing-none, dividing-more, sum_at, indices_at, variables_at, forms_at, sums_refused.
 use Rattle.std.specs.Prelude.{◌≡◌, ℕ, zero, suc, List, [], ◌∷◌, ◌++◌, length, replicate, Contains, None}
 use Rattle.std.proofs.Common.{arith, refl, sym, ap, ◌∙◌, subst, inr}
 use Rattle.gf_frac.specs.Fraction.{◌+ℚ◌, zero_ℚ}
@@ -56,7 +56,7 @@ with-variables n (q ∷ qs) (suc k) t h e = (h.0, with-variables n qs k t h.1 e)
 pub record Dividing (bs : List MarkedPolynomial) (f : Terms) (s : Split) (qs : List Terms) : Type 0 where
   pub form : NormalForming bs f s
   pub divided : IsDivisionByRule bs f qs (joined_terms s)
-  pub places : length qs ≡ length bs
+  pub indices : length qs ≡ length bs
   pub variables : HaveVariablesOf f qs
 
 pub dividing-none : (bs : List MarkedPolynomial) (f : Terms) (s : Split) (qs : List Terms) (n : ℕ) → HaveSameVariables f bs → IsDescending f →
@@ -64,7 +64,7 @@ pub dividing-none : (bs : List MarkedPolynomial) (f : Terms) (s : Split) (qs : L
 dividing-none bs f s qs n v d e l q = subst (Dividing bs f s) (sym (q ∙ ap (λ (m : ℕ). replicate m []) l ∙ sym (no_quotients-replicate bs))) (record {
   form = normal_forming-none bs f s v d e;
   divided = subst (IsDivisionByRule bs f (no_quotients bs)) (sym (ap joined_terms e)) IsDivisionByRule.here;
-  places = length-no_quotients bs;
+  indices = length-no_quotients bs;
   variables = record { at = λ m h. none-variables m bs };
 })
 
@@ -74,7 +74,7 @@ dividing-more bs f old s t qs rs j b q e k w r h = subst (Dividing bs f t) (sym 
   form = normal_forming-more bs f old s t j b q e k w h.form;
   divided = subst (λ (z : Term). IsDivisionByRule bs f (with_quotient qs j z) (joined_terms t)) quotient
       (IsDivisionByRule.next qs (joined_terms s) (joined_terms t) (subst (IsDivisionByRule bs f qs) (sym e) h.divided) (rule_step bs s t j b q k w));
-  places = length-with_quotient qs j q ∙ h.places;
+  indices = length-with_quotient qs j q ∙ h.indices;
   variables = record {
     at = λ n v. with-variables n qs j q (h.variables.at n v) (w.variables ∙ k.found.head ∙ first_length n s k.found.term
         (record { descending = k.found.variables.sound.descending; variables = subst (HasVariables n) (sym e) (h.form.kept.at n v) }) k.found.is);
@@ -127,10 +127,10 @@ sum-none : (bs : List MarkedPolynomial) (y : Exponents) → coefficient (cofacto
 sum-none [] y = refl
 sum-none (b ∷ bs) y = sum-none bs y
 
-divided-places : (bs : List MarkedPolynomial) (f : Terms) (qs : List Terms) (g : Terms) → IsDivisionByRule bs f qs g → length qs ≡ length bs
-divided-places bs f qs g IsDivisionByRule.here = length-no_quotients bs
-divided-places bs f qs g (IsDivisionByRule.next rs k l d s) =
-    length-with_quotient rs s.place (record { coef = coefficient k s.at; mono = s.rest }) ∙ divided-places bs f rs k d
+divided-indices : (bs : List MarkedPolynomial) (f : Terms) (qs : List Terms) (g : Terms) → IsDivisionByRule bs f qs g → length qs ≡ length bs
+divided-indices bs f qs g IsDivisionByRule.here = length-no_quotients bs
+divided-indices bs f qs g (IsDivisionByRule.next rs k l d s) =
+    length-with_quotient rs s.index (record { coef = coefficient k s.at; mono = s.rest }) ∙ divided-indices bs f rs k d
 
 -- f is what is left and the sum of the quotients times the members
 pub divided-sum : (bs : List MarkedPolynomial) (f : Terms) (qs : List Terms) (g : Terms) → IsDivisionByRule bs f qs g →
@@ -144,14 +144,14 @@ divided-sum bs f qs g (IsDivisionByRule.next rs k l d s) y =
       at = s.at;
       member = s.member;
       rest = s.rest;
-      contained = (s.place, s.contained.within, s.contained.is);
+      contained = (s.index, s.contained.within, s.contained.is);
       there = s.there;
       divides = s.divides;
       equal = s.equal;
     }) y ∙ coefficient-++ g (times t.coef t.mono s.member.poly) y)
     ∙ +ℚ_assoc _ _ _
-    ∙ ap (λ z. coefficient g y +ℚ z) (+ℚ_comm _ _ ∙ sym (sum-more rs bs s.place s.member t y (divided-places bs f rs k d) s.contained))
-    ∙ sym (coefficient-++ g (cofactor_sum (with_quotient rs s.place t) bs) y)
+    ∙ ap (λ z. coefficient g y +ℚ z) (+ℚ_comm _ _ ∙ sym (sum-more rs bs s.index s.member t y (divided-indices bs f rs k d) s.contained))
+    ∙ sym (coefficient-++ g (cofactor_sum (with_quotient rs s.index t) bs) y)
 
 -- the sums in place of the quotients
 sum-equal : (qs hs : List Terms) (bs : List MarkedPolynomial) → AreSums qs hs → SamePolynomial (cofactor_sum qs bs) (cofactor_sum hs bs)
@@ -221,9 +221,9 @@ sums_refused bs cs f g r qs x e q d h = sum_division_refused bs f r qs x (divide
 pub variables_at : (n : ℕ) (f g r : Terms) → g ≡ f → HasVariables n f → KeepsVariables g r → HasVariables n r
 variables_at n f g r q v k = k.at n (subst (HasVariables n) (sym q) v)
 
-pub places_at : (bs cs : List MarkedPolynomial) (f g r : Terms) (qs hs ks : List Terms) → cs ≡ bs → g ≡ f → ks ≡ hs → IsDivisionByRule cs g qs r →
+pub indices_at : (bs cs : List MarkedPolynomial) (f g r : Terms) (qs hs ks : List Terms) → cs ≡ bs → g ≡ f → ks ≡ hs → IsDivisionByRule cs g qs r →
     AreSums qs hs → length ks ≡ length bs
-places_at bs cs f g r qs hs ks e q l d a = ap length l ∙ sums-length qs hs a ∙ divided-places cs g qs r d ∙ ap length e
+indices_at bs cs f g r qs hs ks e q l d a = ap length l ∙ sums-length qs hs a ∙ divided-indices cs g qs r d ∙ ap length e
 
 pub forms_at : (n : ℕ) (f g : Terms) (qs hs ks : List Terms) → g ≡ f → ks ≡ hs → HasVariables n f → HaveVariablesOf g qs → KeepForms qs hs → AreForms n ks
 forms_at n f g qs hs ks q l v h k = subst (AreForms n) (sym l) (k.at n (h.at n (subst (HasVariables n) (sym q) v)))

@@ -46,21 +46,21 @@ first_of_rule bs f g (IsRuleReached.next k l r s) = IsFirstReached.next k l (fir
     at = s.at;
     member = s.member;
     rest = s.rest;
-    contained = (s.place, s.contained.within, s.contained.is);
+    contained = (s.index, s.contained.within, s.contained.is);
     there = s.there;
     divides = s.divides;
     equal = s.equal;
   };
-  first = record { place = s.place; at = s.contained; before = s.first };
+  first = record { index = s.index; at = s.contained; before = s.first };
 })
 
 -- ---- the first member
 
 pub first_along : (bs : List MarkedPolynomial) (x y : Exponents) (b : MarkedPolynomial) → same x y ≡ true → IsFirstFor bs x b → IsFirstFor bs y b
-first_along bs x y b s k = record { place = k.place; at = k.at; before = λ i c l a u. sym (same_along x y (plus c.head u) s) ∙ k.before i c l a u }
+first_along bs x y b s k = record { index = k.index; at = k.at; before = λ i c l a u. sym (same_along x y (plus c.head u) s) ∙ k.before i c l a u }
 
 first_contained : (bs : List MarkedPolynomial) (x : Exponents) (b : MarkedPolynomial) → IsFirstFor bs x b → Contains bs b
-first_contained bs x b k = (k.place, k.at.within, k.at.is)
+first_contained bs x b k = (k.index, k.at.within, k.at.is)
 
 -- ---- multiples of the first member whose mark divides what the mark comes to
 
@@ -75,17 +75,17 @@ same_multiple bs p q e k l s =
     ap (λ (b : MarkedPolynomial). coefficient (times one_ℚ q.shift b.poly) e) (sym member)
     ∙ times_along one_ℚ q.shift p.shift p.of.poly e shift
   where
-    place : k.place ≡ l.place
-    place = elim (cases_lt k.place l.place) [
-      | inl m ↦ absurd (no_divisor (level q) p.of.head p.shift (l.before k.place p.of m k.at) (same_flip (level p) (level q) s))
-      | inr m ↦ elim (cases_lt l.place k.place) [
-        | inl o ↦ absurd (no_divisor (level p) q.of.head q.shift (k.before l.place q.of o l.at) s)
+    index : k.index ≡ l.index
+    index = elim (cases_lt k.index l.index) [
+      | inl m ↦ absurd (no_divisor (level q) p.of.head p.shift (l.before k.index p.of m k.at) (same_flip (level p) (level q) s))
+      | inr m ↦ elim (cases_lt l.index k.index) [
+        | inl o ↦ absurd (no_divisor (level p) q.of.head q.shift (k.before l.index q.of o l.at) s)
         | inr o ↦ omega arith
       ]
     ]
 
     member : p.of ≡ q.of
-    member = members_equal bs l.place p.of q.of (subst (λ (i : ℕ). IsAt bs i p.of) place k.at) l.at
+    member = members_equal bs l.index p.of q.of (subst (λ (i : ℕ). IsAt bs i p.of) index k.at) l.at
 
     shift : same q.shift p.shift ≡ true
     shift = cancel p.of.head q.shift p.shift (subst (λ (b : MarkedPolynomial). same (plus q.shift b.head) (level p) ≡ true) (sym member)

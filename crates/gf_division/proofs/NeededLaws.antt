@@ -83,7 +83,7 @@ divisor_degree x y d = at (cases_lt (degree x) (degree y))
 
 -- ---- one member
 
--- no member before the place j makes one with the mark x, at the place i, needless
+-- no member before the index j makes one with the mark x, at the index i, needless
 pub record NeededSoFar (bs : List MarkedPolynomial) (i j : ℕ) (x : Exponents) : Type 0 where
   pub least : (k : ℕ) (c : MarkedPolynomial) → k < j → IsAt bs k c → Divides c.head x → (same c.head x ≡ true) × (i ≤ k)
 
@@ -133,18 +133,18 @@ needed_by_test bs i j b c x y a ex ey n h = needed_more bs i j b.head c (nat_lt 
 
 -- the mark of a needed member divides x
 record IsCovered (bs : List MarkedPolynomial) (x : Exponents) : Type 0 where
-  place : ℕ
+  index : ℕ
   member : MarkedPolynomial
-  needed : IsNeeded bs place member
+  needed : IsNeeded bs index member
   divides : Divides member.head x
 
 -- a member that makes the one at i needless
 record IsMadeNeedless (bs : List MarkedPolynomial) (i : ℕ) (x : Exponents) : Type 0 where
-  place : ℕ
+  index : ℕ
   member : MarkedPolynomial
-  at : IsAt bs place member
+  at : IsAt bs index member
   divides : Divides member.head x
-  less : (degree member.head < degree x) ⊎ ((degree member.head ≡ degree x) × (place < i))
+  less : (degree member.head < degree x) ⊎ ((degree member.head ≡ degree x) × (index < i))
 
 before : (j i : ℕ) → (r : Bool) × (j < i → r ≡ true) × (r ≡ true → j < i)
 before j i = elim (cases_lt j i) [ inl l ↦ (true, λ _. refl, λ _. l) | inr g ↦ (false, λ l. absurd (omega arith), λ e. absurd (cc)) ]
@@ -167,14 +167,14 @@ search bs i (suc m) b a l = elim (search bs i m b a (omega arith)) [
 
     found : (r : Bool) → (r ≡ true → m < i) → MakesNeedless c.head b.head r → IsMadeNeedless bs i b.head
     found true y d = record {
-      place = m;
+      index = m;
       member = c;
       at = at;
       divides = d;
       less = elim (divisor_degree c.head b.head d) [ inl s ↦ inr (degree-same c.head b.head s, y refl) | inr l ↦ inl l ];
     }
     found false y d = record {
-      place = m;
+      index = m;
       member = c;
       at = at;
       divides = d.0;
@@ -191,24 +191,24 @@ search bs i (suc m) b a l = elim (search bs i m b a (omega arith)) [
 abbrev CoveredBelow : List MarkedPolynomial → ℕ → Type 0
 CoveredBelow bs d = (i : ℕ) (b : MarkedPolynomial) → IsAt bs i b → degree b.head < d → IsCovered bs b.head
 
-covered_places : (bs : List MarkedPolynomial) (d p i : ℕ) (b : MarkedPolynomial) → CoveredBelow bs d → IsAt bs i b → degree b.head < suc d → i < p →
+covered_indices : (bs : List MarkedPolynomial) (d p i : ℕ) (b : MarkedPolynomial) → CoveredBelow bs d → IsAt bs i b → degree b.head < suc d → i < p →
     IsCovered bs b.head
-covered_places bs d zero i b w a l m = absurd (omega arith)
-covered_places bs d (suc p) i b w a l m =
-    at (search bs i (length bs) b a (omega arith)) (λ h e k. covered_places bs d p h.place h.member w h.at (omega (arith, e)) (omega (arith, k)))
+covered_indices bs d zero i b w a l m = absurd (omega arith)
+covered_indices bs d (suc p) i b w a l m =
+    at (search bs i (length bs) b a (omega arith)) (λ h e k. covered_indices bs d p h.index h.member w h.at (omega (arith, e)) (omega (arith, k)))
   where
     through : (c : MarkedPolynomial) → Divides c.head b.head → IsCovered bs c.head → IsCovered bs b.head
-    through c v h = record { place = h.place; member = h.member; needed = h.needed; divides = divides_trans h.member.head c.head b.head h.divides v }
+    through c v h = record { index = h.index; member = h.member; needed = h.needed; divides = divides_trans h.member.head c.head b.head h.divides v }
 
-    less : (h : IsMadeNeedless bs i b.head) → ((h : IsMadeNeedless bs i b.head) → degree h.member.head ≡ degree b.head → h.place < i →
-        IsCovered bs h.member.head) → (degree h.member.head < degree b.head) ⊎ ((degree h.member.head ≡ degree b.head) × (h.place < i)) → IsCovered bs b.head
-    less h e (inl k) = through h.member h.divides (w h.place h.member h.at (omega arith))
+    less : (h : IsMadeNeedless bs i b.head) → ((h : IsMadeNeedless bs i b.head) → degree h.member.head ≡ degree b.head → h.index < i →
+        IsCovered bs h.member.head) → (degree h.member.head < degree b.head) ⊎ ((degree h.member.head ≡ degree b.head) × (h.index < i)) → IsCovered bs b.head
+    less h e (inl k) = through h.member h.divides (w h.index h.member h.at (omega arith))
     less h e (inr k) = through h.member h.divides (e h k.0 k.1)
 
     at : NeededSoFar bs i (length bs) b.head ⊎ IsMadeNeedless bs i b.head → ((h : IsMadeNeedless bs i b.head) → degree h.member.head ≡ degree b.head →
-        h.place < i → IsCovered bs h.member.head) → IsCovered bs b.head
+        h.index < i → IsCovered bs h.member.head) → IsCovered bs b.head
     at (inl h) e = record {
-      place = i;
+      index = i;
       member = b;
       needed = needed_end bs i (length bs) b a (omega arith) h;
       divides = divides_same b.head b.head (same-refl b.head);
@@ -217,19 +217,19 @@ covered_places bs d (suc p) i b w a l m =
 
 covered_below : (bs : List MarkedPolynomial) (d : ℕ) → CoveredBelow bs d
 covered_below bs zero i b a l = absurd (omega arith)
-covered_below bs (suc d) i b a l = covered_places bs d (length bs) i b (covered_below bs d) a l a.within
+covered_below bs (suc d) i b a l = covered_indices bs d (length bs) i b (covered_below bs d) a l a.within
 
 covered : (bs : List MarkedPolynomial) (i : ℕ) (b : MarkedPolynomial) → IsAt bs i b → IsCovered bs b.head
 covered bs i b a = covered_below bs (suc (degree b.head)) i b a (omega arith)
 
 -- ---- the forms of the needed members
 
--- k is the monic form of a needed member before the place i
+-- k is the monic form of a needed member before the index i
 record IsFormBefore (bs : List MarkedPolynomial) (i : ℕ) (k : MarkedPolynomial) : Type 0 where
   form : IsNeededForm bs k
-  earlier : form.place < i
+  earlier : form.index < i
 
--- ks are the forms of the needed members before the place i
+-- ks are the forms of the needed members before the index i
 pub record Forming (bs : List MarkedPolynomial) (i : ℕ) (ks : List MarkedPolynomial) : Type 0 where
   inside : (k : MarkedPolynomial) → Contains ks k → IsFormBefore bs i k
   all : (j : ℕ) (b : MarkedPolynomial) → j < i → IsNeeded bs j b → (k : MarkedPolynomial) × Contains ks k × IsMadeMonic b k
@@ -273,7 +273,7 @@ apart-push (a ∷ ks) b h n = (
     at c (inl k) = contained_each (λ (d : MarkedPolynomial). NoMultiple a.head d.head × NoMultiple d.head a.head) ks h.0 c k
     at c (inr e) = subst (λ (d : MarkedPolynomial). NoMultiple a.head d.head × NoMultiple d.head a.head) e (n a (Contains-here a ks))
 
--- the marks of needed members at two places are apart
+-- the marks of needed members at two indices are apart
 needed_apart : (bs : List MarkedPolynomial) (i j : ℕ) (b c : MarkedPolynomial) → IsNeeded bs i b → IsNeeded bs j c → j < i →
     NoMultiple c.head b.head × NoMultiple b.head c.head
 needed_apart bs i j b c m n l = (
@@ -281,7 +281,7 @@ needed_apart bs i j b c m n l = (
   no_multiple b.head c.head (λ d. absurd (omega (arith, (m.least j c n.at (divides_same c.head b.head (same_flip b.head c.head (n.least i b m.at d).0))).1))),
 )
 
--- the member at the place i, where that is needed
+-- the member at the index i, where that is needed
 needed_here : (bs : List MarkedPolynomial) (i : ℕ) (b : MarkedPolynomial) → IsAt bs i b → IsNeededAt bs i → IsNeeded bs i b
 needed_here bs i b a m = subst (IsNeeded bs i) (members_equal bs i m.0 b m.1.at a) m.1
 
@@ -302,7 +302,7 @@ forming-more bs i ks ls b k a m f v e h = subst (Forming bs (i + 1)) (sym e) (re
 
     within : (c : MarkedPolynomial) → Contains ks c ⊎ (k ≡ c) → IsFormBefore bs (i + 1) c
     within c (inl l) = form_later bs i c (h.inside c l)
-    within c (inr q) = subst (IsFormBefore bs (i + 1)) q (record { form = record { place = i; member = b; needed = here; form = f }; earlier = omega arith })
+    within c (inr q) = subst (IsFormBefore bs (i + 1)) q (record { form = record { index = i; member = b; needed = here; form = f }; earlier = omega arith })
 
     at : (j : ℕ) (c : MarkedPolynomial) → (j < i) ⊎ (i ≤ j) → j < i + 1 → IsNeeded bs j c → (d : MarkedPolynomial) × Contains (ks ++ k ∷ []) d × IsMadeMonic c d
     at j c (inl q) l n = let d = h.all j c q n in (d.0, Contains-append_left ks (k ∷ []) d.0 d.1, d.2)
@@ -312,7 +312,7 @@ forming-more bs i ks ls b k a m f v e h = subst (Forming bs (i + 1)) (sym e) (re
 
     beside : (c : MarkedPolynomial) → IsFormBefore bs i c → NoMultiple c.head k.head × NoMultiple k.head c.head
     beside c g =
-        let p = needed_apart bs i g.form.place b g.form.member here g.form.needed g.earlier in
+        let p = needed_apart bs i g.form.index b g.form.member here g.form.needed g.earlier in
         subst (λ (x : Exponents). NoMultiple x k.head × NoMultiple k.head x) (sym g.form.form.head)
         (subst (λ (x : Exponents). NoMultiple g.form.member.head x × NoMultiple x g.form.member.head) (sym f.head) p)
 
@@ -334,7 +334,7 @@ forming_variables bs i ks h = h.variables
 pub needed_divisible : (bs ks : List MarkedPolynomial) → AreNeededForms bs ks → (b : MarkedPolynomial) → Contains bs b → IsDivisible (Contains ks) b.head
 needed_divisible bs ks h b c =
     let w = covered bs c.0 b (record { within = c.1; is = c.2 }) in
-    let k = h.all w.place w.member w.needed in
+    let k = h.all w.index w.member w.needed in
     record {
       member = k.0;
       contained = k.1;
@@ -344,9 +344,9 @@ needed_divisible bs ks h b c =
 
 -- ---- refusals
 
--- the member at the place i is needed, and isn't made monic
+-- the member at the index i is needed, and isn't made monic
 pub needed_refused : (bs : List MarkedPolynomial) (i : ℕ) (b : MarkedPolynomial) (e : PolyError) → IsAt bs i b → IsNeededAt bs i → IsMonicRefusal b e →
     IsNeededRefusal bs e
-needed_refused bs i b (errors.Overflow o) a m h = (record { place = i; member = b; needed = needed_here bs i b a m; operation = h.0 }, h.1)
+needed_refused bs i b (errors.Overflow o) a m h = (record { index = i; member = b; needed = needed_here bs i b a m; operation = h.0 }, h.1)
 needed_refused bs i b (errors.Exponent o) a m h = h
 needed_refused bs i b errors.Memory a m h = tt

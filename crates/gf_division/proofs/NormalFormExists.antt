@@ -46,7 +46,7 @@ pub first_divisor : (bs : List MarkedPolynomial) (x : Exponents) → IsDivisible
 first_divisor [] x d = absurd (omega (arith, d.contained.1))
 first_divisor (b ∷ bs) x d = at (multiple_or_not b.head x) (first_divisor bs x)
   where
-    before : NoMultiple b.head x → (f : FirstDivisor bs x) (i : ℕ) (c : MarkedPolynomial) → i < suc f.first.place →
+    before : NoMultiple b.head x → (f : FirstDivisor bs x) (i : ℕ) (c : MarkedPolynomial) → i < suc f.first.index →
         IsAt (b ∷ bs) i c → NoMultiple c.head x
     before n f zero c l a = subst (λ (z : MarkedPolynomial). NoMultiple z.head x) a.is n
     before n f (suc i) c l a = f.first.before i c (omega arith) (record { within = omega (arith, a.within); is = a.is })
@@ -55,7 +55,7 @@ first_divisor (b ∷ bs) x d = at (multiple_or_not b.head x) (first_divisor bs x
         (IsDivisible (Contains bs) x → FirstDivisor bs x) → FirstDivisor (b ∷ bs) x
     at (inl m) r = record {
       member = b;
-      first = record { place = 0; at = record { within = omega arith; is = refl }; before = λ i c l a. absurd (omega arith) };
+      first = record { index = 0; at = record { within = omega arith; is = refl }; before = λ i c l a. absurd (omega arith) };
       rest = m.0;
       divides = ap (same x) (plus_comm m.0 b.head) ∙ m.1;
     }
@@ -67,7 +67,7 @@ first_divisor (b ∷ bs) x d = at (multiple_or_not b.head x) (first_divisor bs x
             let f = r (record { member = d.member; contained = k; rest = d.rest; divides = d.divides }) in
             record {
               member = f.member;
-              first = record { place = suc f.first.place; at = record { within = omega (arith, f.first.at.within); is = f.first.at.is }; before = before n f };
+              first = record { index = suc f.first.index; at = record { within = omega (arith, f.first.at.within); is = f.first.at.is }; before = before n f };
               rest = f.rest;
               divides = f.divides;
             }
@@ -123,7 +123,7 @@ step_or_end bs f = at ((top_greatest IsDeglexBelow deglex-order).some (divisible
           f ++ times (neg_ℚ (coefficient f x)) k.rest k.member.poly,
           record {
             at = x;
-            place = k.first.place;
+            index = k.first.index;
             member = k.member;
             rest = k.rest;
             contained = k.first.at;
@@ -288,7 +288,7 @@ reached-equal : (bs : List MarkedPolynomial) (f g h : Terms) → SamePolynomial 
 reached-equal bs f g h e (IsRuleReached.here k d) = IsRuleReached.here h (λ x. d x ∙ e x)
 reached-equal bs f g h e (IsRuleReached.next k l r s) = IsRuleReached.next k h r (record {
   at = s.at;
-  place = s.place;
+  index = s.index;
   member = s.member;
   rest = s.rest;
   contained = s.contained;

@@ -29,7 +29,7 @@ pub record NormalForming (bs : List MarkedPolynomial) (f : Terms) (s : Split) : 
   pub above : AreIrreducible bs None s.above
   pub kept : KeepsVariables f (joined_terms s)
 
--- at the start the place is above all terms
+-- at the start the index is above all terms
 pub normal_forming-none : (bs : List MarkedPolynomial) (f : Terms) (s : Split) → HaveSameVariables f bs → IsDescending f →
     s ≡ record { above = []; below = f } → NormalForming bs f s
 normal_forming-none bs f s v d e = subst (NormalForming bs f) (sym e) (record {

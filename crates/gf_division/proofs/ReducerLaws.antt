@@ -32,7 +32,7 @@ pub use Rattle.gf_ideal_theory.proofs.DividingLaws.{member_contained}
 pub record NoneDivides (bs : List MarkedPolynomial) (j : ℕ) (x : Exponents) : Type 0 where
   pub none : (i : ℕ) (b : MarkedPolynomial) → i < j → IsAt bs i b → Divides b.head x → ⊥
 
--- the member at a place
+-- the member at an index
 pub member_at : (bs : List MarkedPolynomial) (j : ℕ) (b : MarkedPolynomial) → j < length bs → b ≡ get_or bs j b → IsAt bs j b
 member_at bs j b l e = record { within = l; is = sym e }
 
@@ -93,7 +93,7 @@ not_beside_by_test spared x y a b r e ea eb er f h = differ (here (pointwise eqb
 
 -- ---- the search
 
--- old became new as irreducible terms went above the place
+-- old became new as irreducible terms went above the index
 pub record Seeking (bs : List MarkedPolynomial) (spared : Option Exponents) (old new : Split) : Type 0 where
   pub same : joined_terms new ≡ joined_terms old
   pub variables : ShareVariables new bs spared
@@ -122,7 +122,7 @@ seeking-more bs spared old now new t f n a k =
     first_equal : {f g : Terms} {s t : Term} → ◌≡◌ {A = Terms} (s ∷ f) (t ∷ g) → s ≡ t
     first_equal e = cc
 
--- the first term below the place has the variables of the members and of the spared monomial
+-- the first term below the index has the variables of the members and of the spared monomial
 pub first_members : (s : Split) (bs : List MarkedPolynomial) (spared : Option Exponents) (t : Term) → ShareVariables s bs spared → IsTermInFront s.below t →
     HaveVariables (length t.mono) bs
 first_members s bs spared t v f = subst (λ (n : ℕ). HaveVariables n bs) (sym (first_length v.n s t v.sound f)) v.members

@@ -29,9 +29,9 @@ use Rattle.gf_division.proofs.RuleLaws.{all_above, reduction_refused, no_multipl
 use Rattle.gf_division.proofs.FirstStepLaws.{IsFirstReached}
 use Rattle.gf_division.proofs.NormalFormExists.{normal_form-of_first}
 
--- ---- the place
+-- ---- the index
 
--- the first term below the place, and the member that reduces it
+-- the first term below the index, and the member that reduces it
 pub reducible_first : (bs : List MarkedPolynomial) (spared : Option Exponents) (s : Split) (t : Term) (o : Option ℕ) → IsTermInFront s.below t →
     IsMonomial t.mono → IfSome o (IsDivisorAt bs t.mono) → IfSome o (λ _. IsBeside spared t.mono) → IfSome o (IsReducibleFirst bs spared s)
 reducible_first bs spared s t (Some j) f m d b = record { term = t; is = f; divisor = d; beside = b; monomial = m }
@@ -56,7 +56,7 @@ worked-same bs spared old now s e h = record {
 -- no mark of a member before it divides the monomial
 found_first : (bs : List MarkedPolynomial) (spared : Option Exponents) (s : Split) (j : ℕ) (b : MarkedPolynomial) (k : Found bs spared s j b) →
     IsFirstFor bs k.term.mono b
-found_first bs spared s j b k = record { place = j; at = k.at; before = λ i c l m. no_multiple c.head k.term.mono (k.first i c l m) }
+found_first bs spared s j b k = record { index = j; at = k.at; before = λ i c l m. no_multiple c.head k.term.mono (k.first i c l m) }
 
 pub worked-more : (bs : List MarkedPolynomial) (spared : Option Exponents) (old now s t : Split) (j : ℕ) (b : MarkedPolynomial) (q : Term) →
     joined_terms s ≡ joined_terms now → Found bs spared s j b → TakesStep b s q t → IsWorkedOn bs spared old now → IsWorkedOn bs spared old t
@@ -67,7 +67,7 @@ worked-more bs spared old now s t j b q e k w h = record {
   kept = keeps_step bs spared (joined_terms old) s t j b q k w (keeps_along (joined_terms old) (joined_terms now) (joined_terms s) e h.kept);
 }
 
-reached_along : (bs : List MarkedPolynomial) (spared : Option Exponents) (f g h : Terms) → ReachedBeside bs spared f g → ReachedBeside bs spared g h →
+pub reached_along : (bs : List MarkedPolynomial) (spared : Option Exponents) (f g h : Terms) → ReachedBeside bs spared f g → ReachedBeside bs spared g h →
     ReachedBeside bs spared f h
 reached_along bs spared f g _ r ReachedBeside.here = r
 reached_along bs spared f g _ r (ReachedBeside.next k h q s b d) = ReachedBeside.next k h (reached_along bs spared f g k r q) s b d
@@ -151,7 +151,7 @@ refusal_follows bs spared old now s (Err r) e h k = refused_along bs spared old 
 
 -- ---- by the rule
 
--- what holds while the terms above the place can't be divided
+-- what holds while the terms above the index can't be divided
 pub record Working (bs : List MarkedPolynomial) (spared : Option Exponents) (old now : Split) : Type 0 where
   pub worked : IsWorkedOn bs spared old now
   pub above : AreIrreducible bs spared now.above
@@ -168,7 +168,7 @@ working-more bs spared old now s t j b q e a k w h = record {
   above = front_irreducible bs spared t.above w.passed s.above w.above a;
 }
 
--- nothing is below the place
+-- nothing is below the index
 pub working_end : (bs : List MarkedPolynomial) (spared : Option Exponents) (s : Split) → s.below ≡ [] → AreIrreducible bs spared s.above →
     AreIrreducible bs spared (joined_terms s)
 working_end bs spared s e a = subst (AreIrreducible bs spared) (sym (all_above s e)) a

@@ -49,7 +49,7 @@ pub share_along : (s t : Split) (bs : List MarkedPolynomial) (spared : Option Ex
     ShareVariables t bs spared
 share_along s t bs spared e v = record { n = v.n; sound = sound_same v.n s t e v.sound; members = v.members; spare = v.spare }
 
--- the step at the first term below the place, by the member b at the place j
+-- the step at the first term below the index, by the member b at the index j
 pub record Found (bs : List MarkedPolynomial) (spared : Option Exponents) (s : Split) (j : ℕ) (b : MarkedPolynomial) : Type 0 where
   pub term : Term
   pub is : IsTermInFront s.below term
@@ -95,7 +95,7 @@ pub found_divides : (bs : List MarkedPolynomial) (spared : Option Exponents) (s 
     DividesFirst b.head s.below
 found_divides bs spared s j b k = record { term = k.term; first = k.is; divides = k.divides }
 
--- the same, and no term above the place can be divided
+-- the same, and no term above the index can be divided
 pub record RuleFacts (bs : List MarkedPolynomial) (spared : Option Exponents) (s : Split) (j : ℕ) (b : MarkedPolynomial) : Type 0 where
   pub found : Found bs spared s j b
   pub above : AreIrreducible bs spared s.above
@@ -177,7 +177,7 @@ rule_step bs s t j b q r w =
     let p = step_by bs None s t j b q k w in
     record {
       at = p.at;
-      place = j;
+      index = j;
       member = b;
       rest = q.mono;
       contained = k.at;
@@ -190,7 +190,7 @@ rule_step bs s t j b q r w =
 
 -- ---- what is kept
 
--- the irreducible terms above the place that stay
+-- the irreducible terms above the index that stay
 pub front_irreducible : (bs : List MarkedPolynomial) (spared : Option Exponents) (f g h : Terms) → h ≡ f ++ g → AreIrreducible bs spared h →
     AreIrreducible bs spared f
 front_irreducible bs spared f g h e a = front f (subst (AreIrreducible bs spared) e a)
@@ -224,7 +224,7 @@ irreducible_whole bs f a x m d = onto (listed (λ (t : Term). Unit {0} → IsDiv
     onto : (t : Term) × (Unit {0} → IsDivisible (Contains bs) t.mono → ⊥) × (same x t.mono ≡ true) → ⊥
     onto r = r.1 tt (divisible_along (Contains bs) x r.0.mono r.2 d)
 
--- nothing is below the place
+-- nothing is below the index
 pub all_above : (s : Split) → s.below ≡ [] → joined_terms s ≡ s.above
 all_above s e = ap (λ (z : Terms). s.above ++ z) e ∙ append-nil s.above
 
@@ -245,7 +245,7 @@ operation_more by kept w f x Add left right h = absurd h
 operation_more by kept w f x Sub left right h = record {
   member = h.member;
   rest = h.rest;
-  place = record { contained = w h.member h.place.contained; there = h.place.there; divides = h.place.divides };
+  index = record { contained = w h.member h.index.contained; there = h.index.there; divides = h.index.divides };
   exponents = h.exponents;
   is_left = h.is_left;
   is_right = h.is_right;
@@ -253,7 +253,7 @@ operation_more by kept w f x Sub left right h = record {
 operation_more by kept w f x Mul left right h = record {
   member = h.member;
   rest = h.rest;
-  place = record { contained = w h.member h.place.contained; there = h.place.there; divides = h.place.divides };
+  index = record { contained = w h.member h.index.contained; there = h.index.there; divides = h.index.divides };
   exponents = h.exponents;
   operands = h.operands;
 }
@@ -264,7 +264,7 @@ pub exponents_more : (by kept : MarkedPolynomial → Type 0) → ((b : MarkedPol
 exponents_more by kept w f x left right h = record {
   member = h.member;
   rest = h.rest;
-  place = record { contained = w h.member h.place.contained; there = h.place.there; divides = h.place.divides };
+  index = record { contained = w h.member h.index.contained; there = h.index.there; divides = h.index.divides };
   sum = h.sum;
 }
 

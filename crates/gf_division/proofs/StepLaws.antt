@@ -1,4 +1,4 @@
--- One step at the first term below the place: what it gives, and why it is refused.
+-- One step at the first term below the index: what it gives, and why it is refused.
 -- To cite: some_terms, greatest_over, front_descends, sound_up, step_taken, StepFacts, step_facts, first_refused, step_refused.
 use Rattle.std.specs.Prelude.{◌≡◌, ◌≢◌, ℕ, zero, ◌<◌, [], ◌∷◌, ◌++◌, length, Contains}
 use Rattle.std.specs.declared.cmp.Ordering.TheVariants.{Greater}
@@ -21,7 +21,7 @@ use Rattle.gf_poly.specs.Marking.{MarkedPolynomial, head_of, HasMarkedTerm}
 use Rattle.gf_poly.proofs.DescendingLaws.{greater_trans}
 pub use Rattle.gf_poly.proofs.CoefficientLaws.{term_length, term_coefficient}
 use Rattle.gf_poly.proofs.ProductLaws.{deglex-plus, HasVariables-at}
-use Rattle.gf_ideal_theory.specs.Operands.{IsPlace, IsStepOperation}
+use Rattle.gf_ideal_theory.specs.Operands.{IsIndex, IsStepOperation}
 use Rattle.gf_ideal_theory.proofs.ListLaws.{Each-weaker}
 pub use Rattle.gf_ideal_theory.proofs.KeptForms.{term_there}
 use Rattle.gf_division.specs.Steps.{IsStepRefusal}
@@ -53,7 +53,7 @@ pub first_variables : (b : MarkedPolynomial) (s : Split) (g : Terms) (t : Term) 
 first_variables b s g t k e v m i l =
     l ∙ sym (HasVariables-at (length b.head) g 0 t (some_terms b g e m) i (subst (HasVariables (length b.head)) (sym e) (shared_poly b s v m)))
 
--- ---- above the place
+-- ---- above the index
 
 -- what is over u times the first term of g is over u times each
 pub greatest_over : (u x : Exponents) (g f : Terms) (t : Term) → 0 < length g → t ≡ get_or g 0 t → x ≡ plus u t.mono → HasVariables (length u) g →
@@ -96,7 +96,7 @@ pub step_taken : (b : MarkedPolynomial) (s r t w : Split) (q : Term) (g : Terms)
     IsSound (length b.head) s → length q.mono ≡ length b.head → coefficient (joined_terms s) (head_of s.below zero) ≡ q.coef → q.coef ≢ zero_ℚ →
     plus q.mono b.head ≡ head_of s.below zero → MovesUp s r → n ≡ length r.above → Subtracts q.coef q.mono g r t → MovesUp t w → length w.above ≡ n →
     TakesStep b s q w
-step_taken b s r t w q g n eg f h l there nonzero product up en sub down place = record {
+step_taken b s r t w q g n eg f h l there nonzero product up en sub down index = record {
   there = nonzero;
   coefficient_is = there;
   product = product;
@@ -108,7 +108,7 @@ step_taken b s r t w q g n eg f h l there nonzero product up en sub down place =
   sound = λ m k. sound_along (length b.head) m w (sym (first_length (length b.head) s f.term h f.first) ∙ first_length m s f.term k f.first)
       (sound_up (length b.head) t w down (sound_along (length q.mono) (length b.head) t l sub.sound));
   passed = up.passed;
-  above = up.above ∙ ap (λ (z : Terms). z ++ up.passed) (same_fronts t.above r.above w.above sub.passed down.passed sub.above down.above (sym en ∙ sym place));
+  above = up.above ∙ ap (λ (z : Terms). z ++ up.passed) (same_fronts t.above r.above w.above sub.passed down.passed sub.above down.above (sym en ∙ sym index));
 }
 
 -- ---- why a step is refused
@@ -126,8 +126,8 @@ pub step_facts : (n : ℕ) (f : Terms) (b : MarkedPolynomial) (x : Exponents) (q
     plus q.mono b.head ≡ x → HasVariables n b.poly → g ≡ b.poly → IsDescending g → StepFacts f b x q
 step_facts n f b x q g c z p v e d = record { n = n; coefficient_is = c; nonzero = z; product = p; variables = v; descending = subst IsDescending e d }
 
-place : (f : Terms) (b : MarkedPolynomial) (x : Exponents) (q : Term) → StepFacts f b x q → IsPlace (λ (c : MarkedPolynomial). c ≡ b) f x b q.mono
-place f b x q k = record { contained = refl; there = λ z. k.nonzero (sym k.coefficient_is ∙ z); divides = same_of x (plus q.mono b.head) (sym k.product) }
+index : (f : Terms) (b : MarkedPolynomial) (x : Exponents) (q : Term) → StepFacts f b x q → IsIndex (λ (c : MarkedPolynomial). c ≡ b) f x b q.mono
+index f b x q k = record { contained = refl; there = λ z. k.nonzero (sym k.coefficient_is ∙ z); divides = same_of x (plus q.mono b.head) (sym k.product) }
 
 -- a sum of exponents at a term of b
 exponents_refused : (f : Terms) (b : MarkedPolynomial) (x : Exponents) (q t : Term) (o : ExponentOverflow) → StepFacts f b x q → Contains b.poly t →
@@ -136,7 +136,7 @@ exponents_refused f b x q t o k c h = (
   record {
     member = b;
     rest = q.mono;
-    place = place f b x q k;
+    index = index f b x q k;
     sum = record { monomial = t.mono; there = term_there k.n b.poly t k.variables k.descending c; variable = h.at; operands = inl (h.left, h.right) };
   },
   omega (arith, h.left, h.right, h.leaves),
@@ -150,7 +150,7 @@ product_refused f b x q t o k c h =
       record {
         member = b;
         rest = q.mono;
-        place = place f b x q k;
+        index = index f b x q k;
         exponents = t.mono;
         operands = inl (h.left ∙ sym k.coefficient_is, h.right ∙ sym (term_coefficient k.n b.poly t k.variables k.descending c));
       },
@@ -165,7 +165,7 @@ difference_refused f b x q t o k c h =
       record {
         member = b;
         rest = q.mono;
-        place = place f b x q k;
+        index = index f b x q k;
         exponents = t.mono;
         is_left = h.left;
         is_right = h.right ∙ ap (λ z. z *ℚ t.coef) (sym k.coefficient_is) ∙

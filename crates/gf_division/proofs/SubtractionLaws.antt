@@ -1,4 +1,4 @@
--- A subtraction from the place down: one term, and all terms of a multiple.
+-- A subtraction from the index down: one term, and all terms of a multiple.
 -- To cite: nothing_pushed, taken_from_first, taken_at, taken_beside, refused_at, Subtracting, subtracting-more,
 -- factor_refused, exponent_refused, difference_refused.
 use Rattle.std.specs.Prelude.{◌≡◌, ◌≢◌, ◌⊎◌, ℕ, ◌+◌, ◌<◌, Bool, true, false, if◌then◌else◌, [], ◌∷◌, ◌++◌, length, reverse, Contains, Result, Ok, Err, OnOk}
@@ -45,7 +45,7 @@ taken_from_first c a b d k t (Err x) e p = tt
 
 -- ---- what a descent leaves
 
--- the terms above the place are greater than x, those below it aren't
+-- the terms above the index are greater than x, those below it aren't
 record IsCut (x : Exponents) (old new : Split) : Type 0 where
   same : joined_terms new ≡ joined_terms old
   over : AreOver x new.above
@@ -61,7 +61,7 @@ cut x old new o h v d =
       sound = record { descending = subst IsDescending (sym e) h.descending; variables = subst (HasVariables (length x)) (sym e) h.variables };
     }
 
--- one term more above the place: what the coefficients are
+-- one term more above the index: what the coefficients are
 one_more : (f g : Terms) (u : Term) (y : Exponents) → coefficient ((f ++ u ∷ []) ++ g) y ≡ (coefficient f y +ℚ (if same y u.mono then u.coef else zero_ℚ)) +ℚ
     coefficient g y
 one_more f g u y = coefficient-++ (f ++ u ∷ []) g y ∙ ap (λ z. z +ℚ coefficient g y) (coefficient-++ f (u ∷ []) y ∙ ap (λ z. coefficient f y +ℚ z) (+ℚ-zero _))

@@ -163,7 +163,7 @@ new_more f r g t es new d q e n =
 
 -- ---- a new coefficient
 
--- the whole below the place
+-- the whole below the index
 abbrev pub whole : Terms → Split
 whole f = record { above = []; below = f }
 
@@ -176,7 +176,7 @@ relay c x f g w e t = record {
   from = tt;
 }
 
--- the place at the key
+-- the index at the key
 down : (k : Key) (f g h : Terms) (o : Ordering) → f ≡ g ++ h → AreOver k.mono g → FirstIs h k.mono o → o ≢ Greater →
     Descends k.mono (whole f) (record { above = g; below = h }) o
 down k f g h o e a i n = record { passed = g; above = refl; below = e; over = a; first = i; ends = n }

@@ -1,5 +1,5 @@
 -- One tail, reduced: the steps at unmarked monomials, and what they end with.
--- To cite: AreElsewhere, elsewhere_none, elsewhere_end, head_at_place, tail_reached, TailStart, tail_start, tail_refused,
+-- To cite: AreElsewhere, elsewhere_none, elsewhere_end, head_at_index, tail_reached, TailStart, tail_start, tail_refused,
 -- irreducible_beside, TailFacts, tail_facts, tail_variables, tail_there, reduced_tail_at, tail_reached_at, kept_form_at.
 use Rattle.std.specs.Prelude.{◌≡◌, ℕ, zero, suc, ◌<◌, ◌≤◌, Bool, true, false, List, [], ◌∷◌, length, Contains, Some, take}
 use Rattle.std.specs.declared.option.Option.{Option}
@@ -33,9 +33,9 @@ use Rattle.gf_division.proofs.StepLaws.{head_length}
 use Rattle.gf_division.proofs.ReducerLaws.{member_variables}
 use Rattle.gf_division.proofs.RuleLaws.{operation_more, exponents_more, only, divisible_along}
 
--- ---- the place of a monomial
+-- ---- the index of a monomial
 
--- none of the terms before the place i is at x
+-- none of the terms before the index i is at x
 abbrev pub AreElsewhere : Exponents → ℕ → Terms → Type 0
 AreElsewhere x i f = Each (λ (t : Term). deglex t.mono x ≡ Equal → ⊥) (take i f)
 
@@ -68,8 +68,8 @@ head_at [] i t l e = absurd (omega arith)
 head_at (s ∷ f) zero t l e = ap (λ (u : Term). u.mono) (sym e)
 head_at (s ∷ f) (suc i) t l e = head_at f i t (omega arith) e
 
-pub head_at_place : (x : Exponents) (f : Terms) (i : ℕ) (t : Term) → i < length f → t ≡ get_or f i t → deglex t.mono x ≡ Equal → head_of f i ≡ x
-head_at_place x f i t l e q = head_at f i t l e ∙ equal_same t.mono x q
+pub head_at_index : (x : Exponents) (f : Terms) (i : ℕ) (t : Term) → i < length f → t ≡ get_or f i t → deglex t.mono x ≡ Equal → head_of f i ≡ x
+head_at_index x f i t l e q = head_at f i t l e ∙ equal_same t.mono x q
 
 -- ---- the steps
 

@@ -21,16 +21,16 @@ use Rattle.gf_division.specs.MonicForms.{IsMadeMonic, IsDivisionByMark}
 
 -- ---- which members are needed
 
--- b stands at the place i, and a member whose mark divides that of b has the same mark and doesn't stand before it
+-- b stands at the index i, and a member whose mark divides that of b has the same mark and doesn't stand before it
 pub record IsNeeded (bs : List MarkedPolynomial) (i : ℕ) (b : MarkedPolynomial) : Type 0 where
   pub at : IsAt bs i b
   pub least : (j : ℕ) (c : MarkedPolynomial) → IsAt bs j c → Divides c.head b.head → (same c.head b.head ≡ true) × (i ≤ j)
 
 -- k is the monic form of a needed member
 pub record IsNeededForm (bs : List MarkedPolynomial) (k : MarkedPolynomial) : Type 0 where
-  pub place : ℕ
+  pub index : ℕ
   pub member : MarkedPolynomial
-  pub needed : IsNeeded bs place member
+  pub needed : IsNeeded bs index member
   pub form : IsMadeMonic member k
 
 -- ks are the monic forms of the needed members, each of them once
@@ -64,9 +64,9 @@ pub record IsReducedOf (n : ℕ) (bs cs : List MarkedPolynomial) : Type 0 where
 
 -- the operation is one of making a needed member of bs monic
 pub record IsNeededOperation (bs : List MarkedPolynomial) (op : Op) (left right : Fraction) : Type 0 where
-  pub place : ℕ
+  pub index : ℕ
   pub member : MarkedPolynomial
-  pub needed : IsNeeded bs place member
+  pub needed : IsNeeded bs index member
   pub operation : IsDivisionByMark member op left right
 
 -- the operation is one of a step at an unmarked monomial of a tail of ks, by a member of ks
@@ -109,7 +109,7 @@ abbrev pub MakesNeedless : Exponents → Exponents → Bool → Type 0
 MakesNeedless x y true = Divides x y
 MakesNeedless x y false = Divides x y × ¬ (Divides y x)
 
--- the member at the place i is needed
+-- the member at the index i is needed
 abbrev pub IsNeededAt : List MarkedPolynomial → ℕ → Type 0
 IsNeededAt bs i = (b : MarkedPolynomial) × IsNeeded bs i b
 

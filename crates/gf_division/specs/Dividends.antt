@@ -1,5 +1,5 @@
--- A polynomial under reduction, cut at a place: the terms above the place and the terms below it, each list descending.
--- Moves carry terms over the place; a subtraction changes terms below it.
+-- A polynomial under reduction, cut at an index: the terms above the index and the terms below it, each list descending.
+-- Moves carry terms over the index; a subtraction changes terms below it.
 -- Laws: proofs/DividendLaws.antt, proofs/SubtractionLaws.antt.
 use Rattle.std.specs.Prelude.{◌≡◌, ◌≢◌, ◌⊎◌, ℕ, zero, [], ◌∷◌, ◌++◌, length, reverse, Contains}
 use Rattle.std.specs.declared.cmp.Ordering.{Ordering}
@@ -22,7 +22,7 @@ use Rattle.gf_division.specs.declared.dividend.Dividend.{Dividend}
 
 -- ---- two lists
 
--- the terms above the place, and those below it
+-- the terms above the index, and those below it
 pub record Split : Type 0 where
   pub above : Terms
   pub below : Terms
@@ -31,7 +31,7 @@ pub record Split : Type 0 where
 abbrev pub joined_terms : Split → Terms
 joined_terms s = s.above ++ s.below
 
--- what is kept: of the terms below the place the least stands first
+-- what is kept: of the terms below the index the least stands first
 abbrev pub split_of : Dividend → Split
 split_of d = record { above = d.above.items; below = reverse d.below.items }
 
@@ -53,7 +53,7 @@ pub record DividesFirst (x : Exponents) (f : Terms) : Type 0 where
 
 -- ---- moves
 
--- the first term below the place goes above it
+-- the first term below the index goes above it
 pub record PassesOne (old new : Split) : Type 0 where
   pub term : Term
   pub below : old.below ≡ term ∷ new.below
@@ -72,7 +72,7 @@ abbrev pub FirstIs : Terms → Exponents → Ordering → Type 0
 FirstIs [] x o = o ≡ Less
 FirstIs (t ∷ f) x o = o ≡ deglex t.mono x
 
--- the terms greater than x go above the place; the first one that stays compares with x so
+-- the terms greater than x go above the index; the first one that stays compares with x so
 pub record Descends (x : Exponents) (old new : Split) (o : Ordering) : Type 0 where
   pub passed : Terms
   pub above : new.above ≡ old.above ++ passed
@@ -81,7 +81,7 @@ pub record Descends (x : Exponents) (old new : Split) (o : Ordering) : Type 0 wh
   pub first : FirstIs new.below x o
   pub ends : o ≢ Greater
 
--- terms go below the place
+-- terms go below the index
 pub record MovesUp (old new : Split) : Type 0 where
   pub passed : Terms
   pub above : old.above ≡ new.above ++ passed
@@ -100,7 +100,7 @@ pub record IsDifferenceOverflow (a c : Fraction) (o : Overflow) : Type 0 where
 abbrev pub IsDifferenceRefusal : Fraction → Fraction → PolyError → Type 0
 IsDifferenceRefusal a c = ByKind (IsDifferenceOverflow a c) (λ o. ⊥)
 
--- c is taken from the coefficient of the first term below the place; what is left of the term goes above the place
+-- c is taken from the coefficient of the first term below the index; what is left of the term goes above the index
 pub record TakesFromFirst (c : Fraction) (old new : Split) : Type 0 where
   pub term : Term
   pub below : old.below ≡ term ∷ new.below
@@ -119,7 +119,7 @@ pub record IsScalingOverflow (c a : Fraction) (o : Overflow) : Type 0 where
   pub right : o.right ≡ a
   pub leaves : ¬ (Fits o.op o.left o.right)
 
--- c times the monomial x is taken away, and the place is below x
+-- c times the monomial x is taken away, and the index is below x
 pub record TakesAway (c : Fraction) (x : Exponents) (old new : Split) : Type 0 where
   pub same : SamePolynomial (joined_terms new) (joined_terms old ++ record { coef = neg_ℚ c; mono = x } ∷ [])
   pub sound : IsSound (length x) new
@@ -127,7 +127,7 @@ pub record TakesAway (c : Fraction) (x : Exponents) (old new : Split) : Type 0 w
   pub above : new.above ≡ old.above ++ passed
   pub from : AreFrom x new.above
 
--- the terms above the place are greater than each product of u with a term of g
+-- the terms above the index are greater than each product of u with a term of g
 abbrev pub AreOverProducts : Exponents → Terms → Terms → Type 0
 AreOverProducts u g f = Each (λ (t : Term). AreOver (plus u t.mono) f) g
 
@@ -163,8 +163,8 @@ pub record SharesVariables (b : MarkedPolynomial) (s : Split) : Type 0 where
   pub sound : IsSound n s
   pub poly : HasVariables n b.poly
 
--- the step at the first term below the place, by b: q is the quotient of that term by the mark, q times b is taken away,
--- and no term goes above the place
+-- the step at the first term below the index, by b: q is the quotient of that term by the mark, q times b is taken away,
+-- and no term goes above the index
 pub record TakesStep (b : MarkedPolynomial) (old : Split) (q : Term) (new : Split) : Type 0 where
   pub there : q.coef ≢ zero_ℚ
   pub coefficient_is : coefficient (joined_terms old) (head_of old.below zero) ≡ q.coef

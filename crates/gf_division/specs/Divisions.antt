@@ -23,7 +23,7 @@ abbrev pub product_of : Terms → Terms → Terms
 product_of [] g = []
 product_of (t ∷ h) g = times t.coef t.mono g ++ product_of h g
 
--- the sum of the cofactors times the members, place by place
+-- the sum of the cofactors times the members, index by index
 abbrev pub cofactor_sum : List Terms → List MarkedPolynomial → Terms
 cofactor_sum [] bs = []
 cofactor_sum (h ∷ hs) [] = []
@@ -40,7 +40,7 @@ abbrev pub no_quotients : List MarkedPolynomial → List Terms
 no_quotients [] = []
 no_quotients (b ∷ bs) = [] ∷ no_quotients bs
 
--- one quotient more, of the member at the place k
+-- one quotient more, of the member at the index k
 abbrev pub with_quotient : List Terms → ℕ → Term → List Terms
 with_quotient [] k t = []
 with_quotient (q ∷ qs) zero t = (q ++ t ∷ []) ∷ qs
@@ -50,9 +50,9 @@ with_quotient (q ∷ qs) (suc k) t = q ∷ with_quotient qs k t
 pub data IsDivisionByRule (bs : List MarkedPolynomial) (f : Terms) : List Terms → Terms → Type 0 where
   here : IsDivisionByRule bs f (no_quotients bs) f
   next : (qs : List Terms) (g h : Terms) → IsDivisionByRule bs f qs g → (s : IsRuleStep bs g h) →
-      IsDivisionByRule bs f (with_quotient qs s.place (record { coef = coefficient g s.at; mono = s.rest })) h
+      IsDivisionByRule bs f (with_quotient qs s.index (record { coef = coefficient g s.at; mono = s.rest })) h
 
--- place by place: h is the sum of the quotients q
+-- index by index: h is the sum of the quotients q
 abbrev pub AreSums : List Terms → List Terms → Type 0
 AreSums [] [] = Unit {0}
 AreSums [] (h ∷ hs) = ⊥

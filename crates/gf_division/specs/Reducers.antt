@@ -11,7 +11,7 @@ use Rattle.gf_ideal_theory.specs.Reduction.{IsDivisible}
 use Rattle.gf_ideal_theory.specs.Settled.{IsAt}
 use Rattle.gf_division.specs.Dividends.{Split, IsSound, IsTermInFront}
 
--- the member at the place j is the first one whose mark divides x; it has as many variables as x
+-- the member at the index j is the first one whose mark divides x; it has as many variables as x
 pub record IsDivisorAt (bs : List MarkedPolynomial) (x : Exponents) (j : ℕ) : Type 0 where
   pub member : MarkedPolynomial
   pub at : IsAt bs j member
@@ -20,11 +20,11 @@ pub record IsDivisorAt (bs : List MarkedPolynomial) (x : Exponents) (j : ℕ) : 
   pub head : length member.head ≡ length x
   pub poly : HasVariables (length x) member.poly
 
--- b stands at a place of the list, and the mark of no member before that one divides x
+-- b stands at an index of the list, and the mark of no member before that one divides x
 pub record IsFirstFor (bs : List MarkedPolynomial) (x : Exponents) (b : MarkedPolynomial) : Type 0 where
-  pub place : ℕ
-  pub at : IsAt bs place b
-  pub before : (i : ℕ) (c : MarkedPolynomial) → i < place → IsAt bs i c → NoMultiple c.head x
+  pub index : ℕ
+  pub at : IsAt bs index b
+  pub before : (i : ℕ) (c : MarkedPolynomial) → i < index → IsAt bs i c → NoMultiple c.head x
 
 -- x isn't the spared monomial
 abbrev pub IsBeside : Option Exponents → Exponents → Type 0
@@ -47,7 +47,7 @@ pub record ShareVariables (s : Split) (bs : List MarkedPolynomial) (spared : Opt
   pub members : HaveVariables n bs
   pub spare : IsSpareIn n spared
 
--- the member at the place j reduces the first term below the place
+-- the member at the index j reduces the first term below the index
 pub record IsReducibleFirst (bs : List MarkedPolynomial) (spared : Option Exponents) (s : Split) (j : ℕ) : Type 0 where
   pub term : Term
   pub is : IsTermInFront s.below term
@@ -55,7 +55,7 @@ pub record IsReducibleFirst (bs : List MarkedPolynomial) (spared : Option Expone
   pub beside : IsBeside spared term.mono
   pub monomial : IsMonomial term.mono
 
--- what a search ends with: the place of such a member, or no terms below the place
+-- what a search ends with: the index of such a member, or no terms below the index
 abbrev pub IsSought : List MarkedPolynomial → Option Exponents → Split → Option ℕ → Type 0
 IsSought bs spared s (Some j) = IsReducibleFirst bs spared s j
 IsSought bs spared s None = s.below ≡ []

@@ -37,7 +37,7 @@ pub record IsWorkedOn (bs : List MarkedPolynomial) (spared : Option Exponents) (
   pub variables : ShareVariables new bs spared
   pub kept : KeepsVariables (joined_terms old) (joined_terms new)
 
--- what a search for the next step ends with: the place of a member that reduces the first term below the place, or no term
+-- what a search for the next step ends with: the index of a member that reduces the first term below the index, or no term
 -- can be divided any more
 abbrev pub IsNextStep : List MarkedPolynomial → Option Exponents → Split → Option ℕ → Type 0
 IsNextStep bs spared s (Some j) = IsReducibleFirst bs spared s j

@@ -25,7 +25,7 @@ abbrev pub terms_in : List (Key × Fraction) → Terms
 terms_in [] = []
 terms_in (e ∷ es) = record { coef = e.1; mono = e.0.mono } ∷ terms_in es
 
--- all terms of the table, with the place above them
+-- all terms of the table, with the index above them
 abbrev pub table_of : Table → Split
 table_of t = record { above = []; below = terms_in t.entries.entries }
 
@@ -43,11 +43,11 @@ pub record IsCutBefore (f : Terms) (t : Term) : Type 0 where
   pub same : joined_terms cut ≡ f
   pub first : IsTermInFront cut.below t
 
--- the step at the term t of f by b leads to new, wherever the place is at that term
+-- the step at the term t of f by b leads to new, wherever the index is at that term
 pub record StepsFrom (b : MarkedPolynomial) (f : Terms) (t : Term) (new : Split) : Type 0 where
   pub step : (s : Split) → joined_terms s ≡ f → IsTermInFront s.below t → (q : Term) × TakesStep b s q new
 
--- t is a term of f, and the member at the place j is the first one whose mark divides it
+-- t is a term of f, and the member at the index j is the first one whose mark divides it
 pub record IsReducibleAt (bs : List MarkedPolynomial) (spared : Option (List ℕ)) (f : Terms) (t : Term) (j : ℕ) : Type 0 where
   pub there : IsCutBefore f t
   pub divisor : IsDivisorAt bs t.mono j

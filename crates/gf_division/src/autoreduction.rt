@@ -29,7 +29,7 @@ fn makes_needless(x: &Mono, y: &Mono, is_before: bool) -> bool
     x.divides(y) && (is_before || !y.divides(x))
 }
 
-/// Whether the member at the place `i` is needed.
+/// Whether the member at the index `i` is needed.
 pub fn is_needed(items: &[Marked], i: usize) -> bool
     requires within { i < length items.now }
     requires variables { ShareSomeVariables items.now }
@@ -63,8 +63,8 @@ fn needed_forms(alloc: Global, items: &[Marked]) -> Result<Vec<Marked>, PolyErro
     Ok(forms)
 }
 
-/// The place of the term at `x`, which is a monomial of the polynomial.
-pub fn place_of(terms: &[Term], x: &Mono) -> usize
+/// The index of the term at `x`, which is a monomial of the polynomial.
+pub fn index_of(terms: &[Term], x: &Mono) -> usize
     requires variables { HasVariables (length x.now) terms.now }
     requires there { HasMonomial terms.now x.now }
     ensures inside { result < length terms.now }
@@ -105,8 +105,8 @@ pub fn reduced_tail(
     let mut rest = Dividend::new(alloc, member.poly().copy()?);
     work_off(alloc, &mut rest, by, &spared, guide)?;
     let tail = rest.into_poly()?;
-    let place = place_of(tail.terms(), member.head());
-    Ok(Marked::mark(tail, place))
+    let index = index_of(tail.terms(), member.head());
+    Ok(Marked::mark(tail, index))
 }
 
 /// The members with their tails reduced by one another.

@@ -1,8 +1,10 @@
-//! A polynomial that is being reduced, with a place in it.
+//! A polynomial that is being reduced, with an index in it.
 
 ghost use Rattle.std.specs.Prelude.{false, zero, ◌≡◌, ◌≢◌, ◌≤◌, [], ◌++◌, length, reverse, MatchOption, IfOk, IfErr, IsTrue, OnOk};
 ghost use Rattle.gf_frac.specs.Fraction.{◌-ℚ◌, ◌*ℚ◌, zero_ℚ};
 ghost use Rattle.gf_exponents_theory.specs.Exponents.{plus};
+ghost use Rattle.std.specs.declared.cmp.Ordering.TheVariants.{Greater};
+ghost use Rattle.gf_exponents_theory.specs.Orders.{deglex};
 ghost use Rattle.gf_poly.specs.Marking.{head_of};
 ghost use Rattle.gf_poly.specs.Polynomial.{coefficient as coefficient_at, IsDescending, HasVariables};
 ghost use Rattle.gf_poly.specs.Sums.{PushesNonzero};
@@ -10,6 +12,7 @@ ghost use Rattle.gf_division.specs.Steps.{IsStepRefusal};
 ghost use Rattle.gf_division.specs.Dividends.{split_of, joined_terms, IsSound, IsTermInFront, DividesFirst, AreOver, AreOverProducts, PassesOne, FirstIs};
 ghost use Rattle.gf_division.specs.Dividends.{Descends, MovesUp, TakesFromFirst, IsFirstRefusal, TakesAway, IsDifferenceRefusal, IsScalingOverflow, Subtracts};
 ghost use Rattle.gf_division.specs.Dividends.{IsSubtractionRefusal, SharesVariables, TakesStep};
+ghost use Rattle.gf_division.specs.Chains.{IsOverRest, HasRoom, IsReplaced};
 
 use crate::front::{Front, Guide};
 use gf_frac::{Frac, Overflow};
@@ -18,9 +21,9 @@ use std::alloc::{AllocError, Global};
 use std::cmp::Ordering;
 use std::mem;
 
-/// The terms above the place, the greatest first, and the terms below it, the greatest last.
+/// The terms above the index, the greatest first, and the terms below it, the greatest last.
 ///
-/// A step of reduction works at the place: it copies no term, and moves none that it doesn't pass. Where monomials wait to be
+/// A step of reduction works at the index: it copies no term, and moves none that it doesn't pass. Where monomials wait to be
 /// reduced, one that a step adds waits too. Since then it is counted how many terms were passed, and how many were taken away.
 #[derive(Drop)]
 pub struct Dividend {
@@ -52,6 +55,16 @@ pub(crate) fn product(a: &Frac, b: &Frac) -> Result<Frac, Overflow>
     a.mul(b)
 }
 
+/// Whether `x` is greater than `y`.
+pub(crate) fn is_greater(x: &Mono, y: &Mono) -> bool
+    ensures { IsTrue result → deglex x.now y.now ≡ Greater }
+{
+    match x.compare(y) {
+        Ordering::Greater => true,
+        _ => false,
+    }
+}
+
 /// Adds what is left of the term once `coef` is taken away, unless nothing is left; of equal numbers nothing is.
 fn push_difference(above: &mut Vec<Term>, t: Term, coef: &Frac) -> Result<(), PolyError>
     ensures ok { OnOk result (PushesNonzero above.old.items above.new.items (record { coef = t.coef -ℚ coef.now; mono = t.mono })) }
@@ -71,7 +84,7 @@ fn push_difference(above: &mut Vec<Term>, t: Term, coef: &Frac) -> Result<(), Po
     Ok(())
 }
 
-/// The terms above the place and those below it, in one list.
+/// The terms above the index and those below it, in one list.
 fn joined(above: Vec<Term>, below: Vec<Term>) -> Result<Vec<Term>, AllocError>
     ensures { IfOk result (λ h. h.items ≡ above.items ++ reverse below.items) }
 {
@@ -84,7 +97,7 @@ fn joined(above: Vec<Term>, below: Vec<Term>) -> Result<Vec<Term>, AllocError>
 }
 
 impl Dividend {
-    /// The polynomial with the place above all terms; nothing is copied.
+    /// The polynomial with the index above all terms; nothing is copied.
     pub fn new(alloc: Global, f: Poly) -> Dividend
         ensures value { split_of result ≡ record { above = []; below = f } }
         ensures descending { IsDescending f }
@@ -100,7 +113,7 @@ impl Dividend {
         }
     }
 
-    /// The polynomial; nothing is copied, and terms that are still below the place are moved.
+    /// The polynomial; nothing is copied, and terms that are still below the index are moved.
     ///
     /// # Errors
     ///
@@ -114,7 +127,7 @@ impl Dividend {
         Ok(Poly::from_descending(terms))
     }
 
-    /// The first term below the place.
+    /// The first term below the index.
     pub fn next(&self) -> Option<&Term>
         ensures { MatchOption result ((split_of self.now).below ≡ []) (λ t. IsTermInFront (split_of self.now).below t.now) }
     {
@@ -125,7 +138,7 @@ impl Dividend {
         Some(&self.below[n - 1])
     }
 
-    /// Moves the place below the first term that is below it; where there is none, nothing changes.
+    /// Moves the index below the first term that is below it; where there is none, nothing changes.
     ///
     /// # Errors
     ///
@@ -141,7 +154,7 @@ impl Dividend {
         Ok(())
     }
 
-    /// Moves the place above the last term that is above it.
+    /// Moves the index above the last term that is above it.
     fn retreat(&mut self) -> Result<(), AllocError>
         requires { self.old.above.items ≢ [] }
         ensures { OnOk result (PassesOne (split_of self.new) (split_of self.old)) }
@@ -153,7 +166,56 @@ impl Dividend {
         Ok(())
     }
 
-    /// How the first term below the place compares with `x`; where there is none it counts as less.
+    /// Whether the terms after the first one below the index are less than `x`.
+    fn is_over_next(&self, x: &Mono) -> bool
+        ensures { IsTrue result → IsDescending (split_of self.now).below → IsOverRest x.now (split_of self.now).below }
+    {
+        let n = self.below.len();
+        if n == 0 {
+            return false;
+        }
+        if n == 1 {
+            return true;
+        }
+        is_greater(x, &self.below[n - 2].mono)
+    }
+
+    /// Whether the terms descend with `x` in place of the first monomial below the index.
+    pub(crate) fn has_room(&self, x: &Mono) -> bool
+        requires { IsDescending (joined_terms (split_of self.now)) }
+        ensures { IsTrue result → HasRoom (split_of self.now) x.now }
+    {
+        if self.has_passed(x) {
+            return false;
+        }
+        self.is_over_next(x)
+    }
+
+    /// Whether `x` is between the terms beside the first one below the index, and comes before all monomials that wait.
+    pub(crate) fn stays_at(&self, x: &Mono) -> bool {
+        let is_ahead = match &self.front {
+            Some(front) => front.is_ahead(x),
+            None => true,
+        };
+        is_ahead && self.is_over_next(x) && !self.has_passed(x)
+    }
+
+    /// The first term below the index is this one from now on.
+    ///
+    /// # Errors
+    ///
+    /// `AllocError` if memory runs out; nothing is promised of the polynomial then.
+    pub(crate) fn replace_next(&mut self, t: Term) -> Result<(), AllocError>
+        requires { (split_of self.old).below ≢ [] }
+        ensures { OnOk result (IsReplaced t (split_of self.old) (split_of self.new)) }
+    {
+        if let Some(_) = self.below.pop() {
+            self.below.push(t)?;
+        }
+        Ok(())
+    }
+
+    /// How the first term below the index compares with `x`; where there is none it counts as less.
     fn compare_next(&self, x: &Mono) -> Ordering
         ensures { FirstIs (split_of self.now).below x.now result }
     {
@@ -163,7 +225,7 @@ impl Dividend {
         }
     }
 
-    /// Whether the last term above the place isn't greater than `x`.
+    /// Whether the last term above the index isn't greater than `x`.
     fn has_passed(&self, x: &Mono) -> bool
         ensures yes { IsTrue result → self.now.above.items ≢ [] }
         ensures no { result ≡ false → IsDescending self.now.above.items → AreOver x.now self.now.above.items }
@@ -178,7 +240,7 @@ impl Dividend {
         }
     }
 
-    /// Moves the place down to the first term that isn't greater than `x`, and answers how that one compares with it.
+    /// Moves the index down to the first term that isn't greater than `x`, and answers how that one compares with it.
     ///
     /// # Errors
     ///
@@ -194,7 +256,7 @@ impl Dividend {
         }
     }
 
-    /// Moves the place up until all terms above it are greater than `x`.
+    /// Moves the index up until all terms above it are greater than `x`.
     fn ascend(&mut self, x: &Mono) -> Result<(), AllocError>
         requires { IsDescending self.old.above.items }
         ensures moves { OnOk result (MovesUp (split_of self.old) (split_of self.new)) }
@@ -206,11 +268,11 @@ impl Dividend {
         Ok(())
     }
 
-    /// Moves the place up until `n` terms are above it.
+    /// Moves the index up until `n` terms are above it.
     fn rise(&mut self, n: usize) -> Result<(), AllocError>
         requires { n ≤ length self.old.above.items }
         ensures moves { OnOk result (MovesUp (split_of self.old) (split_of self.new)) }
-        ensures place { OnOk result (length self.new.above.items ≡ n) }
+        ensures index { OnOk result (length self.new.above.items ≡ n) }
     {
         'terms: while self.above.len() > n {
             self.retreat()?;
@@ -218,7 +280,7 @@ impl Dividend {
         Ok(())
     }
 
-    /// Takes `coef` from the coefficient of the first term below the place; what is left of the term goes above it.
+    /// Takes `coef` from the coefficient of the first term below the index; what is left of the term goes above it.
     fn take_from_next(&mut self, coef: &Frac) -> Result<(), PolyError>
         requires { (split_of self.old).below ≢ [] }
         ensures ok { OnOk result (TakesFromFirst coef.now (split_of self.old) (split_of self.new)) }
@@ -272,7 +334,7 @@ impl Dividend {
         all.into_poly()
     }
 
-    /// Whether the place passes so many terms for those that are taken away that a table is faster.
+    /// Whether the index passes so many terms for those that are taken away that a table is faster.
     pub(crate) fn is_far(&self) -> bool {
         self.passed / FAR > self.taken.saturating_add(FEW)
     }
@@ -295,7 +357,7 @@ impl Dividend {
         }
     }
 
-    /// Moves the place to the first term that isn't greater than `x`, and answers how that one compares with it.
+    /// Moves the index to the first term that isn't greater than `x`, and answers how that one compares with it.
     ///
     /// # Errors
     ///
@@ -308,7 +370,7 @@ impl Dividend {
         self.descend(x)
     }
 
-    /// Moves the place above all terms.
+    /// Moves the index above all terms.
     ///
     /// # Errors
     ///
@@ -320,7 +382,7 @@ impl Dividend {
         self.rise(0)
     }
 
-    /// Takes `coef` times `mono` away, which is below the terms above the place; the place is below it then.
+    /// Takes `coef` times `mono` away, which is below the terms above the index; the index is below it then.
     fn take_away(&mut self, coef: &Frac, mono: Mono) -> Result<(), PolyError>
         requires sound { IsSound (length mono) (split_of self.old) }
         requires over { AreOver mono self.old.above.items }
@@ -341,7 +403,7 @@ impl Dividend {
         }
     }
 
-    /// Takes `coef` times `shift` times the sum of `terms` away, in one pass from the place down.
+    /// Takes `coef` times `shift` times the sum of `terms` away, in one pass from the index down.
     ///
     /// # Errors
     ///
@@ -366,7 +428,7 @@ impl Dividend {
         Ok(())
     }
 
-    /// The quotient of the first term below the place by `by`, which divides it.
+    /// The quotient of the first term below the index by `by`, which divides it.
     fn quotient(&self, by: &Mono) -> Term
         requires sound { IsSound (length by.now) (split_of self.now) }
         requires divides { DividesFirst by.now (split_of self.now).below }
@@ -384,8 +446,8 @@ impl Dividend {
         }
     }
 
-    /// The step at the first term below the place by `by`, whose mark divides it; answers the quotient of the term by the
-    /// mark. No term is above the place that wasn't there.
+    /// The step at the first term below the index by `by`, whose mark divides it; answers the quotient of the term by the
+    /// mark. No term is above the index that wasn't there.
     ///
     /// # Errors
     ///
@@ -401,9 +463,9 @@ impl Dividend {
         let first = &terms[0];
         let greatest = quotient.mono.mul(&first.mono)?;
         self.ascend(&greatest)?;
-        let place = self.above.len();
+        let index = self.above.len();
         self.subtract(&quotient.coef, &quotient.mono, terms)?;
-        self.rise(place)?;
+        self.rise(index)?;
         Ok(quotient)
     }
 }

@@ -34,7 +34,7 @@ fn no_quotient(alloc: Global, members: usize) -> Result<Vec<Vec<Term>>, AllocErr
     Ok(lists)
 }
 
-/// Adds a quotient of the member at the place k.
+/// Adds a quotient of the member at the index k.
 fn add_quotient(lists: &mut Vec<Vec<Term>>, k: usize, quotient: Term) -> Result<(), AllocError>
     requires { k < length lists.old.items }
     ensures { OnOk result (lists_of lists.new.items ≡ with_quotient (lists_of lists.old.items) k quotient) }
@@ -97,7 +97,7 @@ pub fn divide(alloc: Global, f: &Poly, by: &MarkedSet) -> Result<Division, PolyE
     ensures descending { IfOk result (λ d. IsDescending d.remainder) }
     ensures variables { IfOk result (λ d. HasVariables by.now.variables d.remainder) }
     ensures cofactors { IfOk result (λ d. AreCofactors by.now.items f.now d.remainder d.cofactors) }
-    ensures places { IfOk result (λ d. length d.cofactors ≡ length by.now.items) }
+    ensures indices { IfOk result (λ d. length d.cofactors ≡ length by.now.items) }
     ensures forms { IfOk result (λ d. AreForms by.now.variables d.cofactors) }
     ensures cause { IfErr result (IsDivisionRefusal by.now.items f.now) }
 {

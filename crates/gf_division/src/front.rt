@@ -118,7 +118,7 @@ pub fn arranged(x: &[u32], by_revlex: bool) -> [u32; ROOM]
 }
 
 /// The monomial with these exponents, if they are within the limit.
-fn monomial(alloc: Global, exponents: &[u32]) -> Option<Mono> {
+pub(crate) fn monomial(alloc: Global, exponents: &[u32]) -> Option<Mono> {
     if exponents.len() > ROOM {
         return None;
     }
@@ -194,13 +194,27 @@ impl Front {
         if !is_open(x, &self.marks) {
             return Ok(());
         }
+        self.n = x.exponents().len();
+        let waiting = self.waiting(x);
+        self.heap.push(waiting)?;
+        Ok(())
+    }
+
+    /// The monomial as it waits.
+    fn waiting(&self, x: &Mono) -> Waiting {
         let exponents = x.exponents();
-        self.n = exponents.len();
-        self.heap.push(Waiting {
+        Waiting {
             level: heft_of(&self.weight, exponents),
             exponents: arranged(exponents, self.by_revlex),
-        })?;
-        Ok(())
+        }
+    }
+
+    /// Whether `x` comes before all that wait.
+    pub fn is_ahead(&self, x: &Mono) -> bool {
+        match self.heap.peek() {
+            Some(top) => *top < self.waiting(x),
+            None => true,
+        }
     }
 
     /// Takes the greatest monomial out.

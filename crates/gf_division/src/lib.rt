@@ -2,6 +2,7 @@
 #![tactic(auto)]
 
 mod autoreduction;
+mod chains;
 mod dividend;
 mod divisions;
 mod front;
@@ -14,7 +15,8 @@ mod steps;
 mod table;
 mod weights;
 
-pub use autoreduction::{autoreduce, autoreduce_by, is_needed, place_of, reduced_tail};
+pub use autoreduction::{autoreduce, autoreduce_by, index_of, is_needed, reduced_tail};
+pub use chains::stride;
 pub use dividend::Dividend;
 pub use divisions::{Division, divide};
 pub use front::{Guide, arranged};

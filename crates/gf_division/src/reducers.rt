@@ -23,7 +23,7 @@ fn is_divided(x: &Mono, degree: u64, mark: &Mono) -> bool
     mark.divides(x)
 }
 
-/// The place of the first member whose mark divides `x`, if there is one.
+/// The index of the first member whose mark divides `x`, if there is one.
 pub fn divisor_of(x: &Mono, by: &[Marked]) -> Option<usize>
     requires { HaveVariables (length x.now) by.now }
     ensures found { IfSome result (IsDivisorAt by.now x.now) }
@@ -51,7 +51,7 @@ fn is_beside(spared: &Option<Mono>, x: &Mono) -> bool
     }
 }
 
-/// The place of the first member that reduces a term at `x`, if there is one and `x` isn't spared.
+/// The index of the first member that reduces a term at `x`, if there is one and `x` isn't spared.
 pub fn reducer_of(x: &Mono, by: &[Marked], spared: &Option<Mono>) -> Option<usize>
     requires members { HaveVariables (length x.now) by.now }
     requires spare { IsSpareIn (length x.now) spared.now }
@@ -65,7 +65,7 @@ pub fn reducer_of(x: &Mono, by: &[Marked], spared: &Option<Mono>) -> Option<usiz
     }
 }
 
-/// Moves the place down to the first term that a member reduces, and answers the place of the first such member among `by`; none where no member
+/// Moves the index down to the first term that a member reduces, and answers the index of the first such member among `by`; none where no member
 /// reduces a term.
 ///
 /// # Errors

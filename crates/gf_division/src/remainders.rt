@@ -12,6 +12,7 @@ ghost use Rattle.gf_division.specs.Reducers.{AreIrreducible, ShareVariables, IsR
 ghost use Rattle.gf_division.specs.Remainders.{IsRemainder, IsWorkedOn, IsNextStep, IsWorkRefusal};
 ghost use Rattle.gf_division.specs.Tables.{table_of, IsReducibleAt};
 
+use crate::chains::stride;
 use crate::dividend::Dividend;
 use crate::front::Guide;
 use crate::reducers::{reducer_of, seek};
@@ -20,7 +21,7 @@ use gf_poly::{Marked, Mono, Poly, PolyError, Term};
 use std::alloc::{AllocError, Global};
 use std::cmp::Ordering;
 
-/// The first member that reduces the term at `x`, where the polynomial has one; the place is at that term then.
+/// The first member that reduces the term at `x`, where the polynomial has one; the index is at that term then.
 fn reducer_at(
     rest: &mut Dividend,
     x: &Mono,
@@ -46,7 +47,7 @@ fn reducer_at(
     }
 }
 
-/// The place goes to the foremost term that waits and that a member reduces; answers the place of the first such member.
+/// The index goes to the foremost term that waits and that a member reduces; answers the index of the first such member.
 fn next_waiting(
     alloc: Global,
     rest: &mut Dividend,
@@ -70,8 +71,8 @@ fn next_waiting(
     Ok(None)
 }
 
-/// The place goes to the foremost term that waits and that a member reduces, and else to the first term that one reduces; answers
-/// the place of the first such member.
+/// The index goes to the foremost term that waits and that a member reduces, and else to the first term that one reduces; answers
+/// the index of the first such member.
 fn next(
     alloc: Global,
     rest: &mut Dividend,
@@ -91,6 +92,7 @@ fn next(
 
 /// Steps by the rule, so many at most; whether no member reduces a term any more.
 fn by_rule(
+    alloc: Global,
     rest: &mut Dividend,
     by: &[Marked],
     spared: &Option<Mono>,
@@ -102,11 +104,13 @@ fn by_rule(
     ensures done { IfOk result (λ d. IsTrue d → AreIrreducible by.now spared.now (joined_terms (split_of rest.new))) }
     ensures cause { IfErr result (IsWorkRefusal by.now spared.now (joined_terms (split_of rest.old))) }
 {
-    'steps: for _ in 0..most {
+    let mut left = most;
+    'steps: while left > 0 {
+        left -= 1;
         match seek(rest, by, spared)? {
             Some(j) => {
-                let member = &by[j];
-                let _ = rest.step(member)?;
+                let others = stride(alloc, rest, by, j, spared, left)?;
+                left = left.saturating_sub(others);
             }
             None => return Ok(true),
         }
@@ -128,13 +132,12 @@ fn by_guide(
     ensures cause { IfErr result (IsWorkRefusal by.now spared.now (joined_terms (split_of rest.old))) }
 {
     'steps: while let Some(j) = next(alloc, rest, by, spared)? {
-        let member = &by[j];
-        let _ = rest.step(member)?;
+        let _ = stride(alloc, rest, by, j, spared, u64::MAX)?;
     }
     Ok(())
 }
 
-/// Steps by the guide at terms that wait, until none does or the place has passed many terms; whether it has.
+/// Steps by the guide at terms that wait, until none does or the index has passed many terms; whether it has.
 fn while_near(
     alloc: Global,
     rest: &mut Dividend,
@@ -147,8 +150,7 @@ fn while_near(
     ensures cause { IfErr result (IsWorkRefusal by.now spared.now (joined_terms (split_of rest.old))) }
 {
     'steps: while let Some(j) = next_waiting(alloc, rest, by, spared)? {
-        let member = &by[j];
-        let _ = rest.step(member)?;
+        let _ = stride(alloc, rest, by, j, spared, u64::MAX)?;
         if rest.is_far() {
             return Ok(true);
         }
@@ -156,7 +158,7 @@ fn while_near(
     Ok(false)
 }
 
-/// The foremost term that waits and that a member reduces, and the place of the first such member.
+/// The foremost term that waits and that a member reduces, and the index of the first such member.
 fn next_in(
     alloc: Global,
     table: &mut Table,
@@ -223,7 +225,7 @@ fn by_table(
     Ok(())
 }
 
-/// Steps by the guide at terms that wait; where the place passes many terms, the rest of them in a table.
+/// Steps by the guide at terms that wait; where the index passes many terms, the rest of them in a table.
 fn shortened(
     alloc: Global,
     rest: &mut Dividend,
@@ -258,7 +260,7 @@ pub(crate) fn work_off(
     ensures done { OnOk result (AreIrreducible by.now spared.now (joined_terms (split_of rest.new))) }
     ensures cause { IfErr result (IsWorkRefusal by.now spared.now (joined_terms (split_of rest.old))) }
 {
-    if by_rule(rest, by, spared, guide.patience())? {
+    if by_rule(alloc, rest, by, spared, guide.patience())? {
         return Ok(());
     }
     guide.find(alloc, by);

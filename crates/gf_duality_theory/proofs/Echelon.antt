@@ -18,7 +18,7 @@ use Rattle.gf_gordan.specs.Elimination.{IsPivot, row_at, size_at, signed_at}
 use Rattle.gf_duality_theory.specs.Generators.{Made, nothing, line, summed, divided}
 use Rattle.gf_duality_theory.specs.Rays.{IsEchelon}
 use Rattle.gf_duality_theory.specs.Elimination.{IsTurned, IsFirstAt, IsEliminated, begun, skipped, turned, IsNormalised, IsEchelonBasis}
-use Rattle.gf_duality_theory.proofs.ListLaws.{none_in, in_cons, in_more, zip_from, zip_to, place, less, at, more, of_rest, rest_cover}
+use Rattle.gf_duality_theory.proofs.ListLaws.{none_in, in_cons, in_more, zip_from, zip_to, index, less, at, more, of_rest, rest_cover}
 use Rattle.gf_vec.proofs.EntryLaws.{signum_up, entry_times, entry_plus, cancel, all_zero}
 use Rattle.gf_duality_theory.proofs.PivotLaws.{pivot_unique}
 use Rattle.gf_vec.proofs.VectorIdentities.{vv, ◌⊞◌, ◌⊡◌, vsame}
@@ -126,7 +126,7 @@ shape n rows j done left w (skipped b m old rest e z g) =
     record {
       done_width = s.done_width;
       left_width = s.left_width;
-      left_zero = λ x i c h. elim (place b i) [
+      left_zero = λ x i c h. elim (index b i) [
         | less k ↦ s.left_zero x i c k
         | at q ↦ subst (λ t. entry_at x t ≡ pos 0) q (All-contains (λ t. entry_at t b ≡ pos 0) rest x z c)
         | more k ↦ absurd (omega arith)
@@ -152,7 +152,7 @@ shape n rows j done left w (turned b m old from others rest out kk e hb f zd zr 
     subst (λ l. Shape n m l rest) (sym q) (record {
       done_width = in_more (λ u. length u ≡ n) others r (λ u c. (back u c).1.1.long) lr;
       left_width = λ u c. (to u c).1.1.long;
-      left_zero = λ u i c h. let t = to u c in elim (place b i) [
+      left_zero = λ u i c h. let t = to u c in elim (index b i) [
         | less k ↦ turned_zero n b r t.0 u i (s.left_width t.0 t.1.0) lr t.1.1 (s.left_zero t.0 i t.1.0 k) (rz i k)
         | at z ↦ subst (λ k. entry_at u k ≡ pos 0) z t.1.1.at
         | more k ↦ absurd (omega arith)

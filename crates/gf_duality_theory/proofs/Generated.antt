@@ -26,7 +26,7 @@ HaveWidth n rows = AllByRecursion (λ t. length t ≡ n) rows
 abbrev pub vc : {n k : ℕ} {ms : List ℤ} → (rows : List (List ℤ)) → HaveWidth n rows → Vec k ms → Vec n (combined n ms rows)
 vc {n} {k} {ms} rows w x = record { long = length-combined n ms rows w; on = λ u. moved (sym (dot-combined n ms rows u w)) (x.on (values rows u)) }
 
--- a at one place, and zeros
+-- a at one index, and zeros
 abbrev pub spike : ℕ → ℕ → ℤ → List ℤ
 spike zero i a = []
 spike (suc n) zero a = a ∷ zeros n

@@ -1,5 +1,5 @@
-pub mod ListLaws  -- what lists contain, a list without one of its places
-pub mod PlacesLaws  -- what holds of all but one
+pub mod ListLaws  -- what lists contain, a list without one of its indices
+pub mod IndicesLaws  -- what holds of all but one
 pub mod PairLaws  -- the combination of two vectors that is zero at a row
 pub mod PivotLaws  -- one pivot for each vector, made positive
 pub mod Made  -- what is generated, and what is kept along it

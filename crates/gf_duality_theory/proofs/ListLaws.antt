@@ -1,4 +1,4 @@
--- Lists: what is in them, what is related to what, and a list without one of its places.
+-- Lists: what is in them, what is related to what, and a list without one of its indices.
 use Rattle.std.proofs.Common.{◌≡◌, ◌≢◌, ℕ, zero, suc, ◌+◌, ◌-◌, ◌<◌, List, [], ◌∷◌, ◌++◌, length, ℤ, arith, sym, refl, ap, ◌∙◌, subst, Contains, ◌⊎◌, inl, inr}
 use Rattle.std.proofs.Common.{remove, get_or}
 use Rattle.std.specs.List.{AllZip}
@@ -45,22 +45,22 @@ zip_from R (x ∷ xs) (z ∷ ys) y a c = elim (in_cons z ys y c) [
   | inr d ↦ let t = zip_from R xs ys y a.1 d in (t.0, (in_tail x xs t.0 t.1.0, t.1.1))
 ]
 
--- a list without one of its places
-pub data Place (i j : ℕ) : Type 0 where
-  less : j < i → Place i j
-  at : i ≡ j → Place i j
-  more : i < j → Place i j
+-- a list without one of its indices
+pub data Index (i j : ℕ) : Type 0 where
+  less : j < i → Index i j
+  at : i ≡ j → Index i j
+  more : i < j → Index i j
 
-pub place : (i j : ℕ) → Place i j
-place zero zero = at refl
-place zero (suc j) = more (omega arith)
-place (suc i) zero = less (omega arith)
-place (suc i) (suc j) = elim (place i j) [ less h ↦ less (omega arith) | at e ↦ at (ap suc e) | more h ↦ more (omega arith) ]
+pub index : (i j : ℕ) → Index i j
+index zero zero = at refl
+index zero (suc j) = more (omega arith)
+index (suc i) zero = less (omega arith)
+index (suc i) (suc j) = elim (index i j) [ less h ↦ less (omega arith) | at e ↦ at (ap suc e) | more h ↦ more (omega arith) ]
 
 pub in_rest : {X : Type 0} (xs : List X) (i j : ℕ) (d : X) → i < length xs → j < length xs → i ≢ j → Contains (remove xs i) (get_or xs j d)
 in_rest xs i j d hi hj n =
     let e = get_or xs j d in let l = length-remove xs i hi in
-    elim (place i j) [
+    elim (index i j) [
       | less h ↦ (j, omega (arith, l), get_or-remove_below xs i e j h hi ∙ get_or_default xs j e d hj)
       | at q ↦ absurd (n q)
       | more h ↦ (
@@ -81,7 +81,7 @@ pub record StoodAt {X : Type 0} (xs : List X) (i : ℕ) (x : X) : Type 0 where
 pub stood : {X : Type 0} (xs : List X) (i : ℕ) (x : X) → i < length xs → Contains (remove xs i) x → StoodAt xs i x
 stood xs i x hi (k, l, e) =
     let m = length-remove xs i hi in
-    elim (place i k) [
+    elim (index i k) [
       | less h ↦ record { j = k; inside = omega arith; other = λ q. omega arith; is = sym (get_or-remove_below xs i x k h hi) ∙ e }
       | at q ↦ record { j = k + 1; inside = omega (arith, m); other = λ r. omega arith; is = sym (get_or-remove_above xs i x k (omega arith) hi) ∙ e }
       | more h ↦ record { j = k + 1; inside = omega (arith, m); other = λ r. omega arith; is = sym (get_or-remove_above xs i x k (omega arith) hi) ∙ e }
@@ -91,7 +91,7 @@ pub of_rest : {X : Type 0} (xs : List X) (i : ℕ) (x : X) → i < length xs →
 of_rest xs i x hi c = let s = stood xs i x hi c in (s.j, s.inside, s.is)
 
 pub rest_cover : {X : Type 0} (xs : List X) (i : ℕ) (d x : X) → i < length xs → Contains xs x → Contains (remove xs i) x ⊎ Contains (get_or xs i d ∷ []) x
-rest_cover {X} xs i d x hi (k, l, e) = elim (place i k) [
+rest_cover {X} xs i d x hi (k, l, e) = elim (index i k) [
   | less h ↦ inl (subst (Contains (remove xs i)) e (in_rest xs i k x hi l (λ q. omega arith)))
   | at q ↦ inr (zero, omega arith, get_or_default xs i d x hi ∙ ap (λ t. get_or xs t x) q ∙ e)
   | more h ↦ inl (subst (Contains (remove xs i)) e (in_rest xs i k x hi l (λ q. omega arith)))

@@ -10,11 +10,11 @@ use Rattle.gf_vec.proofs.PrimitiveLaws.{primitive_of, primitive_opposite}
 use Rattle.gf_vec.proofs.VectorIdentities.{vv, ◌⊡◌, vsame}
 use Rattle.gf_gordan.specs.Elimination.{IsPivot}
 use Rattle.gf_duality_theory.specs.Elimination.{IsNormalised}
-use Rattle.gf_duality_theory.proofs.ListLaws.{place, less, at, more}
+use Rattle.gf_duality_theory.proofs.ListLaws.{index, less, at, more}
 
 -- a vector has one pivot at most
 pub pivot_unique : (x : List ℤ) (p q : ℕ) → IsPivot x p → IsPivot x q → p ≡ q
-pivot_unique x p q a b = elim (place p q) [ less h ↦ absurd (b.not_zero (a.first q h)) | at e ↦ e | more h ↦ absurd (a.not_zero (b.first p h)) ]
+pivot_unique x p q a b = elim (index p q) [ less h ↦ absurd (b.not_zero (a.first q h)) | at e ↦ e | more h ↦ absurd (a.not_zero (b.first p h)) ]
 
 -- ---- positive pivots
 

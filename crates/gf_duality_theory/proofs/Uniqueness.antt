@@ -38,8 +38,8 @@ face_made n hs rays part lin r v va pt (divided m rs ls a x w k e p) f =
     divided m part ls a x w k e (face_made m hs rs part ls r w va pt p (λ h c z. ap (dot h) (sym e) ∙ dot-times_right a h x ∙ ap (λ t. a *ℤ t) (f h c z) ∙
     omega (arith, ints)))
 
-zero_place : (r : List ℤ) → Contains (r ∷ []) r
-zero_place r = (0, omega arith, refl)
+zero_index : (r : List ℤ) → Contains (r ∷ []) r
+zero_index r = (0, omega arith, refl)
 
 settle : (m a l x y z : ℤ) → x ≡ pos 0 → y ≡ pos 0 → m *ℤ x ≡ l *ℤ z +ℤ a *ℤ y → l *ℤ z ≡ pos 0
 settle m a l x y z ex ey h =
@@ -56,7 +56,7 @@ matched n hs es lin rays lin_other others r d e cr alone orth orth_other =
       | inr w ↦
           let s : List ℤ = w.0 in let cs = w.1.0 in
           let ls : length s ≡ n = e.rays_width s cs in
-          let m : Made n (r ∷ []) lin s = face_made n hs rays (r ∷ []) lin r s d.valid (λ x c z. subst (Contains (r ∷ [])) (sym (alone x c z)) (zero_place r))
+          let m : Made n (r ∷ []) lin s = face_made n hs rays (r ∷ []) lin r s d.valid (λ x c z. subst (Contains (r ∷ [])) (sym (alone x c z)) (zero_index r))
           (d.complete s ls (λ h c. e.valid.up h s c cs) (λ k c. e.solves k s c cs)) w.1.1 in
           let t = split n (r ∷ []) [] (r ∷ []) lin s (λ x c. inr c) m in
           let q = single n (r ∷ []) [] r t.q lr (λ z c. elim (in_cons r [] z c) [ inl i ↦ i | inr j ↦ absurd (none_in z j) ]) (λ z c. none_in z c) t.of_q in

@@ -18,7 +18,7 @@ IsTurned r j t u = IsPrimitivePart (vector_sum (scaled (size_at r j) t) (scaled 
 abbrev pub IsRowTurning : ℕ → List ℤ → ℕ → List ℤ → ConeOverflow → Type 0
 IsRowTurning row r j t s = IsCombining row Sub (size_at r j) t (signed_at r j t) r s
 
--- k is the place of the first row that isn't zero in column j
+-- k is the index of the first row that isn't zero in column j
 pub record IsFirstAt (rows : List (List ℤ)) (j k : ℕ) : Type 0 where
   pub inside : k < length rows
   pub not_zero : entry_at (row_at rows k) j ≢ pos 0

@@ -154,11 +154,11 @@ revlex-below (suc k) x y h = at (cases_lt (entry x k) (entry y k)) (cases_lt (en
         IsRevlexBelow x y ⊎ (same x y ≡ true) ⊎ IsRevlexBelow y x
     at (inl l) q r = inr (inr (record { at = k; after = λ i m. sym (h i m); here = l }))
     at (inr g) (inl l) r = inl (record { at = k; after = λ i m. h i m; here = l })
-    at (inr g) (inr j) r = r (λ i m. place i m (cases_lt k i))
+    at (inr g) (inr j) r = r (λ i m. index i m (cases_lt k i))
       where
-        place : (i : ℕ) → k ≤ i → (k < i) ⊎ (i ≤ k) → entry x i ≡ entry y i
-        place i m (inl l) = h i l
-        place i m (inr l) = let e : k ≡ i = omega arith in subst (λ (z : ℕ). entry x z ≡ entry y z) e (omega arith)
+        index : (i : ℕ) → k ≤ i → (k < i) ⊎ (i ≤ k) → entry x i ≡ entry y i
+        index i m (inl l) = h i l
+        index i m (inr l) = let e : k ≡ i = omega arith in subst (λ (z : ℕ). entry x z ≡ entry y z) e (omega arith)
 
 pub revlex-total : (x y : Exponents) → IsRevlexBelow x y ⊎ (same x y ≡ true) ⊎ IsRevlexBelow y x
 revlex-total x y = revlex-below (max (length x) (length y)) x y (λ i l. entry-past x i (omega arith) ∙ sym (entry-past y i (omega arith)))

@@ -18,3 +18,4 @@ pub mod TurningLaws  -- which normals are crossed first on the way to a vector
 pub mod FirstLaws  -- the normal that is crossed first is one of a facet
 pub mod FacetConeLaws  -- the facets alone define the cone
 pub mod LawsHold  -- the theorems of specs/Laws.antt
+pub use Rattle.gf_ideal_theory.proofs.ListLaws

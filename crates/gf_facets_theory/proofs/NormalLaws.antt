@@ -9,7 +9,7 @@ use Rattle.std.proofs.lemmas.Int.{ints}
 use Rattle.gf_int_theory.specs.Content.{IsPrimitive, scaled}
 use Rattle.gf_int_theory.proofs.RingLaws.{*ℤ-neg}
 use Rattle.gf_int_theory.proofs.SignLaws.{0<-*ℤ, 0<-cancel}
-use Rattle.gf_frac.specs.Fraction.{one_ℚ}
+use Rattle.gf_poly.specs.Fraction.{one_ℚ}
 use Rattle.gf_vec.specs.Vector.{dot}
 use Rattle.gf_vec.specs.Primitive.{IsPrimitivePart}
 use Rattle.gf_vec.proofs.VectorLaws.{length-times, dot-times}
@@ -232,15 +232,15 @@ inside_of_beyond n cs a v k e prime nz o m h = record { normal = normal; zero = 
     positive b p other = at (row-from cs p.0 p.1)
       where
         at : ((c : MarkedPolynomial) × Contains cs c × IsTermRow c.head c.poly p.0) → pos 0 <ℤ dot b v
-        at c = place ((m c.0 c.1).tail c.2.term.mono (monomial_of n c.0 c.2.term (k c.0 c.1) c.2.inside))
+        at c = index ((m c.0 c.1).tail c.2.term.mono (monomial_of n c.0 c.2.term (k c.0 c.1) c.2.inside))
           where
-            place : (same c.2.term.mono c.0.head ≡ true) ⊎ IsBeyond v a c.2.term.mono c.0.head → pos 0 <ℤ dot b v
-            place (inl s) = let u : same c.0.head c.2.term.mono ≡ false = c.2.other in let t : same c.0.head c.2.term.mono ≡ true =
+            index : (same c.2.term.mono c.0.head ≡ true) ⊎ IsBeyond v a c.2.term.mono c.0.head → pos 0 <ℤ dot b v
+            index (inl s) = let u : same c.0.head c.2.term.mono ≡ false = c.2.other in let t : same c.0.head c.2.term.mono ≡ true =
                 same_flip c.2.term.mono c.0.head s in absurd (cc)
-            place (inr (inr f)) =
+            index (inr (inr f)) =
                 absurd (other (primitive_unique p.0 b (negated a) p.2 (subst (λ (z : List ℤ). IsPrimitivePart z (negated a)) (sym c.2.row)
                 (part c.0 c.2.term c.1 c.2.inside f))))
-            place (inr (inl l)) =
+            index (inr (inl l)) =
                 let d = divided-entry p.0 b p.2 in
                 let w : pos d.0 *ℤ dot b v ≡ whole_weight v c.0.head -ℤ whole_weight v c.2.term.mono =
                 sym (dot-times (pos d.0) b v) ∙ ap (λ (z : List ℤ). dot z v) (d.2 ∙ c.2.row) ∙ dot-differences v c.0.head c.2.term.mono

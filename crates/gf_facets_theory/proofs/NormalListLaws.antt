@@ -79,7 +79,7 @@ others_listed (b ∷ ns) a = at (others_listed ns a) (vector_or_not b a)
       ];
     }
 
--- those of an ascending list that aren't at a place
+-- those of an ascending list that aren't at an index
 pub others_only : (ns : List (List ℤ)) (i : ℕ) (b : List ℤ) → Ascends ns → i < length ns → Contains (others_of i ns) b →
     Contains ns b × (b ≡ get_or ns i [] → ⊥)
 others_only [] i b h l c = absurd (omega arith)

@@ -13,7 +13,7 @@ use Rattle.std.proofs.lemmas.List.Elements.{Contains-append_cases}
 use Rattle.gf_vec.specs.Vector.{dot}
 use Rattle.gf_gordan.specs.Alternative.{AreRows, IsSolution, IsSolvable, IsRefutable}
 use Rattle.gf_gordan.proofs.ExistenceLaws.{alternative}
-use Rattle.gf_frac.specs.Fraction.{one_ℚ}
+use Rattle.gf_poly.specs.Fraction.{one_ℚ}
 use Rattle.gf_exponents_theory.specs.Exponents.{Exponents, entry, same, weight, whole_weight, IsInRing}
 use Rattle.gf_exponents_theory.specs.Orders.{lighter, gains}
 use Rattle.gf_exponents_theory.proofs.ExponentsLaws.{same_by_entries}
@@ -263,17 +263,17 @@ realisable_of_solution n bs v h m s = at (inside_of_solution n (all_positive n) 
       region-positive n (all_positive n) v q.0,
       λ b c. record {
         there = marked_there n b (contained_each (λ (b : MarkedPolynomial). HasVariables n b.poly) bs h b c) (contained_each HasMarkedTerm bs m b c);
-        tail = λ x k. place b x (q.1 b c x k);
+        tail = λ x k. index b x (q.1 b c x k);
       },
     )
       where
         natural : (x : Exponents) → pos (weight (gains v) x) ≡ whole_weight v x
         natural = region-weight n (all_positive n) v q.0
 
-        place : (b : MarkedPolynomial) (x : Exponents) → (same x b.head ≡ true) ⊎ (whole_weight v x <ℤ whole_weight v b.head) →
+        index : (b : MarkedPolynomial) (x : Exponents) → (same x b.head ≡ true) ⊎ (whole_weight v x <ℤ whole_weight v b.head) →
             (same x b.head ≡ true) ⊎ lighter (gains v) x b.head
-        place b x (inl e) = inl e
-        place b x (inr l) = inr (omega (arith, ints, l, natural x, natural b.head))
+        index b x (inl e) = inl e
+        index b x (inr l) = inr (omega (arith, ints, l, natural x, natural b.head))
 
 -- each row of the system has n entries
 pub marked_system_wide : (n : ℕ) (bs : List MarkedPolynomial) → HaveVariables n bs → Each HasMarkedTerm bs → AreRows n (system_of n bs)

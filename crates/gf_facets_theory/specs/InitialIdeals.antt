@@ -1,7 +1,7 @@
 -- Initial ideals, and the weights at which monomials generate them.
 -- Source: Fukuda, Jensen, Thomas, Computing Gröbner fans, 2; Sturmfels, Gröbner Bases and Convex Polytopes, 1.
 use Rattle.std.specs.Prelude.{ℕ, List, [], ◌∷◌, ℤ}
-use Rattle.gf_frac.specs.Fraction.{one_ℚ}
+use Rattle.gf_poly.specs.Fraction.{one_ℚ}
 use Rattle.gf_exponents_theory.specs.Exponents.{Exponents}
 use Rattle.gf_poly.specs.Polynomial.{Terms}
 use Rattle.gf_poly.specs.InitialForms.{IsInitialForm}

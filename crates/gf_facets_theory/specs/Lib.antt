@@ -11,3 +11,4 @@ pub mod MarkedBases  -- the marked reduced Gröbner bases of an ideal
 pub mod InitialIdeals  -- initial ideals, and where monomials generate them
 pub mod Neighbours  -- the two bases on both sides of a facet
 pub mod Laws  -- the theorems that functions of this crate name
+pub use Rattle.gf_gordan.specs.Alternative

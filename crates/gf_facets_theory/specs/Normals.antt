@@ -18,11 +18,11 @@ pub record AreNormals (bs : List MarkedPolynomial) (ns : List (List ℤ)) : Type
   pub only : (a : List ℤ) → Contains ns a → IsNormal bs a
   pub all : (a : List ℤ) → IsNormal bs a → Contains ns a
 
--- all but the one at a place
+-- all but the one at an index
 abbrev pub others_of : ℕ → List (List ℤ) → List (List ℤ)
 others_of i ns = take i ns ++ drop 1 (drop i ns)
 
--- the rows that tell whether a flip may cross the facet of the normal at a place, in n variables: the other normals, the rows
+-- the rows that tell whether a flip may cross the facet of the normal at an index, in n variables: the other normals, the rows
 -- of the region, the unit vectors
 abbrev pub flip_rows : ℕ → Region → List (List ℤ) → ℕ → List (List ℤ)
 flip_rows n k ns i = (others_of i ns ++ k.rows) ++ units n n

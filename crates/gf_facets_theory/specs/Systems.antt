@@ -6,7 +6,7 @@ use Rattle.gf_poly.specs.Marking.{MarkedPolynomial}
 use Rattle.gf_vec.specs.Vector.{zeros}
 use Rattle.gf_facets_theory.specs.Rows.{rows_of_polynomials}
 
--- the vector of n entries with 1 at place i and 0 at the others
+-- the vector of n entries with 1 at index i and 0 at the others
 abbrev pub unit : ℕ → ℕ → List ℤ
 unit zero i = []
 unit (suc n) zero = pos 1 ∷ zeros n

@@ -78,7 +78,7 @@ width_more n cones i c rows old new ambient h e w a o = all_by (λ v. length v �
   | inr k ↦ All-contains (λ v. length v ≡ c.ambient) rows v w k ∙ All-contains (λ (c : RowsAndRays). c.ambient ≡ n) cones c ambient (i, h, sym e)
 ])
 
--- what is read of the row at a place
+-- what is read of the row at an index
 pub bits_read : (rays keys : List (List ℤ)) (table : List RowBits) (h : List ℤ) (k : ℕ) (d : RowBits) → AreBitsOfRows rays keys table →
     (k < length keys) × (get_or keys k [] ≡ h) → AreBitsOfRow rays h (get_or table k d)
 bits_read rays keys table h k d a p = subst (λ z. AreBitsOfRow rays z (get_or table k d)) p.1 (a.each k d p.0)

@@ -4,7 +4,7 @@ use Rattle.std.proofs.lemmas.List.{get_or_default, get_or_append_left, get_or-ap
 use Rattle.std.proofs.lemmas.List.Elements.{All-contains}
 use Rattle.gf_int_theory.proofs.ListLaws.{all_by}
 use Rattle.gf_gordan.specs.Alternative.{AreRows}
-use Rattle.gf_duality_theory.proofs.ListLaws.{place, less, at, more}
+use Rattle.gf_duality_theory.proofs.ListLaws.{index, less, at, more}
 use Rattle.gf_rays.specs.Cones.{RowsAndRays}
 use Rattle.gf_fan.specs.Pairs.{AreOfAmbient}
 use Rattle.gf_fan.specs.Parts.{HasItsRays}
@@ -18,7 +18,7 @@ each_more {X} R i x out new e r s =
     let l = s.long in
     subst (AreEach R (i + 1)) (sym e) (record {
       long = let a = length-append out (x ∷ []) in omega (arith, a, l);
-      each = λ k d h. elim (place k i) [
+      each = λ k d h. elim (index k i) [
         | less b ↦ absurd (omega (arith, h, b))
         | more b ↦ subst (R k) (sym (get_or_append_left out (x ∷ []) d k (omega (arith, b, l)))) (s.each k d b)
         | at q ↦

@@ -16,7 +16,7 @@ use Rattle.gf_int_theory.proofs.ListLaws.{Contains-last, all_by}
 use Rattle.gf_duality_theory.specs.Faces.{Rows, SameCone, part}
 use Rattle.gf_duality_theory.specs.Rays.{IsRays}
 use Rattle.gf_duality_theory.proofs.Determined.{rays_determined}
-use Rattle.gf_duality_theory.proofs.ListLaws.{none_in, place, less, at, more}
+use Rattle.gf_duality_theory.proofs.ListLaws.{none_in, index, less, at, more}
 use Rattle.gf_fans_theory.specs.FaceLists.{IsFaceBy, AreNumbers, numbered}
 use Rattle.gf_fans_theory.proofs.FanLaws.{face_has, part_in, of_part}
 use Rattle.gf_fans_theory.proofs.Ordered.{within_all, same_numbers, decide_same}
@@ -50,7 +50,7 @@ maximal_by_tops lists tops i a hi none = record {
         | inl e ↦
             let tx = within_all xs t (a.ascending xs cx) (a.ascending t (a.listed t o.1.0)) (λ x c. yt x (xy x c)) (omega (arith, e)) in
             let same : xs ≡ ys = same_numbers xs ys (a.ascending xs cx) (a.ascending ys cy) xy (λ y c. tx y (yt y c)) in
-            elim (place i j) [
+            elim (index i j) [
               | at q ↦ d (sym q)
               | more h ↦ a.once i j [] h hj same
               | less h ↦ a.once j i [] h hi (sym same)

@@ -10,7 +10,7 @@ use Rattle.std.proofs.lemmas.List.{get_or_default}
 use Rattle.std.proofs.lemmas.List.Elements.{All-contains, Contains-get_or, Contains-append_cases}
 use Rattle.gf_int_theory.proofs.ListLaws.{all_by}
 use Rattle.gf_duality_theory.specs.Faces.{Rows, SameCone, IsFaceOf, part}
-use Rattle.gf_duality_theory.proofs.ListLaws.{place, less, at, more}
+use Rattle.gf_duality_theory.proofs.ListLaws.{index, less, at, more}
 use Rattle.gf_fans_theory.specs.FaceLists.{numbered}
 use Rattle.gf_fans_theory.specs.Heights.{IsWithinPart}
 use Rattle.gf_fans_theory.specs.Fans.{meet}
@@ -91,7 +91,7 @@ longer lists i j a hi hj w =
     let same : length ys ≤ length xs → ⊥ =
     λ l. w.0 (a.apart j i hj hi (sym (same_numbers xs ys (a.ascending i hi) (a.ascending j hj) inside
     (within_all xs ys (a.ascending i hi) (a.ascending j hj) inside l)))) in
-    elim (place (length xs) (length ys)) [ more k ↦ k | at e ↦ absurd (same (omega (arith, e))) | less k ↦ absurd (same (omega (arith, k))) ]
+    elim (index (length xs) (length ys)) [ more k ↦ k | at e ↦ absurd (same (omega (arith, e))) | less k ↦ absurd (same (omega (arith, k))) ]
 
 -- a maximal one that has all its numbers
 abbrev IsUnder : List (List ℕ) → ℕ → Type 0
@@ -144,7 +144,7 @@ are_apart n given f s =
     record {
       ascending = λ i h. subst (λ z. AllPairs (λ x y. x < y) z) (sym (own_numbers f.cones i no_cone (there i h)))
           (s.cones.each (cone i) (listed i h)).face.listed.ascending;
-      apart = λ i j hi hj e. elim (place i j) [
+      apart = λ i j hi hj e. elim (index i j) [
         | at q ↦ q
         | more k ↦ absurd (different n given f s i j no_cone k (there j hj) (equal i j hi hj e))
         | less k ↦ absurd (different n given f s j i no_cone k (there i hi) (equal j i hj hi (sym e)))

@@ -128,8 +128,8 @@ members_listed n cones given lin rays found read members ambient e lines up all 
 
 -- ---- the maximal cones
 
-pub maximal_places : (cones : List FanCone) (places : List ℕ) → AreMaximal (numbers_of cones) places → All (λ i. i < length cones) places
-maximal_places cones places m = all_by (λ i. i < length cones) places (λ i c.
+pub maximal_indices : (cones : List FanCone) (indices : List ℕ) → AreMaximal (numbers_of cones) indices → All (λ i. i < length cones) indices
+maximal_indices cones indices m = all_by (λ i. i < length cones) indices (λ i c.
     let h = (m.each i c).inside in let long = numbers_long cones in omega (arith, h, long))
 
 pub same_rows : (c d : RowsAndRays) → HasRowsAndRaysOf c d → rows_of c ≡ rows_of d
@@ -138,7 +138,7 @@ same_rows c d q = ap₂ (λ (i j : List (List ℤ)). record { inequalities = i; 
 pub maximal_long : (f : FanLists) → length (maximal_of f) ≡ length f.maximal
 maximal_long f = length-map f.maximal (λ i. get_or f.cones i no_cone)
 
--- the one with a number stands at the place that has it
+-- the one with a number stands at the index that has it
 pub maximal_at : (f : FanLists) (i : ℕ) → i < length f.maximal → get_or (maximal_of f) i no_cone ≡ get_or f.cones (get_or f.maximal i 0) no_cone
 maximal_at f i h = get_or-map (λ j. get_or f.cones j no_cone) f.maximal i 0 no_cone h
 

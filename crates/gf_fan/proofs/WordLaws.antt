@@ -18,8 +18,8 @@ use Rattle.gf_fan.specs.declared.bits.RowBits.{RowBits}
 use Rattle.gf_fan.specs.declared.words.ConeWords.{ConeWords}
 use Rattle.gf_fan.specs.Signs.{AreEach}
 use Rattle.gf_fan.specs.Bits.{IsLowOn}
-use Rattle.gf_fan.specs.Words.{AreWordsOfRow, AreWordsOfRows, AreOwnWords, IsPlaceOf, ArePlacesOf, AreWordsOfCone, AreWordsOfFirst}
-use Rattle.gf_fan.specs.Words.{IsLowInWords, AreLowPlaces, IsCutIn, IsToldAt, AreToldByWords}
+use Rattle.gf_fan.specs.Words.{AreWordsOfRow, AreWordsOfRows, AreOwnWords, IsIndexOf, AreIndicesOf, AreWordsOfCone, AreWordsOfFirst}
+use Rattle.gf_fan.specs.Words.{IsLowInWords, AreLowIndices, IsCutIn, IsToldAt, AreToldByWords}
 use Rattle.gf_fan.proofs.SettledLaws.{HasSeparated}
 use Rattle.gf_fan.proofs.EachLaws.{each_more}
 use Rattle.gf_fan.proofs.BitLaws.{IsCut, bit_either, separated_by}
@@ -91,19 +91,19 @@ own_words_of rays c numbers own inside e s = (
       ),
 )
 
--- ---- places
+-- ---- indices
 
-pub place_more : (rays keys rows : List (List ℤ)) (known : List (List RowBits)) (i k : ℕ) (h : List ℤ) (out new : List ℕ) → AreWordsOfRows rays keys known →
-    i < length rows → h ≡ get_or rows i h → (k < length keys) × (get_or keys k [] ≡ h) → new ≡ out ++ k ∷ [] → ArePlacesOf rays known rows out →
-    ArePlacesOf rays known rows new
-place_more rays keys rows known i k h out new a l e p en s = subst (ArePlacesOf rays known rows) (sym en) (All-push (IsPlaceOf rays known rows) out k s (
+pub index_more : (rays keys rows : List (List ℤ)) (known : List (List RowBits)) (i k : ℕ) (h : List ℤ) (out new : List ℕ) → AreWordsOfRows rays keys known →
+    i < length rows → h ≡ get_or rows i h → (k < length keys) × (get_or keys k [] ≡ h) → new ≡ out ++ k ∷ [] → AreIndicesOf rays known rows out →
+    AreIndicesOf rays known rows new
+index_more rays keys rows known i k h out new a l e p en s = subst (AreIndicesOf rays known rows) (sym en) (All-push (IsIndexOf rays known rows) out k s (
   let g = a.long in let b = p.0 in omega (arith, b, g),
   (h, ((i, l, sym e), λ d. subst (λ z. AreWordsOfRow rays z (get_or known k d)) p.1 (a.each k d p.0))),
 ))
 
-pub place_inside : (rays rows : List (List ℤ)) (known : List (List RowBits)) (places : List ℕ) → ArePlacesOf rays known rows places →
-    All (λ p. p < length known) places
-place_inside rays rows known places a = all_by (λ p. p < length known) places (λ p k. (All-contains (IsPlaceOf rays known rows) places p a k).0)
+pub index_inside : (rays rows : List (List ℤ)) (known : List (List RowBits)) (indices : List ℕ) → AreIndicesOf rays known rows indices →
+    All (λ p. p < length known) indices
+index_inside rays rows known indices a = all_by (λ p. p < length known) indices (λ p k. (All-contains (IsIndexOf rays known rows) indices p a k).0)
 
 -- the words of rows are as many
 pub rows_wide : (rays rows : List (List ℤ)) (known : List (List RowBits)) → AreWordsOfRows rays rows known → (p : ℕ) (d : List RowBits) → p < length known →
@@ -143,24 +143,24 @@ low_further row own b s w hr ho l f k d h = elim (cases_eq k b) [
   | inr n ↦ f k d (omega (arith, h, n))
 ]
 
-pub low_more : (known : List (List RowBits)) (places own out new : List ℕ) (i p : ℕ) (row row2 : List RowBits) → i < length places → p ≡ get_or places i p →
-    p < length known → row ≡ get_or known p row → row2 ≡ row → IsLowInWords row2 own → new ≡ out ++ p ∷ [] → AreLowPlaces known places own out →
-    AreLowPlaces known places own new
-low_more known places own out new i p row row2 h e hp er eq l en a = subst (AreLowPlaces known places own) (sym en)
-    (All-push (λ p. Contains places p × ((d : List RowBits) → IsLowInWords (get_or known p d) own)) out p a
+pub low_more : (known : List (List RowBits)) (indices own out new : List ℕ) (i p : ℕ) (row row2 : List RowBits) → i < length indices → p ≡ get_or indices i p →
+    p < length known → row ≡ get_or known p row → row2 ≡ row → IsLowInWords row2 own → new ≡ out ++ p ∷ [] → AreLowIndices known indices own out →
+    AreLowIndices known indices own new
+low_more known indices own out new i p row row2 h e hp er eq l en a = subst (AreLowIndices known indices own) (sym en)
+    (All-push (λ p. Contains indices p × ((d : List RowBits) → IsLowInWords (get_or known p d) own)) out p a
     ((i, h, sym e), λ d. subst (λ z. IsLowInWords z own) (eq ∙ er ∙ get_or_default known p row d hp) l))
 
-pub low_inside : (known : List (List RowBits)) (places own out : List ℕ) → All (λ p. p < length known) places → AreLowPlaces known places own out →
+pub low_inside : (known : List (List RowBits)) (indices own out : List ℕ) → All (λ p. p < length known) indices → AreLowIndices known indices own out →
     All (λ p. p < length known) out
-low_inside known places own out inside a = all_by (λ p. p < length known) out (λ p k. All-contains (λ p. p < length known) places p inside
-    (All-contains (λ p. Contains places p × ((d : List RowBits) → IsLowInWords (get_or known p d) own)) out p a k).0)
+low_inside known indices own out inside a = all_by (λ p. p < length known) out (λ p k. All-contains (λ p. p < length known) indices p inside
+    (All-contains (λ p. Contains indices p × ((d : List RowBits) → IsLowInWords (get_or known p d) own)) out p a k).0)
 
 -- one row further
-pub cut_more : (known : List (List RowBits)) (places : List ℕ) (b i p : ℕ) (row row2 : List RowBits) (d : RowBits) (old : ℕ) → i < length places →
-    p ≡ get_or places i p → p < length known → row ≡ get_or known p row → row2 ≡ row →
-    ((p : ℕ) (d : List RowBits) → p < length known → b < length (get_or known p d)) → ((j : ℕ) → bit_at old j ≡ 1 → IsCutIn known places b j) → (j : ℕ) →
-    bit_at (bit_or old (get_or row2 b d).cut) j ≡ 1 → IsCutIn known places b j
-cut_more known places b i p row row2 d old h e hp er eq inside f j t = elim (bit_either old (get_or row2 b d).cut j t) [
+pub cut_more : (known : List (List RowBits)) (indices : List ℕ) (b i p : ℕ) (row row2 : List RowBits) (d : RowBits) (old : ℕ) → i < length indices →
+    p ≡ get_or indices i p → p < length known → row ≡ get_or known p row → row2 ≡ row →
+    ((p : ℕ) (d : List RowBits) → p < length known → b < length (get_or known p d)) → ((j : ℕ) → bit_at old j ≡ 1 → IsCutIn known indices b j) → (j : ℕ) →
+    bit_at (bit_or old (get_or row2 b d).cut) j ≡ 1 → IsCutIn known indices b j
+cut_more known indices b i p row row2 d old h e hp er eq inside f j t = elim (bit_either old (get_or row2 b d).cut j t) [
   | inl x ↦ f j x
   | inr x ↦
       let hb : b < length row2 = subst (λ (z : List RowBits). b < length z) (sym (eq ∙ er)) (inside p row hp) in (
@@ -189,8 +189,8 @@ told_further known left right left2 right2 xs ys b x y hx hy el er ex ey t f k h
 ]
 
 -- no row
-pub no_places : (known : List (List RowBits)) (places own : List ℕ) → AreLowPlaces known places own []
-no_places known places own = all_by (λ p. Contains places p × ((d : List RowBits) → IsLowInWords (get_or known p d) own)) [] (λ p k. absurd (none_in p k))
+pub no_indices : (known : List (List RowBits)) (indices own : List ℕ) → AreLowIndices known indices own []
+no_indices known indices own = all_by (λ p. Contains indices p × ((d : List RowBits) → IsLowInWords (get_or known p d) own)) [] (λ p k. absurd (none_in p k))
 
 -- of the same lists
 pub told_as : {left left2 right right2 xs xs2 ys ys2 : List ℕ} (known : List (List RowBits)) → left ≡ left2 → right ≡ right2 → xs ≡ xs2 → ys ≡ ys2 →
@@ -202,18 +202,18 @@ told_as {left} {left2} {right} {right2} {xs} {xs2} {ys} {ys2} known a e f g t b 
     (subst (λ (z : List ℕ). IsToldAt known left right (get_or xs2 b 0) (get_or z b 0) b) g
     (subst (λ (z : List ℕ). IsToldAt known left right (get_or z b 0) (get_or ys b 0) b) f (t b (subst (λ (z : List ℕ). b < length z) (sym f) h)))))
 
-pub low_as : {places places2 own own2 : List ℕ} (known : List (List RowBits)) (out : List ℕ) → places ≡ places2 → own ≡ own2 →
-    AreLowPlaces known places own out → AreLowPlaces known places2 own2 out
-low_as {places} {places2} {own} {own2} known out a b s = subst (λ (z : List ℕ). AreLowPlaces known places2 z out) b
-    (subst (λ (z : List ℕ). AreLowPlaces known z own out) a s)
+pub low_as : {indices places2 own own2 : List ℕ} (known : List (List RowBits)) (out : List ℕ) → indices ≡ places2 → own ≡ own2 →
+    AreLowIndices known indices own out → AreLowIndices known places2 own2 out
+low_as {indices} {places2} {own} {own2} known out a b s = subst (λ (z : List ℕ). AreLowIndices known places2 z out) b
+    (subst (λ (z : List ℕ). AreLowIndices known z own out) a s)
 
-cut_of : (rays : List (List ℤ)) (known : List (List RowBits)) (c d : RowsAndRays) (s t : ConeWords) (places : List ℕ) (b j : ℕ) →
-    AreWordsOfCone rays known c s → AreWordsOfCone rays known d t → AreLowPlaces known s.rows.items t.own.items places →
-    b * 128 + j < length rays → j < 128 → IsCutIn known places b j → IsCut c d (get_or rays (b * 128 + j) [])
-cut_of rays known c d s t places b j x y low hi l cut =
+cut_of : (rays : List (List ℤ)) (known : List (List RowBits)) (c d : RowsAndRays) (s t : ConeWords) (indices : List ℕ) (b j : ℕ) →
+    AreWordsOfCone rays known c s → AreWordsOfCone rays known d t → AreLowIndices known s.rows.items t.own.items indices →
+    b * 128 + j < length rays → j < 128 → IsCutIn known indices b j → IsCut c d (get_or rays (b * 128 + j) [])
+cut_of rays known c d s t indices b j x y low hi l cut =
     let p : ℕ = cut.0 in
-    let lp = All-contains (λ p. Contains s.rows.items p × ((d : List RowBits) → IsLowInWords (get_or known p d) t.own.items)) places p low cut.1.0 in
-    let w = All-contains (IsPlaceOf rays known c.inequalities) s.rows.items p x.rows lp.0 in
+    let lp = All-contains (λ p. Contains s.rows.items p × ((d : List RowBits) → IsLowInWords (get_or known p d) t.own.items)) indices p low cut.1.0 in
+    let w = All-contains (IsIndexOf rays known c.inequalities) s.rows.items p x.rows lp.0 in
     let h : List ℤ = w.1.0 in
     let row : List RowBits = get_or known p [] in
     let is : AreWordsOfRow rays h row = w.1.1.1 [] in
@@ -236,7 +236,7 @@ cut_of rays known c d s t places b j x y low hi l cut =
 
 -- what is told of a ray of the one cone
 ray_told : (rays : List (List ℤ)) (known : List (List RowBits)) (c d : RowsAndRays) (s t : ConeWords) (left right : List ℕ) → AreWordsOfCone rays known c s →
-    AreWordsOfCone rays known d t → AreLowPlaces known s.rows.items t.own.items left → AreLowPlaces known t.rows.items s.own.items right →
+    AreWordsOfCone rays known d t → AreLowIndices known s.rows.items t.own.items left → AreLowIndices known t.rows.items s.own.items right →
     ((b : ℕ) → b < length rays / 128 + 1 → (i : ℕ) → (bit_at (get_or s.own.items b 0) i ≡ bit_at (get_or t.own.items b 0) i) ⊎ IsCutIn known left b i ⊎
     IsCutIn known right b i) → (r : List ℤ) → Contains c.rays r → Contains d.rays r ⊎ IsCut c d r ⊎ IsCut d c r
 ray_told rays known c d s t left right x y low high told r k =

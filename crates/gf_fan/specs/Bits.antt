@@ -27,7 +27,7 @@ pub record AreBitsOfFirst (cones : List RowsAndRays) (bits : List ConeBits) : Ty
   pub rays : List (List ℤ)
   pub each : (k : ℕ) (c : RowsAndRays) (s : ConeBits) → k < length bits → AreBitsOfCone rays (slice_index_or cones k c) (slice_index_or bits k s)
 
--- of two cones, at two places, where something stands there
+-- of two cones, at two indices, where something stands there
 pub record AreBitsOfTwo (c d : RowsAndRays) (bits : List ConeBits) (i j : ℕ) : Type 0 where
   pub rays : List (List ℤ)
   pub first : (s : ConeBits) → i < length bits → AreBitsOfCone rays c (slice_index_or bits i s)

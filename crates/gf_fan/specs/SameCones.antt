@@ -12,7 +12,7 @@ pub record HaveSameCones (f g : FanLists) : Type 0 where
   pub every : (k : FanCone) → Contains f.cones k → (l : FanCone) × (Contains g.cones l × SameCone f.ambient (rows_of k.cone) (rows_of l.cone))
 
 -- they differ in nothing but the rows of their cones and what is counted of them: the lineality basis, the basis of its
--- complement, the rays, the dimension of each cone and the numbers of its rays, the places of the maximal ones
+-- complement, the rays, the dimension of each cone and the numbers of its rays, the indices of the maximal ones
 pub record HaveSameLists (f g : FanLists) : Type 0 where
   pub ambient : g.ambient ≡ f.ambient
   pub lineality : g.lineality ≡ f.lineality

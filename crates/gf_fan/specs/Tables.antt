@@ -15,7 +15,7 @@ pub record IsTableOf (cones : List RowsAndRays) (t : Table) : Type 0 where
   pub bits : AreBitsOfFirst cones t.bits.items
   pub words : AreWordsOfFirst cones t.words.known.items t.words.cones.items
 
--- of two of them, at two places
+-- of two of them, at two indices
 pub record IsTableOfTwo (c d : RowsAndRays) (t : Table) (i j : ℕ) : Type 0 where
   pub one : IsTrue t.one → c.lineality ≡ d.lineality
   pub bits : AreBitsOfTwo c d t.bits.items i j

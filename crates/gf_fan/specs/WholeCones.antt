@@ -1,4 +1,4 @@
--- Cones of a fan, at some places, as cones of their own.
+-- Cones of a fan, at some indices, as cones of their own.
 use Rattle.std.specs.Prelude.{ℕ, List, ◌⊎◌, ℤ, pos, Contains, length, slice_index_or}
 use Rattle.gf_gordan.specs.declared.error.ConeOverflow.{ConeOverflow}
 use Rattle.gf_vec.specs.Steps.{dot_steps, IsFirstWide}
@@ -11,10 +11,10 @@ use Rattle.gf_fan.specs.ConeParts.{HasRowsAndRaysOf}
 use Rattle.gf_fan.specs.MaximalCones.{no_cone}
 use Rattle.gf_fan.specs.Signs.{AreEach}
 
--- the cones at these places, in their order
+-- the cones at these indices, in their order
 abbrev pub AreWholeCones : List FanCone → List ℕ → List RowsAndRays → Type 0
-AreWholeCones cones places whole = AreEach (λ k (w : RowsAndRays). HasRowsAndRaysOf w (slice_index_or cones (slice_index_or places k 0) no_cone).cone)
-    (length places) whole
+AreWholeCones cones indices whole = AreEach (λ k (w : RowsAndRays). HasRowsAndRaysOf w (slice_index_or cones (slice_index_or indices k 0) no_cone).cone)
+    (length indices) whole
 
 -- an operation of the system of one of the cones
 abbrev pub IsStepOfSome : List FanCone → ConeOverflow → Type 0

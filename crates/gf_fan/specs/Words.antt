@@ -19,12 +19,12 @@ AreWordsOfRows rays rows known = AreEach (λ k (s : List RowBits). AreWordsOfRow
 abbrev pub AreOwnWords : ℕ → List ℕ → List ℕ → Type 0
 AreOwnWords len numbers own = AreEach (λ b (w : ℕ). (j : ℕ) → j < 128 → (bit_at w j ≡ 1) ↔ Contains numbers (b * 128 + j)) (len / 128 + 1) own
 
--- a place of one of the rows among those known
-abbrev pub IsPlaceOf : List (List ℤ) → List (List RowBits) → List (List ℤ) → ℕ → Type 0
-IsPlaceOf rays known rows p = (p < length known) × ((h : List ℤ) × (Contains rows h × ((d : List RowBits) → AreWordsOfRow rays h (slice_index_or known p d))))
+-- an index of one of the rows among those known
+abbrev pub IsIndexOf : List (List ℤ) → List (List RowBits) → List (List ℤ) → ℕ → Type 0
+IsIndexOf rays known rows p = (p < length known) × ((h : List ℤ) × (Contains rows h × ((d : List RowBits) → AreWordsOfRow rays h (slice_index_or known p d))))
 
-abbrev pub ArePlacesOf : List (List ℤ) → List (List RowBits) → List (List ℤ) → List ℕ → Type 0
-ArePlacesOf rays known rows places = All (IsPlaceOf rays known rows) places
+abbrev pub AreIndicesOf : List (List ℤ) → List (List RowBits) → List (List ℤ) → List ℕ → Type 0
+AreIndicesOf rays known rows indices = All (IsIndexOf rays known rows) indices
 
 -- of a cone: which of the rays are its own, and of its inequalities at each of the rays
 pub record AreWordsOfCone (rays : List (List ℤ)) (known : List (List RowBits)) (c : RowsAndRays) (s : ConeWords) : Type 0 where
@@ -33,7 +33,7 @@ pub record AreWordsOfCone (rays : List (List ℤ)) (known : List (List RowBits))
       (slice_index_or rays (b * 128 + j) [])
   pub every : (r : List ℤ) → Contains c.rays r → (b : ℕ) × ((j : ℕ) × ((b * 128 + j < length rays) × (j < 128) × (slice_index_or rays (b * 128 + j) [] ≡ r) ×
       (bit_at (slice_index_or s.own.items b 0) j ≡ 1)))
-  pub rows : ArePlacesOf rays known c.inequalities s.rows.items
+  pub rows : AreIndicesOf rays known c.inequalities s.rows.items
 
 -- of the first of some cones
 pub record AreWordsOfFirst (cones : List RowsAndRays) (known : List (List RowBits)) (words : List ConeWords) : Type 0 where
@@ -41,7 +41,7 @@ pub record AreWordsOfFirst (cones : List RowsAndRays) (known : List (List RowBit
   pub wide : (p : ℕ) (d : List RowBits) → p < length known → length (slice_index_or known p d) ≡ length rays / 128 + 1
   pub each : (k : ℕ) (c : RowsAndRays) (s : ConeWords) → k < length words → AreWordsOfCone rays known (slice_index_or cones k c) (slice_index_or words k s)
 
--- of two cones, at two places, where something stands there
+-- of two cones, at two indices, where something stands there
 pub record AreWordsOfTwo (c d : RowsAndRays) (known : List (List RowBits)) (words : List ConeWords) (i j : ℕ) : Type 0 where
   pub rays : List (List ℤ)
   pub wide : (p : ℕ) (d : List RowBits) → p < length known → length (slice_index_or known p d) ≡ length rays / 128 + 1
@@ -52,23 +52,23 @@ pub record AreWordsOfTwo (c d : RowsAndRays) (known : List (List RowBits)) (word
 abbrev pub IsLowInWords : List RowBits → List ℕ → Type 0
 IsLowInWords row own = (b : ℕ) (d : RowBits) → b < length own → IsLowOn (slice_index_or row b d) (slice_index_or own b 0)
 
--- those of the places at which such rows are
-abbrev pub AreLowPlaces : List (List RowBits) → List ℕ → List ℕ → List ℕ → Type 0
-AreLowPlaces known places own out = All (λ p. Contains places p × ((d : List RowBits) → IsLowInWords (slice_index_or known p d) own)) out
+-- those of the indices at which such rows are
+abbrev pub AreLowIndices : List (List RowBits) → List ℕ → List ℕ → List ℕ → Type 0
+AreLowIndices known indices own out = All (λ p. Contains indices p × ((d : List RowBits) → IsLowInWords (slice_index_or known p d) own)) out
 
--- one of the rows at these places isn't zero at the bit i of the word at b
+-- one of the rows at these indices isn't zero at the bit i of the word at b
 abbrev pub IsCutIn : List (List RowBits) → List ℕ → ℕ → ℕ → Type 0
-IsCutIn known places b i = (p : ℕ) × (Contains places p × ((d : List RowBits) (e : RowBits) → bit_at
+IsCutIn known indices b i = (p : ℕ) × (Contains indices p × ((d : List RowBits) (e : RowBits) → bit_at
     (slice_index_or (slice_index_or known p d) b e).cut i ≡ 1))
 
--- each bit of two words is one of both or of none, or one of the rows at these places isn't zero there
+-- each bit of two words is one of both or of none, or one of the rows at these indices isn't zero there
 abbrev pub IsToldAt : List (List RowBits) → List ℕ → List ℕ → ℕ → ℕ → ℕ → Type 0
 IsToldAt known left right x y b = (i : ℕ) → (bit_at x i ≡ bit_at y i) ⊎ IsCutIn known left b i ⊎ IsCutIn known right b i
 
--- rows of two cones that are told to keep them apart but for the rays that they share, by places
+-- rows of two cones that are told to keep them apart but for the rays that they share, by indices
 pub record AreToldByWords (known : List (List RowBits)) (s t : ConeWords) : Type 0 where
   pub left : List ℕ
   pub right : List ℕ
-  pub of_left : AreLowPlaces known s.rows.items t.own.items left
-  pub of_right : AreLowPlaces known t.rows.items s.own.items right
+  pub of_left : AreLowIndices known s.rows.items t.own.items left
+  pub of_right : AreLowIndices known t.rows.items s.own.items right
   pub told : (b : ℕ) → b < length s.own.items → IsToldAt known left right (slice_index_or s.own.items b 0) (slice_index_or t.own.items b 0) b

@@ -54,7 +54,7 @@ fn high_with(word: u128, i: usize, sign: Sign) -> u128
 
 /// The word with the bit at `i` set, which was clear, if the sign is known not to be zero.
 fn cut_with(word: u128, i: usize, sign: Sign) -> u128
-    requires place { i < 128 }
+    requires index { i < 128 }
     requires clear { bit_at word i ≡ 0 }
     ensures told { bit_at result i ≡ 1 → IsTrue sign.not_zero }
     ensures others { (j : ℕ) → (j ≡ i → ⊥) → bit_at result j ≡ bit_at word j }

@@ -8,7 +8,7 @@ ghost use Rattle.gf_fan.specs.Parts.{HasItsRays};
 use crate::cones::{has_its_rays, zero_rows};
 use crate::shared_cone::SharedCone;
 use gf_gordan::GordanError;
-use gf_rays::Numbers;
+use gf_rays::RayNumbers;
 use std::alloc::{AllocError, Global};
 use std::marker::Model;
 
@@ -17,7 +17,7 @@ use std::marker::Model;
 #[derive(Drop)]
 pub struct ConePart {
     cone: SharedCone,
-    numbers: Numbers,
+    numbers: RayNumbers,
 }
 
 impl Model for ConePart {
@@ -36,7 +36,7 @@ impl ConePart {
     ///
     /// # Errors
     /// Where the cone can't be shared once more.
-    pub(crate) fn of(cone: &SharedCone, numbers: Numbers) -> Result<ConePart, AllocError>
+    pub(crate) fn of(cone: &SharedCone, numbers: RayNumbers) -> Result<ConePart, AllocError>
         requires { ArePartNumbers cone.now numbers }
         ensures part { IfOk result (λ p. p ≡ part_by cone.now numbers) }
         ensures own { HasItsRays cone.now }

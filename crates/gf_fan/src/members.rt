@@ -21,7 +21,7 @@ use gf_rays::Rays;
 use gf_vec::IntVec;
 use std::alloc::Global;
 
-/// The cones of a fan, the places of the maximal ones, and these as cones of their own; and the sizes of all.
+/// The cones of a fan, the indices of the maximal ones, and these as cones of their own; and the sizes of all.
 #[derive(Drop)]
 pub(crate) struct Members {
     pub(crate) cones: Vec<FanCone>,

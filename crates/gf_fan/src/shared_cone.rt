@@ -1,4 +1,4 @@
-//! Cones that several faces have in one place.
+//! Cones that several faces have in one index.
 ghost use Rattle.std.specs.Prelude.{◌≡◌, ◌++◌, IfOk};
 
 use gf_rays::Rays;

@@ -8,21 +8,21 @@ use crate::shared_cone::SharedCone;
 use gf_gordan::GordanError;
 use std::alloc::Global;
 
-/// The cones at these places.
+/// The cones at these indices.
 ///
 /// # Errors
 /// An operation of the system of one of the cones that leaves the range; want of memory.
 pub(crate) fn whole_cones(
     alloc: Global,
     cones: &[FanCone],
-    places: &[u32],
+    indices: &[u32],
 ) -> Result<Vec<SharedCone>, GordanError>
-    requires { All (λ i. i < length cones.now) places.now }
-    ensures ok { IfOk result (λ out. AreWholeCones cones.now places.now out.items) }
+    requires { All (λ i. i < length cones.now) indices.now }
+    ensures ok { IfOk result (λ out. AreWholeCones cones.now indices.now out.items) }
     ensures err { IfErr result (Failed (IsStepOfSome cones.now)) }
 {
-    let mut out = Vec::with_capacity(alloc, places.len())?;
-    for i in places {
+    let mut out = Vec::with_capacity(alloc, indices.len())?;
+    for i in indices {
         out.push(cones[*i as usize].cone.whole(alloc)?)?;
     }
     Ok(out)

@@ -7,8 +7,8 @@ ghost use Rattle.gf_fan.specs.Pairs.{AreOfAmbient};
 ghost use Rattle.gf_fan.specs.Parts.{HasItsRays};
 ghost use Rattle.gf_fan.specs.FansOfCones.{AreCommonRays};
 ghost use Rattle.gf_fan.specs.Bits.{IsLowOn};
-ghost use Rattle.gf_fan.specs.Words.{AreWordsOfRow, AreWordsOfRows, AreOwnWords, ArePlacesOf, AreWordsOfCone, AreWordsOfFirst};
-ghost use Rattle.gf_fan.specs.Words.{IsLowInWords, AreLowPlaces, IsCutIn, IsToldAt, AreToldByWords};
+ghost use Rattle.gf_fan.specs.Words.{AreWordsOfRow, AreWordsOfRows, AreOwnWords, AreIndicesOf, AreWordsOfCone, AreWordsOfFirst};
+ghost use Rattle.gf_fan.specs.Words.{IsLowInWords, AreLowIndices, IsCutIn, IsToldAt, AreToldByWords};
 
 use crate::bits::{RowBits, bits_of_row, distinct_rows, is_word_below, with_bit};
 use crate::numbering::Numbering;
@@ -45,7 +45,7 @@ impl RowWords {
     }
 }
 
-/// Which of some rays are a cone's, and the places of its inequalities among different rows.
+/// Which of some rays are a cone's, and the indices of its inequalities among different rows.
 #[derive(Drop)]
 pub(crate) struct ConeWords {
     pub(crate) own: Vec<u128>,
@@ -138,8 +138,8 @@ fn own_words(alloc: Global, numbers: &[u32], len: usize) -> Result<Vec<u128>, Al
     Ok(out)
 }
 
-/// The places of the rows that are among those known.
-fn places_of(
+/// The indices of the rows that are among those known.
+fn indices_of(
     alloc: Global,
     rows: &[IntVec],
     rays: &[IntVec],
@@ -147,7 +147,7 @@ fn places_of(
     known: &[RowWords],
 ) -> Result<Vec<usize>, AllocError>
     requires { AreWordsOfRows rays.now items.now.keys known.now }
-    ensures { IfOk result (λ out. ArePlacesOf rays.now known.now rows.now out.items) }
+    ensures { IfOk result (λ out. AreIndicesOf rays.now known.now rows.now out.items) }
 {
     let mut out = Vec::with_capacity(alloc, rows.len())?;
     for h in rows {
@@ -173,7 +173,7 @@ fn words_of_cone(
     let rays = numbering.as_slice();
     let numbers = numbering.numbers(alloc, c.rays())?;
     let own = own_words(alloc, numbers.as_slice(), rays.len())?;
-    let rows = places_of(alloc, c.inequalities(), rays, items, known)?;
+    let rows = indices_of(alloc, c.inequalities(), rays, items, known)?;
     Ok(ConeWords { own, rows })
 }
 
@@ -249,19 +249,19 @@ fn is_low(row: &[RowBits], own: &[u128]) -> bool
     true
 }
 
-/// Those of the places whose rows are told to be positive at none of the bits of these words.
-fn low_places(
+/// Those of the indices whose rows are told to be positive at none of the bits of these words.
+fn low_indices(
     alloc: Global,
     known: &[RowWords],
-    places: &[usize],
+    indices: &[usize],
     own: &[u128],
 ) -> Result<Vec<usize>, AllocError>
-    requires places { All (λ p. p < length known.now) places.now }
+    requires indices { All (λ p. p < length known.now) indices.now }
     requires wide { (p : ℕ) (d : List RowBits) → p < length known.now → length (slice_index_or known.now p d) ≡ length own.now }
-    ensures { IfOk result (λ out. AreLowPlaces known.now places.now own.now out.items) }
+    ensures { IfOk result (λ out. AreLowIndices known.now indices.now own.now out.items) }
 {
-    let mut out = Vec::with_capacity(alloc, places.len())?;
-    for p in places {
+    let mut out = Vec::with_capacity(alloc, indices.len())?;
+    for p in indices {
         if is_low(known[*p].as_slice(), own) {
             out.push(*p)?;
         }
@@ -269,20 +269,20 @@ fn low_places(
     Ok(out)
 }
 
-/// The bits of the word at `b` where one of the rows at these places isn't zero.
-fn cut_at(known: &[RowWords], places: &[usize], b: usize) -> u128
-    requires places { All (λ p. p < length known.now) places.now }
+/// The bits of the word at `b` where one of the rows at these indices isn't zero.
+fn cut_at(known: &[RowWords], indices: &[usize], b: usize) -> u128
+    requires indices { All (λ p. p < length known.now) indices.now }
     requires inside { (p : ℕ) (d : List RowBits) → p < length known.now → b < length (slice_index_or known.now p d) }
-    ensures { (i : ℕ) → bit_at result i ≡ 1 → IsCutIn known.now places.now b i }
+    ensures { (i : ℕ) → bit_at result i ≡ 1 → IsCutIn known.now indices.now b i }
 {
     let mut cut = 0;
-    for p in places {
+    for p in indices {
         cut |= known[*p].as_slice()[b].cut;
     }
     cut
 }
 
-/// Whether each bit of the word at `b` is one of both cones or of none, or one of the rows at these places is told not to be zero there.
+/// Whether each bit of the word at `b` is one of both cones or of none, or one of the rows at these indices is told not to be zero there.
 fn is_told_at(
     known: &[RowWords],
     left: &[usize],
@@ -304,7 +304,7 @@ fn is_told_at(
     is_word_below(differing, cut)
 }
 
-/// Whether each bit of the words of two cones is one of both or of none, or one of the rows at these places is told not to be zero there.
+/// Whether each bit of the words of two cones is one of both or of none, or one of the rows at these indices is told not to be zero there.
 fn are_told_at(
     known: &[RowWords],
     left: &[usize],
@@ -340,7 +340,7 @@ pub(crate) fn are_told_by_words(
     requires right { All (λ p. p < length known.now) t.now.rows.items }
     ensures { IfOk result (λ yes. IsTrue yes → AreToldByWords known.now s.now t.now) }
 {
-    let left = low_places(alloc, known, s.rows.as_slice(), t.own.as_slice())?;
+    let left = low_indices(alloc, known, s.rows.as_slice(), t.own.as_slice())?;
     if are_told_at(
         known,
         left.as_slice(),
@@ -350,7 +350,7 @@ pub(crate) fn are_told_by_words(
     ) {
         return Ok(true);
     }
-    let right = low_places(alloc, known, t.rows.as_slice(), s.own.as_slice())?;
+    let right = low_indices(alloc, known, t.rows.as_slice(), s.own.as_slice())?;
     Ok(are_told_at(
         known,
         left.as_slice(),

@@ -4,8 +4,8 @@ use Rattle.gf_text.specs.Machine.{Lexeme}
 use Rattle.gf_text.specs.Tokens.{lexeme, lexemes, word_more}
 use Rattle.gf_fan_files.specs.declared.error.FanFileError.{FanFileError}
 use Rattle.gf_fan_files.specs.declared.error.FanFileError.TheVariants as errors
-use Rattle.gf_fan_files.specs.declared.lines.Line.{Line}
-use Rattle.gf_fan_files.specs.declared.lines.Line.TheVariants as found
+use Rattle.gf_fan_files.specs.declared.lines.TextLine.{TextLine}
+use Rattle.gf_fan_files.specs.declared.lines.TextLine.TheVariants as found
 use Rattle.gf_fan_files.specs.declared.places.Token.{Token}
 use Rattle.gf_fan_files.specs.declared.places.Token.TheVariants as tokens
 use Rattle.gf_fan_files.specs.declared.places.Place.{Place}
@@ -22,14 +22,14 @@ BeginsAt place (x ∷ xs) = x.at ≡ place
 
 -- The first line with tokens, where the text says this from there on: there is none, it is the name of a section, or it
 -- has these tokens.
-abbrev pub IsLineFound : List ℕ → Sections → Line → Type 0
+abbrev pub IsLineFound : List ℕ → Sections → TextLine → Type 0
 IsLineFound source s found.Ended = s ≡ no_sections
 IsLineFound source s (found.Name start end next) = s ≡ with_name (lexeme source start end) (sections_from source next)
 IsLineFound source s (found.Tokens start from end next) = (s ≡ with_line (tokens_between source from end) (sections_from source next)) × BeginsAt start
     (tokens_between source from end)
 
 -- its places are within the source
-abbrev pub IsLineWithin : List ℕ → Line → Type 0
+abbrev pub IsLineWithin : List ℕ → TextLine → Type 0
 IsLineWithin source found.Ended = Unit {0}
 IsLineWithin source (found.Name start end next) = (start < end) × (end ≤ next) × (next ≤ length source)
 IsLineWithin source (found.Tokens start from end next) = (from ≤ end) × (end ≤ next) × (next ≤ length source)

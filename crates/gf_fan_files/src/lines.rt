@@ -9,7 +9,7 @@ use gf_text::word_from;
 
 /// The first line that has tokens, at a place or behind it.
 #[derive(Clone, Copy)]
-pub(crate) enum Line {
+pub(crate) enum TextLine {
     /// There is none.
     Ended,
     /// The name of a section; the next line begins at `next`.
@@ -91,7 +91,7 @@ fn line_at(source: &[u8], at: usize) -> (usize, usize)
 }
 
 /// What the line from `from` to `end` is, where it has tokens; the next line begins at `next`.
-fn line_between(source: &[u8], from: usize, end: usize, next: usize) -> Option<Line>
+fn line_between(source: &[u8], from: usize, end: usize, next: usize) -> Option<TextLine>
     requires line { sections_from source.now from ≡ with_tokens (tokens_between source.now from end) (sections_from source.now next) }
     requires within { (from ≤ end) × (end ≤ next) × (next ≤ length source.now) }
     ensures line { MatchOption result (sections_from source.now from ≡ sections_from source.now next) (IsLineFound source.now (sections_from source.now from)) }
@@ -101,7 +101,7 @@ fn line_between(source: &[u8], from: usize, end: usize, next: usize) -> Option<L
     let Some((start, behind)) = word_from(text, from) else {
         return None;
     };
-    let tokens = Line::Tokens {
+    let tokens = TextLine::Tokens {
         start,
         from,
         end,
@@ -111,7 +111,7 @@ fn line_between(source: &[u8], from: usize, end: usize, next: usize) -> Option<L
         return Some(tokens);
     }
     let Some(_) = word_from(text, behind) else {
-        return Some(Line::Name {
+        return Some(TextLine::Name {
             start,
             end: behind,
             next,
@@ -121,7 +121,7 @@ fn line_between(source: &[u8], from: usize, end: usize, next: usize) -> Option<L
 }
 
 /// The first line that has tokens, at a place or behind it.
-pub(crate) fn line_from(source: &[u8], at: usize) -> Line
+pub(crate) fn line_from(source: &[u8], at: usize) -> TextLine
     requires { at ≤ length source.now }
     ensures line { IsLineFound source.now (sections_from source.now at) result }
     ensures within { IsLineWithin source.now result }
@@ -134,5 +134,5 @@ pub(crate) fn line_from(source: &[u8], at: usize) -> Line
         }
         place = next;
     }
-    Line::Ended
+    TextLine::Ended
 }

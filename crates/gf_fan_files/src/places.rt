@@ -4,7 +4,7 @@ ghost use Rattle.gf_text.specs.Marks.{minus_mark};
 ghost use Rattle.gf_fan_files.specs.Lines.{sections_from, front_place, content_from};
 ghost use Rattle.gf_fan_files.specs.Found.{lexeme_of, tokens_left, IsPlaceWithin, IsTokenWithin};
 
-use crate::lines::{Line, line_from};
+use crate::lines::{TextLine, line_from};
 use gf_text::word_from;
 
 /// A token of a content.
@@ -47,9 +47,9 @@ pub(crate) fn content_at(source: &[u8], at: usize) -> (Place, usize)
     ensures within { IsPlaceWithin source.now result.0 }
 {
     match line_from(source, at) {
-        Line::Ended => (Place::End { at: source.len() }, source.len()),
-        Line::Name { start, .. } => (Place::End { at: start }, start),
-        Line::Tokens {
+        TextLine::Ended => (Place::End { at: source.len() }, source.len()),
+        TextLine::Name { start, .. } => (Place::End { at: start }, start),
+        TextLine::Tokens {
             start,
             from,
             end,

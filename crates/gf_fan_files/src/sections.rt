@@ -9,7 +9,7 @@ ghost use Rattle.gf_fan_files.specs.Contents.{IsSectionKept, Says, no_contents};
 
 use crate::cones::{ConeList, MOST_NUMBER, cones_from};
 use crate::error::{FanFileError, fault_of};
-use crate::lines::{Line, line_from};
+use crate::lines::{TextLine, line_from};
 use crate::numbers::{number_from, version_number};
 use crate::rows::{Vectors, rows_from};
 use gf_text::{DifferentNames, Kind, MOST_VARIABLES};
@@ -62,9 +62,9 @@ fn section_from(source: &[u8], at: usize) -> Option<(usize, usize, usize)>
     let mut place = at;
     loop {
         match line_from(source, place) {
-            Line::Ended => return None,
-            Line::Name { start, end, next } => return Some((start, end, next)),
-            Line::Tokens { next, .. } => place = next,
+            TextLine::Ended => return None,
+            TextLine::Name { start, end, next } => return Some((start, end, next)),
+            TextLine::Tokens { next, .. } => place = next,
         }
     }
 }

@@ -13,7 +13,7 @@ use Rattle.gf_gordan.specs.Alternative.{AreRows}
 use Rattle.gf_duality_theory.specs.Generators.{Made, ray, line, AreValid}
 use Rattle.gf_duality_theory.specs.Rays.{IsRays, Generated}
 use Rattle.gf_fans_theory.specs.FaceLists.{IsPartOn}
-use Rattle.gf_duality_theory.proofs.ListLaws.{none_in, in_tail, in_cons, of_rest, in_rest, stood, place, less, at, more}
+use Rattle.gf_duality_theory.proofs.ListLaws.{none_in, in_tail, in_cons, of_rest, in_rest, stood, index, less, at, more}
 use Rattle.gf_duality_theory.proofs.Made.{Made-dot, Made-dot_zero, Made-into}
 use Rattle.gf_duality_theory.proofs.Generated.{made-generated, generated-made}
 use Rattle.gf_duality_theory.proofs.Uniqueness.{face_made}
@@ -44,7 +44,7 @@ apart_from : (xs : List (List ℤ)) (i : ℕ) → AllPairs (λ x y. slice_cmp in
 apart_from xs i a h y c e =
     let s = stood xs i y h c in
     let q : get_or xs s.j [] ≡ y = get_or_default xs s.j [] y s.inside ∙ s.is in
-    elim (place i s.j) [
+    elim (index i s.j) [
       | at k ↦ s.other k
       | less k ↦ strictly_once xs s.j i a k h (q ∙ e)
       | more k ↦ strictly_once xs i s.j a k s.inside (sym (q ∙ e))

@@ -17,7 +17,7 @@ use Rattle.gf_duality_theory.specs.Faces.{Rows, IsInCone, SameCone, part, IsFace
 use Rattle.gf_fans_theory.specs.FaceLists.{IsPartOn, AreZeroRows}
 use Rattle.gf_fans_theory.specs.Fans.{meet, MeetInFaces, MeetPairwise, FacesAreFan}
 use Rattle.gf_fans_theory.specs.Laws.{HasRays}
-use Rattle.gf_duality_theory.proofs.ListLaws.{none_in, in_tail, in_cons, place, less, at, more}
+use Rattle.gf_duality_theory.proofs.ListLaws.{none_in, in_tail, in_cons, index, less, at, more}
 use Rattle.gf_vec.proofs.VectorIdentities.{vv, ◌⊞◌, ◌⊡◌, by}
 use Rattle.gf_duality_theory.proofs.Made.{Made-dot_zero}
 use Rattle.gf_duality_theory.proofs.Taking.{enough}
@@ -204,7 +204,7 @@ pub pairs_fan : (n : ℕ) (cones : List Rows) → ((c : Rows) → Contains cones
 pairs_fan n cones r p c d f g cc cd kf kg =
     let e : get_or cones cc.0 c ≡ c = cc.2 in
     let h : get_or cones cd.0 c ≡ d = get_or_default cones cd.0 c d cd.1 ∙ cd.2 in
-    let m : MeetInFaces n c d = elim (place cc.0 cd.0) [
+    let m : MeetInFaces n c d = elim (index cc.0 cd.0) [
       | more k ↦ subst (λ z. MeetInFaces n z d) e (subst (MeetInFaces n (get_or cones cc.0 c)) h (p cc.0 cd.0 c k cd.1))
       | less k ↦ meet_swap n d c (subst (λ z. MeetInFaces n z c) h (subst (MeetInFaces n (get_or cones cd.0 c)) e (p cd.0 cc.0 c k cc.1)))
       | at k ↦ subst (MeetInFaces n c) (sym e ∙ ap (λ i. get_or cones i c) k ∙ h) (own_meet n c, own_meet n c)

@@ -2,7 +2,7 @@
 use Rattle.std.proofs.Common.{◌≡◌, ℕ, ◌+◌, ◌-◌, ◌<◌, List, [], ◌∷◌, ◌++◌, length, arith, sym, ap, ◌∙◌, subst, Contains, ◌⊎◌, inl, inr, get_or}
 use Rattle.std.proofs.lemmas.List.{get_or_default, get_or_append_left, get_or-append_right, length-append}
 use Rattle.std.proofs.lemmas.List.Quantifiers.{all_pairs_push}
-use Rattle.gf_duality_theory.proofs.ListLaws.{place, less, at, more, first_in}
+use Rattle.gf_duality_theory.proofs.ListLaws.{index, less, at, more, first_in}
 use Rattle.gf_fans_theory.specs.Heights.{AreFirst, IsWithinPart, IsNextBelow, IsHeight, AreHeights}
 use Rattle.std.proofs.lemmas.List.Elements.{Contains-push}
 use Rattle.gf_int_theory.proofs.ListLaws.{Contains-last}
@@ -13,7 +13,7 @@ pub first_more : (n : ℕ) (out new : List ℕ) → new ≡ out ++ n ∷ [] → 
 first_more n out new e s = subst (AreFirst (n + 1)) (sym e) (record {
   ascending = all_pairs_push (λ i j. i < j) out n s.ascending (λ j d h. s.each (get_or out j d) (j, h, get_or_default out j (get_or out j d) d h));
   each = λ i c. elim (Contains-last out n i c) [ inl a ↦ let h = s.each i a in omega (arith, h) | inr q ↦ omega (arith, q) ];
-  every = λ i h. elim (place i n) [
+  every = λ i h. elim (index i n) [
     | more k ↦ first_in out n i (s.every i k)
     | at q ↦ subst (Contains (out ++ n ∷ [])) (sym q) (Contains-push out n)
     | less k ↦ absurd (omega (arith, h, k))
@@ -38,7 +38,7 @@ heights_more least parts i x out new e t s =
     omega arith in z) in
     subst (HeightsSoFar least parts (i + 1)) (sym e) (record {
       long = let a = length-append out (x ∷ []) in omega (arith, a, l);
-      each = λ j h. elim (place j i) [
+      each = λ j h. elim (index j i) [
         | less k ↦ absurd (omega (arith, h, k))
         | more k ↦ elim (s.each j k) [
           | inl (none, q) ↦ inl (none, before_push out x j (omega (arith, k, l)) ∙ q)

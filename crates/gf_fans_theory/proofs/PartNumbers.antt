@@ -11,7 +11,7 @@ use Rattle.std.proofs.lemmas.List.Elements.{All-contains, Contains-append_cases}
 use Rattle.gf_int_theory.proofs.ListLaws.{Contains-here, all_by}
 use Rattle.gf_vec.specs.Vector.{dot}
 use Rattle.gf_duality_theory.specs.Rays.{IsRays}
-use Rattle.gf_duality_theory.proofs.ListLaws.{none_in, in_tail, in_cons, place, less, at, more}
+use Rattle.gf_duality_theory.proofs.ListLaws.{none_in, in_tail, in_cons, index, less, at, more}
 use Rattle.gf_duality_theory.proofs.Determined.{described_of, less_never}
 use Rattle.gf_fans_theory.specs.Dimension.{HasDimension}
 use Rattle.gf_fans_theory.specs.FaceLists.{IsPartOn, AreNumbers, IsFaceBy, numbered}
@@ -58,10 +58,10 @@ numbered_ascends rays numbers a n i j d h l =
     (subst (λ t. slice_cmp int_cmp (get_or rays (get_or numbers i 0) []) t ≡ Less) (sym y)
     (a (get_or numbers i 0) (get_or numbers j 0) [] (n.ascending i j 0 h hj) (n.inside j 0 hj)))
 
--- ascending vectors at different places differ
-pub place_of_vector : (rays : List (List ℤ)) (i j : ℕ) → AllPairs (λ x y. slice_cmp int_cmp x y ≡ Less) rays → i < length rays → j < length rays →
+-- ascending vectors at different indices differ
+pub index_of_vector : (rays : List (List ℤ)) (i j : ℕ) → AllPairs (λ x y. slice_cmp int_cmp x y ≡ Less) rays → i < length rays → j < length rays →
     get_or rays i [] ≡ get_or rays j [] → i ≡ j
-place_of_vector rays i j a hi hj e = elim (place i j) [
+index_of_vector rays i j a hi hj e = elim (index i j) [
   | at q ↦ q
   | less k ↦ let u : slice_cmp int_cmp (get_or rays i []) (get_or rays i []) ≡ Less =
       subst (λ t. slice_cmp int_cmp t (get_or rays i []) ≡ Less) (sym e) (a j i [] k hi) in absurd (less_never (get_or rays i []) (get_or rays i []) u u)
@@ -75,17 +75,17 @@ pub number_in : (rays : List (List ℤ)) (numbers : List ℕ) (i : ℕ) → AllP
 number_in rays numbers i a n hi c =
     let t = of_number rays numbers (get_or rays i []) c in
     let h : t.0 < length rays = All-contains (λ i. i < length rays) numbers t.0 n.inside t.1.0 in
-    subst (Contains numbers) (place_of_vector rays t.0 i a h hi t.1.1) t.1.0
+    subst (Contains numbers) (index_of_vector rays t.0 i a h hi t.1.1) t.1.0
 
--- ---- places
+-- ---- indices
 
--- rows have places
-pub places_of : (hs zero_rows : List (List ℤ)) → ((t : List ℤ) → Contains zero_rows t → Contains hs t) →
+-- rows have indices
+pub indices_of : (hs zero_rows : List (List ℤ)) → ((t : List ℤ) → Contains zero_rows t → Contains hs t) →
     (ks : List ℕ) × (((k : ℕ) → Contains ks k → k < length hs) × (numbered hs ks ≡ zero_rows))
-places_of hs [] f = ([], ((λ k c. absurd (none_in k c)), refl))
-places_of hs (t ∷ ts) f =
+indices_of hs [] f = ([], ((λ k c. absurd (none_in k c)), refl))
+indices_of hs (t ∷ ts) f =
     let c = f t (Contains-here t ts) in
-    let r = places_of hs ts (λ u d. f u (in_tail t ts u d)) in (
+    let r = indices_of hs ts (λ u d. f u (in_tail t ts u d)) in (
       c.0 ∷ r.0,
       (
         (λ k d. elim (in_cons c.0 r.0 k d) [ inl e ↦ subst (λ j. j < length hs) (sym e) c.1 | inr i ↦ r.1.0 k i ]),
@@ -99,8 +99,8 @@ rows_listed hs ks f t c = let u = of_number hs ks t c in let h =
 
 -- ---- dimensions
 
-all_places : (hs : List (List ℤ)) → (ks : List ℕ) × (((k : ℕ) → Contains ks k → k < length hs) × (numbered hs ks ≡ hs))
-all_places hs = places_of hs hs (λ t c. c)
+all_indices : (hs : List (List ℤ)) → (ks : List ℕ) × (((k : ℕ) → Contains ks k → k < length hs) × (numbered hs ks ≡ hs))
+all_indices hs = indices_of hs hs (λ t c. c)
 
 -- a part, with its rows
 record PartAt (n : ℕ) (hs es lin : List (List ℤ)) (vs : List (List ℤ)) (f : List ℕ) : Type 0 where
@@ -129,7 +129,7 @@ in_list parts i h = (i, h, get_or_default parts i (get_or parts i []) [] h)
 flat_part : (n : ℕ) (hs es lin : List (List ℤ)) (vs : List (List ℤ)) (parts : List (List ℕ)) → IsRays n hs es lin vs → AreParts hs vs parts →
     (f : List ℕ) × (Contains parts f × ((i : ℕ) → Contains f i → ⊥))
 flat_part n hs es lin vs parts s a =
-    let k = all_places hs in
+    let k = all_indices hs in
     let f = a.every k.0 k.1.0 in
     let d = described_of n hs es lin vs s in (
       f.0,
@@ -159,7 +159,7 @@ least_dimension n hs es lin vs parts i s a sorted h none =
       | [] ↦ λ g. omega arith
       | y ∷ ys ↦ λ g. absurd (g y (Contains-here y ys))
     ] g in
-    let z : get_or parts i [] ≡ [] = elim (place j i) [
+    let z : get_or parts i [] ≡ [] = elim (index j i) [
       | more k ↦ absurd (none j k (all_by (Contains (get_or parts i [])) (get_or parts j []) (λ y c. absurd (f.1.1 y (subst (λ l. Contains l y) e c)))))
       | at q ↦ none_left (get_or parts i []) (empty (get_or parts i []) (λ y c.
           f.1.1 y (subst (λ l. Contains l y) (ap (λ t. get_or parts t []) (sym q) ∙ e) c)))
@@ -200,7 +200,7 @@ next_dimension n hs es lin vs parts i j dim s a sorted h below dj =
           } in
           let most : IsGreatestPart hs (numbered vs big) (numbered vs small) = λ zero_rows other listed part inside less_than v c.
           let all_zero : List (List ℤ) = numbered hs p.ks ++ zero_rows in
-          let k = places_of hs all_zero (λ t d. elim (Contains-append_cases (numbered hs p.ks) zero_rows t d) [ inl u ↦ p.listed t u | inr u ↦ listed t u ]) in
+          let k = indices_of hs all_zero (λ t d. elim (Contains-append_cases (numbered hs p.ks) zero_rows t d) [ inl u ↦ p.listed t u | inr u ↦ listed t u ]) in
           let f = a.every k.0 k.1.0 in
           let mid : List ℕ = f.0 in
           let nm = (part_at n hs es lin vs parts mid s a f.1.0).listed_numbers in
@@ -215,7 +215,7 @@ next_dimension n hs es lin vs parts i j dim s a sorted h below dj =
           λ y d. number_in vs mid y up nm (in_vs y (sub y d)) (of_other (get_or vs y []) (inside (get_or vs y []) (at_number vs small y d))) in
           let g : ℕ = f.1.0.0 in
           let eg : get_or parts g [] ≡ mid = get_or_default parts g [] mid f.1.0.1 ∙ f.1.0.2 in
-          let back : (y : ℕ) → Contains mid y → Contains small y = elim (place g i) [
+          let back : (y : ℕ) → Contains mid y → Contains small y = elim (index g i) [
             | at e ↦ absurd (less_than (λ w d. let t = of_number vs big w d in
                 subst (Contains other) t.1.1 (to_other (get_or vs t.0 []) (at_number vs mid t.0
                 (subst (λ l. Contains l t.0) (ap (λ z. get_or parts z []) (sym e) ∙ eg) t.1.0)))))
@@ -226,7 +226,7 @@ next_dimension n hs es lin vs parts i j dim s a sorted h below dj =
                 absurd (less_than (λ w d. let t = of_number vs big w d in
                 subst (Contains other) t.1.1 (to_other (get_or vs t.0 []) (at_number vs mid t.0 (all t.0 t.1.0)))))
             | more l ↦
-                let gj : g ≤ j = elim (place g j) [
+                let gj : g ≤ j = elim (index g j) [
                   | at e ↦ omega (arith, e)
                   | more e ↦ omega (arith, e)
                   | less e ↦ absurd (below.later g e l (subst (λ t. All (Contains big) t) (sym eg) (all_by (Contains big) mid mid_big)))

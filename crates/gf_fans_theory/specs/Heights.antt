@@ -2,7 +2,7 @@
 use Rattle.std.specs.Prelude.{◌≡◌, ◌≢◌, ◌⊎◌, ◌+◌, ℕ, ◌<◌, List, [], ℤ, length, All, AllPairs, Contains, slice_index_or}
 use Rattle.gf_fans_theory.specs.FaceLists.{IsPartOn, AreNumbers, numbered}
 
--- the numbers of the rays of all faces, each once: those on which the rows at some places are zero
+-- the numbers of the rays of all faces, each once: those on which the rows at some indices are zero
 pub record AreParts (rows rays : List (List ℤ)) (parts : List (List ℕ)) : Type 0 where
   pub each : (f : List ℕ) → Contains parts f → (ks : List ℕ) × (((k : ℕ) → Contains ks k → k < length rows) × AreNumbers rays f × IsPartOn (numbered rows ks)
       rays (numbered rays f))

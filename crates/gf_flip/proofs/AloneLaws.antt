@@ -16,23 +16,23 @@ use Rattle.gf_ideal_theory.proofs.ListedTerms.{listed}
 use Rattle.gf_division.specs.NormalForms.{HasSomeWeight}
 use Rattle.gf_initial_theory.specs.Parts.{IsPartAlong, ArePartsAlong}
 use Rattle.gf_initial_theory.proofs.ClassLaws.{multiple-grading}
-use Rattle.gf_lines.specs.Along.{HasNonzero, AreAlong}
-use Rattle.gf_lines.specs.Splits.{IsAlone}
+use Rattle.gf_strands.specs.Along.{HasNonzero, AreAlong}
+use Rattle.gf_strands.specs.Splits.{IsAlone}
 use Rattle.gf_flip.specs.Chosen.{AreAloneWhere}
 
 -- the monomials of a list of one term are the same
-one_place : (f : Terms) (x y : Exponents) → length f ≡ 1 → HasMonomial f x → HasMonomial f y → same x y ≡ true
-one_place [] x y l h k = absurd (omega arith)
-one_place (t ∷ []) x y l h k = same_trans x t.mono y (at x h) (same_flip y t.mono (at y k))
+one_index : (f : Terms) (x y : Exponents) → length f ≡ 1 → HasMonomial f x → HasMonomial f y → same x y ≡ true
+one_index [] x y l h k = absurd (omega arith)
+one_index (t ∷ []) x y l h k = same_trans x t.mono y (at x h) (same_flip y t.mono (at y k))
   where
     at : (z : Exponents) → HasMonomial (t ∷ []) z → same z t.mono ≡ true
     at z n = let r = listed (λ (s : Term). s.mono ≡ t.mono) (t ∷ []) z (refl, tt) n in subst (λ (w : Exponents). same z w ≡ true) r.1 r.2
-one_place (t ∷ s ∷ f) x y l h k = absurd (omega arith)
+one_index (t ∷ s ∷ f) x y l h k = absurd (omega arith)
 
 -- one member
 alone_by_part : (a : List ℤ) → HasNonzero a → (b p : MarkedPolynomial) → coefficient b.poly b.head ≡ one_ℚ → IsPartAlong a b p → length p.poly ≡ 1 → IsAlone a b
 alone_by_part a nz b p one h l x m q = let g = multiple-grading a nz in
-    one_place p.poly x b.head l (λ z. m (sym (h.along x q) ∙ z)) (λ z. one_not_zero (sym one ∙ sym (h.along b.head (g.along b.head b.head (same-refl b.head))) ∙
+    one_index p.poly x b.head l (λ z. m (sym (h.along x q) ∙ z)) (λ z. one_not_zero (sym one ∙ sym (h.along b.head (g.along b.head b.head (same-refl b.head))) ∙
     z))
 
 -- each member whose part is one term alone

@@ -1,6 +1,6 @@
 -- Lifts of chosen members, one after another.
 -- To cite: descending_one, chosen_more, AreLiftedTo, lifted_to-none, lifted_to-more, lifted_to-end, copy_lifted, origin_lifted, if_origin_lifted,
--- if_origin_variables, if_twin_lifted, twin_monic, terms_end, lifted_front, lifted_line.
+-- if_origin_variables, if_twin_lifted, twin_monic, terms_end, lifted_front, lifted_strand.
 use Rattle.std.specs.declared.option.Option.{Option}
 use Rattle.std.proofs.Common.{Some, None, IfSome, ◌≡◌, ◌≢◌, ℕ, zero, suc, ◌+◌, ◌<◌, ◌≤◌, Bool, true, false, List, [], ◌∷◌, length, take, get_or, Contains, ℤ}
 use Rattle.std.proofs.Common.{arith, refl, sym, ap, ◌∙◌, subst}
@@ -16,17 +16,17 @@ use Rattle.gf_division.proofs.ReducerLaws.{member_at, members_equal, member_cont
 use Rattle.gf_initial_theory.specs.Lifts.{IsTopLift, AreTopLifts}
 use Rattle.gf_ideal_theory.specs.OrderTable.{AreMultipleApart}
 use Rattle.gf_initial_theory.proofs.ClassLaws.{multiple-grading}
-use Rattle.gf_lines.specs.declared.lines.Point.{Point}
-use Rattle.gf_lines.specs.declared.lines.Line.{Line}
-use Rattle.gf_lines.specs.Along.{HasNonzero}
-use Rattle.gf_lines.specs.Lines.{line_terms, line_member, line_members, IsLineAlong, IsLineOf, HasOrigin}
-use Rattle.gf_lines.proofs.LineLaws.{line_marked}
+use Rattle.gf_strands.specs.declared.strands.Point.{Point}
+use Rattle.gf_strands.specs.declared.strands.Strand.{Strand}
+use Rattle.gf_strands.specs.Along.{HasNonzero}
+use Rattle.gf_strands.specs.Strands.{strand_terms, strand_member, strand_members, IsStrandAlong, IsStrandOf, HasOrigin}
+use Rattle.gf_strands.proofs.StrandLaws.{strand_marked}
 use Rattle.gf_flip.specs.Chosen.{IsLiftedWhere}
 use Rattle.gf_lifts.specs.LiftTails.{AreCopies}
-use Rattle.gf_lines.specs.Monomials.{monomial_member, with_monomials, chosen, IsAddedWhere}
-use Rattle.gf_lines.specs.Splits.{IsAloneAt, IsAlone}
+use Rattle.gf_strands.specs.Monomials.{monomial_member, with_monomials, chosen, IsAddedWhere}
+use Rattle.gf_strands.specs.Splits.{IsAloneAt, IsAlone}
 use Rattle.gf_lifts.specs.Tops.{IsQuotientAt}
-use Rattle.gf_lines.proofs.MonomialLaws.{monomial_single, monomial_one, joined_length, front_at, behind_at}
+use Rattle.gf_strands.proofs.MonomialLaws.{monomial_single, monomial_one, joined_length, front_at, behind_at}
 use Rattle.gf_lifts.proofs.LiftTailLaws.{copies_more}
 use Rattle.gf_lifts.proofs.TopLaws.{AreTopping, topping_push, untouched_at, top_twin, divided_lift}
 
@@ -122,16 +122,16 @@ copy_lifted n bs a p x b f old new before after w v o e m c = at f m c
     }
     at false m c = (m, c)
 
--- ---- lines
+-- ---- strands
 
--- what the part of a member on a line is lifted to
-pub origin_lifted : (bs : List MarkedPolynomial) (a : List ℤ) (l : Line) (p : ℕ) (b k : MarkedPolynomial) (x : Exponents) → HasNonzero a → HasSomeWeight bs →
-    IsLineAlong a l → HasOrigin a bs l p → b ≡ get_or bs p b → x ≡ l.mark → IsQuotientAt b x k → IsTopLift bs a (line_member a l) k
+-- what the part of a member on a strand is lifted to
+pub origin_lifted : (bs : List MarkedPolynomial) (a : List ℤ) (l : Strand) (p : ℕ) (b k : MarkedPolynomial) (x : Exponents) → HasNonzero a → HasSomeWeight bs →
+    IsStrandAlong a l → HasOrigin a bs l p → b ≡ get_or bs p b → x ≡ l.mark → IsQuotientAt b x k → IsTopLift bs a (strand_member a l) k
 origin_lifted bs a l p b k x n w h o e ex d =
-    divided_lift bs a (line_member a l) b k (line_marked a l n h).monic (w.1 b in_bs).monic in_bs
+    divided_lift bs a (strand_member a l) b k (strand_marked a l n h).monic (w.1 b in_bs).monic in_bs
     ((multiple-grading a n).symmetric l.mark b.head (subst (λ (z : MarkedPolynomial). AreMultipleApart a l.mark z.head) is o.apart))
     (subst (λ (z : Exponents). IsQuotientAt b z k) ex d)
-    (λ y q. subst (λ (z : MarkedPolynomial). coefficient z.poly l.mark *ℚ coefficient (line_member a l).poly y ≡ coefficient z.poly y) is (o.part y q))
+    (λ y q. subst (λ (z : MarkedPolynomial). coefficient z.poly l.mark *ℚ coefficient (strand_member a l).poly y ≡ coefficient z.poly y) is (o.part y q))
   where
     here : IsAt bs p b
     here = member_at bs p b o.at.within e
@@ -143,32 +143,33 @@ origin_lifted bs a l p b k x n w h o e ex d =
     is = members_equal bs p o.member b o.at here
 
 -- as the code has it
-pub if_origin_lifted : (bs : List MarkedPolynomial) (a : List ℤ) (l : Line) (p : ℕ) (b : MarkedPolynomial) (o : Option MarkedPolynomial) → HasNonzero a →
-    HasSomeWeight bs → IsLineOf a bs l → l.origin ≡ Some p → b ≡ get_or bs p b → IfSome o (IsQuotientAt b l.mark) → IfSome o (IsTopLift bs a (line_member a l))
+pub if_origin_lifted : (bs : List MarkedPolynomial) (a : List ℤ) (l : Strand) (p : ℕ) (b : MarkedPolynomial) (o : Option MarkedPolynomial) → HasNonzero a →
+    HasSomeWeight bs → IsStrandOf a bs l → l.origin ≡ Some p → b ≡ get_or bs p b → IfSome o (IsQuotientAt b l.mark) →
+    IfSome o (IsTopLift bs a (strand_member a l))
 if_origin_lifted bs a l p b (Some k) n w h e q d = origin_lifted bs a l p b k l.mark n w h.0 (subst (λ (z : Option ℕ). IfSome z (HasOrigin a bs l)) e h.1)
     q refl d
 if_origin_lifted bs a l p b None n w h e q d = tt
 
-pub if_origin_variables : (n : ℕ) (bs : List MarkedPolynomial) (a : List ℤ) (l : Line) (p : ℕ) (b : MarkedPolynomial) (o : Option MarkedPolynomial) →
-    HaveVariables n bs → IsLineOf a bs l → l.origin ≡ Some p → b ≡ get_or bs p b → IfSome o (IsQuotientAt b l.mark) → IfSome o (λ k. HasVariables n k.poly)
+pub if_origin_variables : (n : ℕ) (bs : List MarkedPolynomial) (a : List ℤ) (l : Strand) (p : ℕ) (b : MarkedPolynomial) (o : Option MarkedPolynomial) →
+    HaveVariables n bs → IsStrandOf a bs l → l.origin ≡ Some p → b ≡ get_or bs p b → IfSome o (IsQuotientAt b l.mark) → IfSome o (λ k. HasVariables n k.poly)
 if_origin_variables n bs a l p b (Some k) v h e q d =
     let w : HasOrigin a bs l p = subst (λ (z : Option ℕ). IfSome z (HasOrigin a bs l)) e h.1 in
     d.variables.at n (member_variables n bs b v (member_contained bs p b (member_at bs p b w.at.within q)))
 if_origin_variables n bs a l p b None v h e q d = tt
 
-pub if_twin_lifted : (bs : List MarkedPolynomial) (a : List ℤ) (l : Line) (m : MarkedPolynomial) (o : Option MarkedPolynomial) →
-    SamePolynomial m.poly (line_member a l).poly → m.head ≡ l.mark → IfSome o (IsTopLift bs a m) → IfSome o (IsTopLift bs a (line_member a l))
-if_twin_lifted bs a l m (Some k) s e t = top_twin bs a m (line_member a l) k s e t
+pub if_twin_lifted : (bs : List MarkedPolynomial) (a : List ℤ) (l : Strand) (m : MarkedPolynomial) (o : Option MarkedPolynomial) →
+    SamePolynomial m.poly (strand_member a l).poly → m.head ≡ l.mark → IfSome o (IsTopLift bs a m) → IfSome o (IsTopLift bs a (strand_member a l))
+if_twin_lifted bs a l m (Some k) s e t = top_twin bs a m (strand_member a l) k s e t
 if_twin_lifted bs a l m None s e t = tt
 
 -- a polynomial that is the same, with the same mark, is monic
-pub twin_monic : (a : List ℤ) (l : Line) (m : MarkedPolynomial) → HasNonzero a → IsLineAlong a l → SamePolynomial m.poly (line_member a l).poly →
+pub twin_monic : (a : List ℤ) (l : Strand) (m : MarkedPolynomial) → HasNonzero a → IsStrandAlong a l → SamePolynomial m.poly (strand_member a l).poly →
     m.head ≡ l.mark → coefficient m.poly m.head ≡ one_ℚ
-twin_monic a l m n h s e = s m.head ∙ ap (coefficient (line_member a l).poly) e ∙ (line_marked a l n h).monic
+twin_monic a l m n h s e = s m.head ∙ ap (coefficient (strand_member a l).poly) e ∙ (strand_marked a l n h).monic
 
-pub terms_end : (a : List ℤ) (l : Line) (i : ℕ) (f : Terms) → length l.rest.items ≤ i →
-    f ≡ record { coef = one_ℚ; mono = l.mark } ∷ line_terms a l.mark (take i l.rest.items) → f ≡ (line_member a l).poly
-terms_end a l i f n e = e ∙ ap (λ (z : List Point). record { coef = one_ℚ; mono = l.mark } ∷ line_terms a l.mark z) (take_all i l.rest.items n)
+pub terms_end : (a : List ℤ) (l : Strand) (i : ℕ) (f : Terms) → length l.rest.items ≤ i →
+    f ≡ record { coef = one_ℚ; mono = l.mark } ∷ strand_terms a l.mark (take i l.rest.items) → f ≡ (strand_member a l).poly
+terms_end a l i f n e = e ∙ ap (λ (z : List Point). record { coef = one_ℚ; mono = l.mark } ∷ strand_terms a l.mark z) (take_all i l.rest.items n)
 
 -- ---- the lifts, as the code has them
 
@@ -195,12 +196,12 @@ lifted_behind n bs a xs ms flags j b old new before after e l q k h =
     next : (length xs + j) + 1 ≡ length xs + (j + 1)
     next = omega arith
 
--- the same of a line
-pub lifted_line : (n : ℕ) (bs : List MarkedPolynomial) (a : List ℤ) (xs : List Exponents) (ls : List Line) (flags : List Bool) (j : ℕ) (l : Line)
-    (old new : List MarkedPolynomial) (before after : List Bool) → length flags ≡ length (with_monomials xs (line_members a ls)) → j < length ls →
-    l ≡ get_or ls j l → IsLiftedWhere (get_or flags (length xs + j) false) n bs a (line_member a l) old new before after →
-    AreLiftedTo n bs a (with_monomials xs (line_members a ls)) flags (length xs + j) old before → AreLiftedTo n bs a (with_monomials xs (line_members a ls))
+-- the same of a strand
+pub lifted_strand : (n : ℕ) (bs : List MarkedPolynomial) (a : List ℤ) (xs : List Exponents) (ls : List Strand) (flags : List Bool) (j : ℕ) (l : Strand)
+    (old new : List MarkedPolynomial) (before after : List Bool) → length flags ≡ length (with_monomials xs (strand_members a ls)) → j < length ls →
+    l ≡ get_or ls j l → IsLiftedWhere (get_or flags (length xs + j) false) n bs a (strand_member a l) old new before after →
+    AreLiftedTo n bs a (with_monomials xs (strand_members a ls)) flags (length xs + j) old before → AreLiftedTo n bs a (with_monomials xs (strand_members a ls))
     flags (length xs + (j + 1)) new after
-lifted_line n bs a xs ls flags j l old new before after e m q k h =
-    lifted_behind n bs a xs (line_members a ls) flags j (line_member a l) old new before after e (omega (arith, m, length-map ls (line_member a)))
-    (ap (line_member a) q ∙ sym (get_or-map (line_member a) ls j l (line_member a l) m)) k h
+lifted_strand n bs a xs ls flags j l old new before after e m q k h =
+    lifted_behind n bs a xs (strand_members a ls) flags j (strand_member a l) old new before after e (omega (arith, m, length-map ls (strand_member a)))
+    (ap (strand_member a) q ∙ sym (get_or-map (strand_member a) ls j l (strand_member a l) m)) k h

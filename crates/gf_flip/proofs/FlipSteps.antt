@@ -15,11 +15,11 @@ use Rattle.gf_ideal_theory.proofs.ListLaws.{each_contained}
 use Rattle.gf_ideal_theory.proofs.KeptForms.{arranged_list}
 use Rattle.gf_division.specs.NormalForms.{HasSomeWeight}
 use Rattle.gf_division.specs.Autoreduction.{IsAutoreduced, IsAutoreductionRefusal}
-use Rattle.gf_buchberger.specs.Jobs.{IsBasisJob}
+use Rattle.gf_buchberger.specs.Tasks.{IsBasisTask}
 use Rattle.gf_buchberger.specs.Bases.{IsArrangedBasis, IsBasisRefusal, of_poly_error}
 use Rattle.gf_buchberger.specs.declared.bases.BasisError.{BasisError}
 use Rattle.gf_initial_theory.specs.Lifts.{AreLifts, AreTopLifts}
-use Rattle.gf_lines.specs.Along.{AreSmall, AreAlong, IsBasisOfParts}
+use Rattle.gf_strands.specs.Along.{AreSmall, AreAlong, IsBasisOfParts}
 use Rattle.gf_lifts.specs.Crossings.{IsCrossing, IsNeighbour}
 use Rattle.gf_lifts.specs.LiftTails.{AreCopies, AreTailsInTurn}
 use Rattle.gf_lifts.proofs.TailsInTurn.{turned_tails, turned_canonical}
@@ -53,8 +53,8 @@ pub facet_entries : (a b : List ℤ) (o : MonomialOrder) → b ≡ a → HasEntr
 facet_entries a b o e h = subst (λ (z : List ℤ). HasEntries (length z) o) e h
 
 pub job_at : (n m : ℕ) (bs : List MarkedPolynomial) (a : List ℤ) (fs : List Terms) (o : MonomialOrder) → IsCrossing n bs a → AreAlong a bs fs → m ≡ n →
-    o ≡ MonomialOrder.facet (negated_row_of a) → HasEntries (length a) o → IsBasisJob o m fs
-job_at n m bs a fs o c h e q w = subst (λ (z : ℕ). IsBasisJob o z fs) (sym e) (subst (λ (z : MonomialOrder). IsBasisJob z n fs) (sym q) (record {
+    o ≡ MonomialOrder.facet (negated_row_of a) → HasEntries (length a) o → IsBasisTask o m fs
+job_at n m bs a fs o c h e q w = subst (λ (z : ℕ). IsBasisTask o z fs) (sym e) (subst (λ (z : MonomialOrder). IsBasisTask z n fs) (sym q) (record {
   ring = in_ring n bs a fs c h;
   entries = subst (λ (z : ℕ). HasEntries z (MonomialOrder.facet (negated_row_of a))) (crossing_width n bs a c) (subst (HasEntries (length a)) q w);
   suited = suited n bs a fs c h;

@@ -7,3 +7,4 @@ pub mod FlipSteps  -- the steps of a flip
 pub mod StartLaws  -- what a run on the parts begins with
 pub mod RunSteps  -- the run on the parts, and the lifts of what it leads to
 pub mod ReachedLaws  -- bases that a walk reaches
+pub use Rattle.gf_buchberger.proofs.TaskLaws

@@ -13,8 +13,8 @@ use Rattle.gf_poly.specs.Polynomial.{Terms}
 use Rattle.gf_poly.specs.Marking.{MarkedPolynomial, polys}
 use Rattle.gf_ideal_theory.specs.Membership.{HasMonomial}
 use Rattle.gf_ideal_theory.specs.OrderTable.{AreMultipleApart}
-use Rattle.gf_buchberger.specs.Jobs.{HaveRingVariables, IsSuited}
-use Rattle.gf_buchberger.proofs.JobLaws.{orders_that_suit}
+use Rattle.gf_buchberger.specs.Tasks.{HaveRingVariables, IsSuited}
+use Rattle.gf_buchberger.proofs.TaskLaws.{orders_that_suit}
 use Rattle.gf_facets_theory.specs.Rows.{negated}
 use Rattle.gf_facets_theory.proofs.RegionLaws.{region-natural, region-positive}
 use Rattle.gf_initial_theory.specs.Parts.{Matching, IsPartAlong, ArePartsAlong}
@@ -22,7 +22,7 @@ use Rattle.gf_initial_theory.proofs.MatchingLaws.{matched-map}
 use Rattle.gf_initial_theory.proofs.PartLaws.{IsLevelPart}
 use Rattle.gf_initial_theory.proofs.SideLaws.{IsSide, level_of_along, parts_of_one_class, apart-negated}
 use Rattle.gf_initial_theory.proofs.FlipLaws.{side_of_inside, along_negated}
-use Rattle.gf_lines.specs.Along.{AreAlong}
+use Rattle.gf_strands.specs.Along.{AreAlong}
 use Rattle.gf_lifts.specs.Crossings.{IsCrossing}
 
 -- they are in the ring

@@ -14,12 +14,12 @@ use Rattle.gf_ideal_theory.proofs.ListedTerms.{variables_by_terms}
 use Rattle.gf_ideal_theory.proofs.MarkWeights.{marked_positive, mark-there}
 use Rattle.gf_ideal_theory.proofs.OrderWeights.{order-weights}
 use Rattle.gf_buchberger.specs.Bases.{IsArrangedBasis}
-use Rattle.gf_buchberger.specs.Jobs.{HaveRingVariables}
-use Rattle.gf_buchberger.proofs.JobLaws.{ring_variables}
+use Rattle.gf_buchberger.specs.Tasks.{HaveRingVariables}
+use Rattle.gf_buchberger.proofs.TaskLaws.{ring_variables}
 use Rattle.gf_facets_theory.specs.Regions.{all_positive}
 use Rattle.gf_facets_theory.specs.Facets.{IsFlippable}
 use Rattle.gf_facets_theory.specs.MarkedBases.{IsBasisInRegion}
-use Rattle.gf_bases_theory.proofs.FiniteLaws.{basis_everywhere}
+use Rattle.gf_initial_theory.proofs.FiniteLaws.{basis_everywhere}
 use Rattle.gf_cone.specs.Cones.{ConeRows, normal_at, IsConeOf}
 use Rattle.gf_cone.specs.Crossing.{IsFlipDecided}
 use Rattle.gf_lifts.specs.Crossings.{IsCrossing, IsNeighbour}
@@ -44,15 +44,15 @@ reached_first n fs s v b = record {
         (λ d c x p. let w = variables_by_terms n d.poly (b.arranged.canonical d c).variables in
         (refl, λ i l. w x p i l ∙ sym (w d.head (mark-there (below_of MonomialOrder.deglex) d (b.marked d c)) i l)))
 
-pub told_flippable : (s : MarkedPolynomials) (cone old new : ConeRows) (normals : List (List ℤ)) (place : ℕ) (a : List ℤ) (r : Bool) →
-    IsConeOf s.variables (all_positive s.variables) s.items cone → old ≡ cone → new ≡ old → normals ≡ new.normals → place < length normals →
-    a ≡ get_or normals place a → r ≡ true → IsFlipDecided old place r → IsFlippable s.variables (all_positive s.variables) s.items a
-told_flippable s cone old new normals place a r k e f g l q t d =
+pub told_flippable : (s : MarkedPolynomials) (cone old new : ConeRows) (normals : List (List ℤ)) (index : ℕ) (a : List ℤ) (r : Bool) →
+    IsConeOf s.variables (all_positive s.variables) s.items cone → old ≡ cone → new ≡ old → normals ≡ new.normals → index < length normals →
+    a ≡ get_or normals index a → r ≡ true → IsFlipDecided old index r → IsFlippable s.variables (all_positive s.variables) s.items a
+told_flippable s cone old new normals index a r k e f g l q t d =
     subst (IsFlippable s.variables (all_positive s.variables) s.items) (sym here)
     ((d s.variables (all_positive s.variables) s.items (subst (IsConeOf s.variables (all_positive s.variables) s.items) (sym e) k)).0 t)
   where
-    here : a ≡ normal_at old place
-    here = q ∙ get_or_default normals place a [] l ∙ ap (λ (z : List (List ℤ)). get_or z place []) (g ∙ ap (λ (c : ConeRows). c.normals) f)
+    here : a ≡ normal_at old index
+    here = q ∙ get_or_default normals index a [] l ∙ ap (λ (z : List (List ℤ)). get_or z index []) (g ∙ ap (λ (c : ConeRows). c.normals) f)
 
 pub reached_crossing : (fs : List Terms) (s : MarkedPolynomials) (a : List ℤ) → IsReachedByFlips fs s →
     IsFlippable s.variables (all_positive s.variables) s.items a → IsCrossing s.variables s.items a

@@ -12,7 +12,7 @@ use Rattle.gf_buchberger.specs.declared.bases.BasisError.{BasisError}
 use Rattle.gf_buchberger.specs.declared.bases.BasisError.TheVariants as basis_errors
 use Rattle.gf_buchberger.specs.Bases.{IsBasisRefusal, IsWantOfMemory, of_poly_error}
 use Rattle.gf_initial_theory.specs.Lifts.{AreLifts}
-use Rattle.gf_lines.specs.Along.{AreAlong, IsBasisOfParts}
+use Rattle.gf_strands.specs.Along.{AreAlong, IsBasisOfParts}
 use Rattle.gf_lifts.specs.LiftRefusals.{IsLiftsRefusal}
 use Rattle.gf_flip.specs.Operations.{IsFlipOperation, IsFlipExponents, IsFlipRefusal, IsFlipWithinLimits}
 

@@ -10,15 +10,15 @@ use Rattle.gf_poly.specs.Marking.{MarkedPolynomial, HaveVariables}
 use Rattle.gf_buchberger.proofs.ReducedPairLaws.{variables_each}
 use Rattle.gf_initial_theory.specs.Lifts.{AreTopLifts}
 use Rattle.gf_lifts.specs.declared.tops.Lifts.{Lifts}
-use Rattle.gf_lines.specs.Along.{AreSmall, IsBasisOfParts}
+use Rattle.gf_strands.specs.Along.{AreSmall, IsBasisOfParts}
 use Rattle.gf_flip.specs.Chosen.{AreLiftsOfParts}
 use Rattle.gf_lifts.specs.Crossings.{IsCrossing}
 use Rattle.gf_lifts.specs.LiftTails.{AreCopies, AreTailsInTurn}
-use Rattle.gf_lines.specs.Lines.{IsGround, facet_order}
-use Rattle.gf_lines.specs.Monomials.{with_monomials, AreLaterUndivided}
-use Rattle.gf_line_runs.specs.Settling.{SettlesTo}
-use Rattle.gf_lines.specs.Splits.{AreSplit}
-use Rattle.gf_line_runs.specs.Turns.{HasEntering, LeadsToEnd}
+use Rattle.gf_strands.specs.Strands.{IsGround, facet_order}
+use Rattle.gf_strands.specs.Monomials.{with_monomials, AreLaterUndivided}
+use Rattle.gf_strand_runs.specs.Settling.{SettlesTo}
+use Rattle.gf_strands.specs.Splits.{AreSplit}
+use Rattle.gf_strand_runs.specs.Turns.{HasEntering, LeadsToEnd}
 use Rattle.gf_lifts.proofs.CrossingMath.{crossing_width, crossing_nonzero}
 use Rattle.gf_flip.proofs.FlipSteps.{topped_at, Ending, ending_at}
 use Rattle.gf_flip.proofs.StartLaws.{IsStart, split_start}
@@ -33,9 +33,9 @@ crossing_at n bs items a b e q c = subst (λ (z : List ℤ). IsCrossing (length 
 row_entries : (a : List ℤ) → HasEntries (length a) (facet_order a)
 row_entries a = length-losses a
 
-pub start_of : (bs : List MarkedPolynomial) (a : List ℤ) (places : List ℕ) (xs : List Exponents) (fs : List Terms) → IsCrossing (length a) bs a →
-    AreSplit a bs places xs fs → IsStart (length a) bs a xs fs
-start_of bs a places xs fs c h = split_start (length a) bs a places xs fs c (row_entries a) h
+pub start_of : (bs : List MarkedPolynomial) (a : List ℤ) (indices : List ℕ) (xs : List Exponents) (fs : List Terms) → IsCrossing (length a) bs a →
+    AreSplit a bs indices xs fs → IsStart (length a) bs a xs fs
+start_of bs a indices xs fs c h = split_start (length a) bs a indices xs fs c (row_entries a) h
 
 pub entering_of : (bs : List MarkedPolynomial) (a : List ℤ) (xs : List Exponents) (fs : List Terms) → IsStart (length a) bs a xs fs →
     HasEntering (facet_order a) (length a) fs (with_monomials xs [])

@@ -11,7 +11,7 @@ use Rattle.gf_ideal_theory.proofs.ListLaws.{contained_each}
 use Rattle.gf_facets_theory.specs.Rows.{differences, IsNormal}
 use Rattle.gf_facets_theory.proofs.RowLaws.{row-from}
 use Rattle.gf_cone.proofs.SmallLaws.{primitive_small}
-use Rattle.gf_lines.specs.Along.{AreSmall}
+use Rattle.gf_strands.specs.Along.{AreSmall}
 use Rattle.gf_flip.specs.Limits.{HasMonomialsAlone, HaveMonomialsAlone}
 
 -- ---- small numbers

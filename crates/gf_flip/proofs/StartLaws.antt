@@ -30,23 +30,23 @@ use Rattle.gf_ideal_theory.proofs.MembershipLaws.{member-generator}
 use Rattle.gf_ideal_theory.proofs.PieceLaws.{Contains-polys}
 use Rattle.gf_buchberger.proofs.RunSteps.{contained_old}
 use Rattle.gf_initial_theory.proofs.ClassLaws.{multiple-grading}
-use Rattle.gf_lines.specs.Along.{HasNonzero, AreAlong}
-use Rattle.gf_lines.specs.Lines.{IsPartOf}
-use Rattle.gf_lines.specs.Splits.{IsAlone, AreSplit}
-use Rattle.gf_lines.specs.Monomials.{monomial_member, with_monomials, AreMonomialsApart}
-use Rattle.gf_lines.proofs.AlongLaws.{along_more}
-use Rattle.gf_lines.proofs.MonomialLaws.{apart_later}
-use Rattle.gf_lines.proofs.SplitLaws.{pushed, at_kept, at_last, split_size, split_alone}
-use Rattle.gf_line_runs.specs.Turns.{AreUndividedBy, IsEntering}
+use Rattle.gf_strands.specs.Along.{HasNonzero, AreAlong}
+use Rattle.gf_strands.specs.Strands.{IsPartOf}
+use Rattle.gf_strands.specs.Splits.{IsAlone, AreSplit}
+use Rattle.gf_strands.specs.Monomials.{monomial_member, with_monomials, AreMonomialsApart}
+use Rattle.gf_strands.proofs.AlongLaws.{along_more}
+use Rattle.gf_strands.proofs.MonomialLaws.{apart_later}
+use Rattle.gf_strands.proofs.SplitLaws.{pushed, at_kept, at_last, split_size, split_alone}
+use Rattle.gf_strand_runs.specs.Turns.{AreUndividedBy, IsEntering}
 use Rattle.gf_lifts.specs.Crossings.{IsCrossing}
-use Rattle.gf_lifts.proofs.CrossingMath.{crossing_width, crossing_nonzero, crossing_weight, one_place}
+use Rattle.gf_lifts.proofs.CrossingMath.{crossing_width, crossing_nonzero, crossing_weight, one_index}
 use Rattle.gf_flip.proofs.PartJobs.{in_ring, suited}
 
--- the places rise
-pub split_rising : (a : List ℤ) (bs : List MarkedPolynomial) (places : List ℕ) (xs : List Exponents) (fs : List Terms) → AreSplit a bs places xs fs →
-    (i j : ℕ) → i < j → j < length places → get_or places i 0 < get_or places j 0
-split_rising a bs places xs fs AreSplit.none i j l m = absurd (omega (arith, m))
-split_rising a bs places xs fs (AreSplit.alone cs ps ys gs b h o) i j l m = at (cases_lt j (length ps)) (λ k. split_rising a cs ps ys gs h i j l k)
+-- the indices rise
+pub split_rising : (a : List ℤ) (bs : List MarkedPolynomial) (indices : List ℕ) (xs : List Exponents) (fs : List Terms) → AreSplit a bs indices xs fs →
+    (i j : ℕ) → i < j → j < length indices → get_or indices i 0 < get_or indices j 0
+split_rising a bs indices xs fs AreSplit.none i j l m = absurd (omega (arith, m))
+split_rising a bs indices xs fs (AreSplit.alone cs ps ys gs b h o) i j l m = at (cases_lt j (length ps)) (λ k. split_rising a cs ps ys gs h i j l k)
   where
     at : (j < length ps) ⊎ (length ps ≤ j) → (j < length ps → get_or ps i 0 < get_or ps j 0) →
         get_or (ps ++ length cs ∷ []) i 0 < get_or (ps ++ length cs ∷ []) j 0
@@ -56,7 +56,7 @@ split_rising a bs places xs fs (AreSplit.alone cs ps ys gs b h o) i j l m = at (
         let e : length ps ≡ j = omega (arith, m, k, pushed ps (length cs)) in
         let w = (split_alone a cs ps ys gs h i (omega (arith, l, e))).at.within in
         omega (arith, w, get_or_append_left ps (length cs ∷ []) 0 i (omega (arith, l, e)), get_or_push ps (length cs) 0 j e)
-split_rising a bs places xs fs (AreSplit.part cs ps ys gs b f h p) i j l m = split_rising a cs ps ys gs h i j l m
+split_rising a bs indices xs fs (AreSplit.part cs ps ys gs b f h p) i j l m = split_rising a cs ps ys gs h i j l m
 
 -- ---- monomials
 
@@ -173,13 +173,13 @@ generated-part a bs xs fs b f p w = record {
 abbrev AreKeptMonic : ℕ → List MarkedPolynomial → Type 0
 AreKeptMonic n bs = (b : MarkedPolynomial) → Contains bs b → (coefficient b.poly b.head ≡ one_ℚ) × IsCanonical n b
 
-generated : (a : List ℤ) (n : ℕ) (bs : List MarkedPolynomial) (places : List ℕ) (xs : List Exponents) (fs : List Terms) → HasNonzero a → AreKeptMonic n bs →
-    AreSplit a bs places xs fs → IsGenerated a bs xs fs
-generated a n bs places xs fs z k AreSplit.none = generated-none a
-generated a n bs places xs fs z k (AreSplit.alone cs ps ys gs b h o) =
+generated : (a : List ℤ) (n : ℕ) (bs : List MarkedPolynomial) (indices : List ℕ) (xs : List Exponents) (fs : List Terms) → HasNonzero a → AreKeptMonic n bs →
+    AreSplit a bs indices xs fs → IsGenerated a bs xs fs
+generated a n bs indices xs fs z k AreSplit.none = generated-none a
+generated a n bs indices xs fs z k (AreSplit.alone cs ps ys gs b h o) =
     let m = k b (Contains-push cs b) in
     generated-alone a cs ys gs b (alone_along a n b z m.0 m.1 o) (generated a n cs ps ys gs z (λ c i. k c (contained_old cs b c i)) h)
-generated a n bs places xs fs z k (AreSplit.part cs ps ys gs b f h p) =
+generated a n bs indices xs fs z k (AreSplit.part cs ps ys gs b f h p) =
     generated-part a cs ys gs b f p (generated a n cs ps ys gs z (λ c i. k c (contained_old cs b c i)) h)
 
 -- ---- the monomials
@@ -207,16 +207,16 @@ member_front (y ∷ xs) x c = at (Contains-cases y x xs c) (λ k. member_front x
     at (inr k) r = Contains-there (monomial_member y) (monomial_member x) (map monomial_member xs) (r k)
 
 -- each is the mark of a member
-split_mark : (a : List ℤ) (bs : List MarkedPolynomial) (places : List ℕ) (xs : List Exponents) (fs : List Terms) → AreSplit a bs places xs fs →
+split_mark : (a : List ℤ) (bs : List MarkedPolynomial) (indices : List ℕ) (xs : List Exponents) (fs : List Terms) → AreSplit a bs indices xs fs →
     (x : Exponents) → Contains xs x → (b : MarkedPolynomial) × Contains bs b × (b.head ≡ x)
-split_mark a bs places xs fs AreSplit.none x c = absurd (omega (arith, c.1))
-split_mark a bs places xs fs (AreSplit.alone cs ps ys gs b h o) x c = at (Contains-push_cases ys b.head x c) (λ k. split_mark a cs ps ys gs h x k)
+split_mark a bs indices xs fs AreSplit.none x c = absurd (omega (arith, c.1))
+split_mark a bs indices xs fs (AreSplit.alone cs ps ys gs b h o) x c = at (Contains-push_cases ys b.head x c) (λ k. split_mark a cs ps ys gs h x k)
   where
     at : Contains ys x ⊎ (b.head ≡ x) → (Contains ys x → (d : MarkedPolynomial) × Contains cs d × (d.head ≡ x)) →
         (d : MarkedPolynomial) × Contains (cs ++ b ∷ []) d × (d.head ≡ x)
     at (inl k) r = let q = r k in (q.0, contained_old cs b q.0 q.1, q.2)
     at (inr e) r = (b, Contains-push cs b, e)
-split_mark a bs places xs fs (AreSplit.part cs ps ys gs b f h p) x c = let q = split_mark a cs ps ys gs h x c in (q.0, contained_old cs b q.0 q.1, q.2)
+split_mark a bs indices xs fs (AreSplit.part cs ps ys gs b f h p) x c = let q = split_mark a cs ps ys gs h x c in (q.0, contained_old cs b q.0 q.1, q.2)
 
 -- without the last one they are apart
 apart_front : (bs : List MarkedPolynomial) (b : MarkedPolynomial) → AreApart (bs ++ b ∷ []) → AreApart bs
@@ -231,15 +231,15 @@ apart_front (c ∷ bs) b h = (front bs h.0, apart_front bs b h.1)
 -- no mark of a list whose members are apart divides that of the last one
 last_undivided : (bs : List MarkedPolynomial) (b c : MarkedPolynomial) → AreApart (bs ++ b ∷ []) → Contains bs c → Divides c.head b.head → ⊥
 last_undivided bs b c h k d =
-    let e = one_place (bs ++ b ∷ []) (length bs) k.0 b c h (at_last bs b) (at_kept bs b c k.0 (record { within = k.1; is = k.2 })) d in
+    let e = one_index (bs ++ b ∷ []) (length bs) k.0 b c h (at_last bs b) (at_kept bs b c k.0 (record { within = k.1; is = k.2 })) d in
     omega (arith, e, k.1)
 
 -- the monomials are such a list as a run has, where each is a generator
-split_work : (gs : List Terms) (below : Exponents → Exponents → Type 0) (a : List ℤ) (bs : List MarkedPolynomial) (places : List ℕ) (xs : List Exponents)
-    (fs : List Terms) → ((x : Exponents) → Contains xs x → Contains gs (monomial x)) → AreApart bs → AreSplit a bs places xs fs →
+split_work : (gs : List Terms) (below : Exponents → Exponents → Type 0) (a : List ℤ) (bs : List MarkedPolynomial) (indices : List ℕ) (xs : List Exponents)
+    (fs : List Terms) → ((x : Exponents) → Contains xs x → Contains gs (monomial x)) → AreApart bs → AreSplit a bs indices xs fs →
     IsWorkList gs below (map monomial_member xs)
-split_work gs below a bs places xs fs w r AreSplit.none = IsWorkList.start
-split_work gs below a bs places xs fs w r (AreSplit.alone cs ps ys hs b h o) = subst (IsWorkList gs below) (sym (map_push monomial_member ys b.head))
+split_work gs below a bs indices xs fs w r AreSplit.none = IsWorkList.start
+split_work gs below a bs indices xs fs w r (AreSplit.alone cs ps ys hs b h o) = subst (IsWorkList gs below) (sym (map_push monomial_member ys b.head))
     (IsWorkList.more (map monomial_member ys) (monomial b.head) (monomial b.head) (monomial_member b.head)
     (split_work gs below a cs ps ys hs (λ x c. w x (Contains-append_left ys (b.head ∷ []) x c)) (apart_front cs b r) h)
     (inl (w b.head (Contains-push ys b.head))) (Reached.here (monomial b.head) (λ e. refl)) (monomial_form b.head) (monomial_marked below b.head) undivided)
@@ -252,26 +252,26 @@ split_work gs below a bs places xs fs w r (AreSplit.alone cs ps ys hs b h o) = s
           rest = d.rest;
           product = subst (λ (z : Exponents). same b.head (plus d.rest z) ≡ true) (sym (q.2 ∙ ap (λ (z : MarkedPolynomial). z.head) m.2)) d.divides;
         })
-split_work gs below a bs places xs fs w r (AreSplit.part cs ps ys hs b f h p) = split_work gs below a cs ps ys hs w (apart_front cs b r) h
+split_work gs below a bs indices xs fs w r (AreSplit.part cs ps ys hs b f h p) = split_work gs below a cs ps ys hs w (apart_front cs b r) h
 
-split_apart : (a : List ℤ) (bs : List MarkedPolynomial) (places : List ℕ) (xs : List Exponents) (fs : List Terms) → AreApart bs → AreSplit a bs places xs fs →
+split_apart : (a : List ℤ) (bs : List MarkedPolynomial) (indices : List ℕ) (xs : List Exponents) (fs : List Terms) → AreApart bs → AreSplit a bs indices xs fs →
     AreMonomialsApart xs
-split_apart a bs places xs fs r h = record { none = λ i j l m d. at i j (omega (arith, l, size)) (omega (arith, m, size)) d }
+split_apart a bs indices xs fs r h = record { none = λ i j l m d. at i j (omega (arith, l, size)) (omega (arith, m, size)) d }
   where
-    size : length xs ≡ length places
-    size = split_size a bs places xs fs h
+    size : length xs ≡ length indices
+    size = split_size a bs indices xs fs h
 
-    at : (i j : ℕ) → i < length places → j < length places → Divides (get_or xs i []) (get_or xs j []) → i ≡ j
+    at : (i j : ℕ) → i < length indices → j < length indices → Divides (get_or xs i []) (get_or xs j []) → i ≡ j
     at i j l m d =
-        let p = split_alone a bs places xs fs h i l in
-        let q = split_alone a bs places xs fs h j m in
+        let p = split_alone a bs indices xs fs h i l in
+        let q = split_alone a bs indices xs fs h j m in
         let v : Divides p.member.head q.member.head = subst (λ (z : Exponents). Divides z q.member.head) (sym p.head)
         (subst (Divides (get_or xs i [])) (sym q.head) d) in
-        let e : get_or places j 0 ≡ get_or places i 0 = one_place bs (get_or places j 0) (get_or places i 0) q.member p.member r q.at p.at v in
+        let e : get_or indices j 0 ≡ get_or indices i 0 = one_index bs (get_or indices j 0) (get_or indices i 0) q.member p.member r q.at p.at v in
         elim (cases_lt i j) [
-          | inl k ↦ (let s : get_or places i 0 < get_or places j 0 = split_rising a bs places xs fs h i j k m in absurd (omega (arith, s, e)))
+          | inl k ↦ (let s : get_or indices i 0 < get_or indices j 0 = split_rising a bs indices xs fs h i j k m in absurd (omega (arith, s, e)))
           | inr k ↦ elim (cases_lt j i) [
-            | inl t ↦ (let s : get_or places j 0 < get_or places i 0 = split_rising a bs places xs fs h j i t l in absurd (omega (arith, s, e)))
+            | inl t ↦ (let s : get_or indices j 0 < get_or indices i 0 = split_rising a bs indices xs fs h j i t l in absurd (omega (arith, s, e)))
             | inr t ↦ omega (arith, k, t)
           ]
         ]
@@ -279,18 +279,18 @@ split_apart a bs places xs fs r h = record { none = λ i j l m d. at i j (omega 
 -- ---- the parts and the monomials
 
 -- each polynomial is the part of a member
-split_origin : (a : List ℤ) (bs : List MarkedPolynomial) (places : List ℕ) (xs : List Exponents) (fs : List Terms) → AreSplit a bs places xs fs → (f : Terms) →
-    Contains fs f → (b : MarkedPolynomial) × Contains bs b × IsPartOf a b f
-split_origin a bs places xs fs AreSplit.none f c = absurd (omega (arith, c.1))
-split_origin a bs places xs fs (AreSplit.alone cs ps ys gs b h o) f c = let q = split_origin a cs ps ys gs h f c in (q.0, contained_old cs b q.0 q.1, q.2)
-split_origin a bs places xs fs (AreSplit.part cs ps ys gs b g h p) f c = at (Contains-push_cases gs g f c) (λ k. split_origin a cs ps ys gs h f k)
+split_origin : (a : List ℤ) (bs : List MarkedPolynomial) (indices : List ℕ) (xs : List Exponents) (fs : List Terms) → AreSplit a bs indices xs fs →
+    (f : Terms) → Contains fs f → (b : MarkedPolynomial) × Contains bs b × IsPartOf a b f
+split_origin a bs indices xs fs AreSplit.none f c = absurd (omega (arith, c.1))
+split_origin a bs indices xs fs (AreSplit.alone cs ps ys gs b h o) f c = let q = split_origin a cs ps ys gs h f c in (q.0, contained_old cs b q.0 q.1, q.2)
+split_origin a bs indices xs fs (AreSplit.part cs ps ys gs b g h p) f c = at (Contains-push_cases gs g f c) (λ k. split_origin a cs ps ys gs h f k)
   where
     at : Contains gs f ⊎ (g ≡ f) → (Contains gs f → (d : MarkedPolynomial) × Contains cs d × IsPartOf a d f) →
         (d : MarkedPolynomial) × Contains (cs ++ b ∷ []) d × IsPartOf a d f
     at (inl k) r = let q = r k in (q.0, contained_old cs b q.0 q.1, q.2)
     at (inr e) r = (b, Contains-push cs b, subst (IsPartOf a b) e p)
 
--- f is the part of a member, and x the mark of one at another place
+-- f is the part of a member, and x the mark of one at another index
 record AreOfTwo (a : List ℤ) (bs : List MarkedPolynomial) (f : Terms) (x : Exponents) : Type 0 where
   i : ℕ
   j : ℕ
@@ -316,10 +316,10 @@ of_two_kept a bs b f x h = record {
 }
 
 -- so it is of each polynomial and each monomial
-split_of_two : (a : List ℤ) (bs : List MarkedPolynomial) (places : List ℕ) (xs : List Exponents) (fs : List Terms) → AreSplit a bs places xs fs → (f : Terms) →
-    Contains fs f → (x : Exponents) → Contains xs x → AreOfTwo a bs f x
-split_of_two a bs places xs fs AreSplit.none f c x k = absurd (omega (arith, c.1))
-split_of_two a bs places xs fs (AreSplit.alone cs ps ys gs b h o) f c x k = at (Contains-push_cases ys b.head x k) (λ m. split_of_two a cs ps ys gs h f c x m)
+split_of_two : (a : List ℤ) (bs : List MarkedPolynomial) (indices : List ℕ) (xs : List Exponents) (fs : List Terms) → AreSplit a bs indices xs fs →
+    (f : Terms) → Contains fs f → (x : Exponents) → Contains xs x → AreOfTwo a bs f x
+split_of_two a bs indices xs fs AreSplit.none f c x k = absurd (omega (arith, c.1))
+split_of_two a bs indices xs fs (AreSplit.alone cs ps ys gs b h o) f c x k = at (Contains-push_cases ys b.head x k) (λ m. split_of_two a cs ps ys gs h f c x m)
   where
     at : Contains ys x ⊎ (b.head ≡ x) → (Contains ys x → AreOfTwo a cs f x) → AreOfTwo a (cs ++ b ∷ []) f x
     at (inl m) r = of_two_kept a cs b f x (r m)
@@ -336,7 +336,7 @@ split_of_two a bs places xs fs (AreSplit.alone cs ps ys gs b h o) f c x k = at (
           part = q.2;
           head = e;
         }
-split_of_two a bs places xs fs (AreSplit.part cs ps ys gs b g h p) f c x k = at (Contains-push_cases gs g f c) (λ m. split_of_two a cs ps ys gs h f m x k)
+split_of_two a bs indices xs fs (AreSplit.part cs ps ys gs b g h p) f c x k = at (Contains-push_cases gs g f c) (λ m. split_of_two a cs ps ys gs h f m x k)
   where
     at : Contains gs f ⊎ (g ≡ f) → (Contains gs f → AreOfTwo a cs f x) → AreOfTwo a (cs ++ b ∷ []) f x
     at (inl m) r = of_two_kept a cs b f x (r m)
@@ -354,10 +354,10 @@ split_of_two a bs places xs fs (AreSplit.part cs ps ys gs b g h p) f c x k = at 
           head = q.2;
         }
 
--- of members that are reduced the mark of none divides a monomial of the part of one at another place
+-- of members that are reduced the mark of none divides a monomial of the part of one at another index
 part_undivided : (a : List ℤ) (bs : List MarkedPolynomial) (f : Terms) (y x : Exponents) → HasReducedTails bs → AreApart bs → AreOfTwo a bs f x →
     HasMonomial f y → Divides x y → ⊥
-part_undivided a bs f y x t r w m d = w.apart (one_place bs w.i w.j w.b w.c r w.at_i w.at_j marked)
+part_undivided a bs f y x t r w m d = w.apart (one_index bs w.i w.j w.b w.c r w.at_i w.at_j marked)
   where
     e : Divides w.c.head y
     e = subst (λ (z : Exponents). Divides z y) (sym w.head) d
@@ -376,16 +376,16 @@ part_undivided a bs f y x t r w m d = w.apart (one_place bs w.i w.j w.b w.c r w.
     marked : Divides w.c.head w.b.head
     marked = record { rest = e.rest; product = same_trans w.b.head y (plus e.rest w.c.head) (same_flip y w.b.head same_mark) e.product }
 
-pub split_clear : (a : List ℤ) (bs : List MarkedPolynomial) (places : List ℕ) (xs : List Exponents) (fs : List Terms) → HasReducedTails bs → AreApart bs →
-    AreSplit a bs places xs fs → AreUndividedBy (with_monomials xs []) fs
-split_clear a bs places xs fs t r h = record {
+pub split_clear : (a : List ℤ) (bs : List MarkedPolynomial) (indices : List ℕ) (xs : List Exponents) (fs : List Terms) → HasReducedTails bs → AreApart bs →
+    AreSplit a bs indices xs fs → AreUndividedBy (with_monomials xs []) fs
+split_clear a bs indices xs fs t r h = record {
   at = λ f c y m d. undivided f c y m d (front_member xs d.member (subst (λ (z : List MarkedPolynomial). Contains z d.member)
       (append-nil (map monomial_member xs)) d.contained));
 }
   where
     undivided : (f : Terms) → Contains fs f → (y : Exponents) → HasMonomial f y → (d : IsDivisible (Contains (with_monomials xs [])) y) →
         (x : Exponents) × Contains xs x × (monomial_member x ≡ d.member) → ⊥
-    undivided f c y m d q = part_undivided a bs f y q.0 t r (split_of_two a bs places xs fs h f c q.0 q.1) m
+    undivided f c y m d q = part_undivided a bs f y q.0 t r (split_of_two a bs indices xs fs h f c q.0 q.1) m
         (record { rest = d.rest; product = subst (λ (z : MarkedPolynomial). same y (plus d.rest z.head) ≡ true) (sym q.2) d.divides })
 
 -- ---- what a run on the parts begins with
@@ -397,28 +397,28 @@ pub record IsStart (n : ℕ) (bs : List MarkedPolynomial) (a : List ℤ) (xs : L
   pub apart : AreMonomialsApart xs
   pub clear : AreUndividedBy (with_monomials xs []) fs
 
-pub split_start : (n : ℕ) (bs : List MarkedPolynomial) (a : List ℤ) (places : List ℕ) (xs : List Exponents) (fs : List Terms) → IsCrossing n bs a →
-    HasEntries (length a) (MonomialOrder.facet (negated_row_of a)) → AreSplit a bs places xs fs → IsStart n bs a xs fs
-split_start n bs a places xs fs c w h = record {
+pub split_start : (n : ℕ) (bs : List MarkedPolynomial) (a : List ℤ) (indices : List ℕ) (xs : List Exponents) (fs : List Terms) → IsCrossing n bs a →
+    HasEntries (length a) (MonomialOrder.facet (negated_row_of a)) → AreSplit a bs indices xs fs → IsStart n bs a xs fs
+split_start n bs a indices xs fs c w h = record {
   generators = g.generators;
   along = g.along;
   entering = record {
     underway = record {
-      job = record {
+      task = record {
         ring = in_ring n bs a g.generators c g.along;
         entries = subst (λ (z : ℕ). HasEntries z order) (crossing_width n bs a c) w;
         suited = suited n bs a g.generators c g.along;
       };
       work = subst (IsWorkList g.generators (below_of order)) (sym (append-nil (map monomial_member xs)))
-          (split_work g.generators (below_of order) a bs places xs fs g.fronts c.basis.reduced.heads h);
+          (split_work g.generators (below_of order) a bs indices xs fs g.fronts c.basis.reduced.heads h);
       variables = record { heads = λ b k. head b (member b k); polys = λ b k. poly b (member b k) };
-      later = apart_later xs (split_apart a bs places xs fs c.basis.reduced.heads h);
+      later = apart_later xs (split_apart a bs indices xs fs c.basis.reduced.heads h);
     };
     inside = λ f k. inside f (g.each f k);
     within = g.within;
   };
-  apart = split_apart a bs places xs fs c.basis.reduced.heads h;
-  clear = split_clear a bs places xs fs c.basis.reduced.tails c.basis.reduced.heads h;
+  apart = split_apart a bs indices xs fs c.basis.reduced.heads h;
+  clear = split_clear a bs indices xs fs c.basis.reduced.tails c.basis.reduced.heads h;
 }
   where
     order : MonomialOrder
@@ -428,10 +428,10 @@ split_start n bs a places xs fs c w h = record {
     sound b k = (((crossing_weight n bs a c).2 b k).monic, c.basis.arranged.canonical b k)
 
     g : IsGenerated a bs xs fs
-    g = generated a n bs places xs fs (crossing_nonzero n bs a c) sound h
+    g = generated a n bs indices xs fs (crossing_nonzero n bs a c) sound h
 
     width : (x : Exponents) → Contains xs x → length x ≡ n
-    width x k = let q = split_mark a bs places xs fs h x k in ap length (sym q.2) ∙ (c.basis.arranged.canonical q.0 q.1).head
+    width x k = let q = split_mark a bs indices xs fs h x k in ap length (sym q.2) ∙ (c.basis.arranged.canonical q.0 q.1).head
 
     member : (b : MarkedPolynomial) → Contains (with_monomials xs []) b → (x : Exponents) × Contains xs x × (monomial_member x ≡ b)
     member b k = front_member xs b (subst (λ (z : List MarkedPolynomial). Contains z b) (append-nil (map monomial_member xs)) k)

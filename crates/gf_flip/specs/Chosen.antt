@@ -5,8 +5,8 @@ use Rattle.gf_poly.specs.Polynomial.{HasVariables}
 use Rattle.gf_poly.specs.Marking.{MarkedPolynomial, HaveVariables}
 use Rattle.gf_ideal_theory.specs.Settled.{IsAt}
 use Rattle.gf_initial_theory.specs.Lifts.{IsTopLift, AreTopLifts}
-use Rattle.gf_lines.specs.Along.{IsBasisOfParts}
-use Rattle.gf_lines.specs.Splits.{IsAlone}
+use Rattle.gf_strands.specs.Along.{IsBasisOfParts}
+use Rattle.gf_strands.specs.Splits.{IsAlone}
 use Rattle.gf_lifts.specs.LiftTails.{IsCopy, AreCopies}
 
 -- no monomial of a member whose flag is set is a multiple of a apart from the mark, but that

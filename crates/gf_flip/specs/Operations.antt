@@ -17,7 +17,7 @@ use Rattle.gf_buchberger.specs.declared.bases.BasisError.TheVariants as errors
 use Rattle.gf_buchberger.specs.Pairs.{pairs_below}
 use Rattle.gf_buchberger.specs.Bases.{IsBudgetSpent}
 use Rattle.gf_initial_theory.specs.Lifts.{AreLifts}
-use Rattle.gf_lines.specs.Along.{AreAlong, IsBasisOfParts}
+use Rattle.gf_strands.specs.Along.{AreAlong, IsBasisOfParts}
 use Rattle.gf_lifts.specs.LiftRefusals.{IsLiftsOperation, IsLiftsExponents}
 
 -- the operation is one of a run on the parts, of lifting a member of their basis, of making a lift monic, or of a step at

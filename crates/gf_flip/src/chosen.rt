@@ -2,20 +2,20 @@
 //! copied; another member is lifted by steps that end once nothing is left along the normal.
 
 ghost use Rattle.gf_division.specs.NormalForms.{HasSomeWeight};
-ghost use Rattle.gf_lines.specs.Along.{AreSmall, HasNonzero};
+ghost use Rattle.gf_strands.specs.Along.{AreSmall, HasNonzero};
 ghost use Rattle.gf_flip.specs.Chosen.{IsLiftedWhere};
 ghost use Rattle.gf_lifts.specs.LiftTails.{AreCopies};
-ghost use Rattle.gf_lines.specs.Lines.{AreLinesOf, IsGround, IsLineAlong, IsLineOf, line_member, line_members};
-ghost use Rattle.gf_lines.specs.Monomials.{IsAddedWhere, chosen, with_monomials};
-ghost use Rattle.gf_lines.specs.Splits.{IsAloneAt};
+ghost use Rattle.gf_strands.specs.Strands.{AreStrandsOf, IsGround, IsStrandAlong, IsStrandOf, strand_member, strand_members};
+ghost use Rattle.gf_strands.specs.Monomials.{IsAddedWhere, chosen, with_monomials};
+ghost use Rattle.gf_strands.specs.Splits.{IsAloneAt};
 ghost use Rattle.gf_initial_theory.specs.Lifts.{AreTopLifts, IsTopLift};
 ghost use Rattle.gf_poly.specs.Marking.{HaveVariables};
 ghost use Rattle.gf_poly.specs.Polynomial.{HasVariables, SamePolynomial};
 ghost use Rattle.std.specs.Prelude.{IfSome, [], get_or, length, pos, true, ℕ, ◌<◌, ◌≡◌, ◌≢◌};
 
-use gf_lifts::{Lifts, divided_at, place_at, push, top_lift};
-use gf_lines::{Ground, Line, SpareLists, one, pivot_of, spot, with_room};
+use gf_lifts::{Lifts, divided_at, index_at, push, top_lift};
 use gf_poly::{Marked, Poly, Term};
+use gf_strands::{Ground, SpareLists, Strand, one, pivot_of, spot, with_room};
 use std::alloc::Global;
 
 /// A copy of a member, in a spare list, if there is one.
@@ -57,28 +57,28 @@ fn add_copy(
     Some(())
 }
 
-/// The polynomial on a line, marked where it begins, if numbers fit.
-fn member_of(alloc: Global, line: &Line, normal: &[i128]) -> Option<Marked>
+/// The polynomial on a strand, marked where it begins, if numbers fit.
+fn member_of(alloc: Global, strand: &Strand, normal: &[i128]) -> Option<Marked>
     requires bounded { AreSmall normal.now }
     requires nonzero { HasNonzero normal.now }
-    requires line { IsLineAlong normal.now line.now }
-    ensures twin { IfSome result (λ b. SamePolynomial b.poly (line_member normal.now line.now).poly) }
-    ensures head { IfSome result (λ b. b.head ≡ line.now.mark) }
+    requires strand { IsStrandAlong normal.now strand.now }
+    ensures twin { IfSome result (λ b. SamePolynomial b.poly (strand_member normal.now strand.now).poly) }
+    ensures head { IfSome result (λ b. b.head ≡ strand.now.mark) }
     ensures variables { IfSome result (λ b. HasVariables (length normal.now) b.poly) }
 {
-    let mut terms = with_room(alloc, line.rest.len().saturating_add(1))?;
+    let mut terms = with_room(alloc, strand.rest.len().saturating_add(1))?;
     match terms.push(Term {
         coef: one(),
-        mono: line.mark.copy(),
+        mono: strand.mark.copy(),
     }) {
         Ok(()) => {}
         Err(_) => return None,
     }
-    'points: for i in 0..line.rest.len() {
-        let p = &line.rest[i];
+    'points: for i in 0..strand.rest.len() {
+        let p = &strand.rest[i];
         match terms.push(Term {
             coef: p.coef,
-            mono: spot(alloc, &line.mark, normal, p.k)?,
+            mono: spot(alloc, &strand.mark, normal, p.k)?,
         }) {
             Ok(()) => {}
             Err(_) => return None,
@@ -88,74 +88,74 @@ fn member_of(alloc: Global, line: &Line, normal: &[i128]) -> Option<Marked>
         Ok(poly) => poly,
         Err(_) => return None,
     };
-    let place = place_at(poly.terms(), &line.mark)?;
-    Some(Marked::mark(poly, place))
+    let index = index_at(poly.terms(), &strand.mark)?;
+    Some(Marked::mark(poly, index))
 }
 
-/// The lift of a line: where it is the part of a member divided by a number, the member divided by that number, else what steps lead to.
-fn lift(alloc: Global, line: &Line, ground: &Ground, pivot: usize) -> Option<Marked>
+/// The lift of a strand: where it is the part of a member divided by a number, the member divided by that number, else what steps lead to.
+fn lift(alloc: Global, strand: &Strand, ground: &Ground, pivot: usize) -> Option<Marked>
     requires marked { HasSomeWeight ground.now.by.now }
     requires ground { IsGround ground.now.normal.now ground.now.marks.now }
-    requires line { IsLineOf ground.now.normal.now ground.now.by.now line.now }
+    requires strand { IsStrandOf ground.now.normal.now ground.now.by.now strand.now }
     requires set { HaveVariables (length ground.now.normal.now) ground.now.by.now }
     requires inside { pivot < length ground.now.normal.now }
     requires nonzero { get_or ground.now.normal.now pivot (pos 0) ≢ pos 0 }
-    ensures value { IfSome result (IsTopLift ground.now.by.now ground.now.normal.now (line_member ground.now.normal.now line.now)) }
+    ensures value { IfSome result (IsTopLift ground.now.by.now ground.now.normal.now (strand_member ground.now.normal.now strand.now)) }
     ensures variables { IfSome result (λ l. HasVariables (length ground.now.normal.now) l.poly) }
 {
-    if let Some(place) = line.origin {
-        return divided_at(&ground.by[place], &line.mark);
+    if let Some(index) = strand.origin {
+        return divided_at(&ground.by[index], &strand.mark);
     }
-    let member = member_of(alloc, line, ground.normal)?;
+    let member = member_of(alloc, strand, ground.normal)?;
     top_lift(alloc, &member, ground.by, ground.normal, pivot)
 }
 
-/// Adds the lift of a line, if it is chosen.
+/// Adds the lift of a strand, if it is chosen.
 fn add_lift(
     alloc: Global,
     lifts: &mut Lifts,
-    line: &Line,
+    strand: &Strand,
     is_chosen: bool,
     ground: &Ground,
     pivot: usize,
 ) -> Option<()>
     requires marked { HasSomeWeight ground.now.by.now }
     requires ground { IsGround ground.now.normal.now ground.now.marks.now }
-    requires line { IsLineOf ground.now.normal.now ground.now.by.now line.now }
+    requires strand { IsStrandOf ground.now.normal.now ground.now.by.now strand.now }
     requires set { HaveVariables (length ground.now.normal.now) ground.now.by.now }
     requires inside { pivot < length ground.now.normal.now }
     requires nonzero { get_or ground.now.normal.now pivot (pos 0) ≢ pos 0 }
     ensures { IfSome result (λ _. IsLiftedWhere is_chosen (length ground.now.normal.now) ground.now.by.now ground.now.normal.now
-        (line_member ground.now.normal.now line.now) lifts.old.members.items lifts.new.members.items lifts.old.copied.items lifts.new.copied.items) }
+        (strand_member ground.now.normal.now strand.now) lifts.old.members.items lifts.new.members.items lifts.old.copied.items lifts.new.copied.items) }
 {
     if !is_chosen {
         return Some(());
     }
-    let lift = lift(alloc, line, ground, pivot)?;
+    let lift = lift(alloc, strand, ground, pivot)?;
     push(lifts, lift, false)?;
     Some(())
 }
 
-/// The lifts of the monomials, which are the parts of the members at these places of the set, and of the lines behind them, as far as their flags
+/// The lifts of the monomials, which are the parts of the members at these indices of the set, and of the strands behind them, as far as their flags
 /// are set, if all numbers fit.
 pub fn chosen_lifts(
     alloc: Global,
     ground: &Ground,
-    places: &[usize],
-    lines: &[Line],
+    indices: &[usize],
+    strands: &[Strand],
     flags: &[bool],
     spare: &mut SpareLists,
 ) -> Option<Lifts>
     requires marked { HasSomeWeight ground.now.by.now }
     requires ground { IsGround ground.now.normal.now ground.now.marks.now }
     requires set { HaveVariables (length ground.now.normal.now) ground.now.by.now }
-    requires lines { AreLinesOf ground.now.normal.now ground.now.by.now lines.now }
-    requires size { length ground.now.marks.now ≡ length places.now }
-    requires alone { (i : ℕ) → i < length places.now → IsAloneAt ground.now.normal.now ground.now.by.now (get_or places.now i 0)
+    requires strands { AreStrandsOf ground.now.normal.now ground.now.by.now strands.now }
+    requires size { length ground.now.marks.now ≡ length indices.now }
+    requires alone { (i : ℕ) → i < length indices.now → IsAloneAt ground.now.normal.now ground.now.by.now (get_or indices.now i 0)
         (get_or ground.now.marks.now i []) }
-    requires flags { length flags.now ≡ length (with_monomials ground.now.marks.now (line_members ground.now.normal.now lines.now)) }
+    requires flags { length flags.now ≡ length (with_monomials ground.now.marks.now (strand_members ground.now.normal.now strands.now)) }
     ensures value { IfSome result (λ ls. AreTopLifts ground.now.by.now ground.now.normal.now
-        (chosen flags.now (with_monomials ground.now.marks.now (line_members ground.now.normal.now lines.now))) ls.members.items) }
+        (chosen flags.now (with_monomials ground.now.marks.now (strand_members ground.now.normal.now strands.now))) ls.members.items) }
     ensures variables { IfSome result (λ ls. HaveVariables (length ground.now.normal.now) ls.members.items) }
     ensures copied { IfSome result (λ ls. AreCopies ground.now.by.now ls.members.items ls.copied.items) }
 {
@@ -166,13 +166,13 @@ pub fn chosen_lifts(
     };
     let first = ground.marks.len();
     'marks: for i in 0..first {
-        add_copy(alloc, &mut lifts, &ground.by[places[i]], flags[i], spare)?;
+        add_copy(alloc, &mut lifts, &ground.by[indices[i]], flags[i], spare)?;
     }
-    'lines: for j in 0..lines.len() {
+    'strands: for j in 0..strands.len() {
         add_lift(
             alloc,
             &mut lifts,
-            &lines[j],
+            &strands[j],
             flags[first + j],
             ground,
             pivot,

@@ -4,11 +4,11 @@ ghost use Rattle.std.specs.Prelude.{◌≡◌, ℕ, length, IfOk, IfErr, IfSome}
 ghost use Rattle.gf_poly.specs.Marking.{HaveVariables};
 ghost use Rattle.gf_buchberger.specs.Bases.{IsWantOfMemory, of_poly_error};
 ghost use Rattle.gf_lifts.specs.Crossings.{IsCrossing, IsNeighbour};
-ghost use Rattle.gf_lines.specs.Along.{AreAlong, IsBasisOfParts, AreSmall};
+ghost use Rattle.gf_strands.specs.Along.{AreAlong, IsBasisOfParts, AreSmall};
 ghost use Rattle.gf_flip.specs.Operations.{IsFlipRefusal, IsFlipWithinLimits};
 ghost use Rattle.gf_flip.specs.Chosen.{AreLiftsOfParts};
-ghost use Rattle.gf_lines.specs.Lines.{ArePartsOnLines, terms_of_parts};
-ghost use Rattle.gf_lines.specs.Splits.{AreSplit};
+ghost use Rattle.gf_strands.specs.Strands.{ArePartsOnStrands, terms_of_parts};
+ghost use Rattle.gf_strands.specs.Splits.{AreSplit};
 
 use crate::chosen::chosen_lifts;
 use crate::limits::see_members;
@@ -16,39 +16,39 @@ use crate::queued::{Task, basis_by_queue, top_lifts};
 use gf_buchberger::{BasisError, refused};
 use gf_division::autoreduce;
 use gf_lifts::{Facet, Lifts, literal_lifts, reduced_tails, wide_crossed};
-use gf_line_runs::{lines_in_turn, settled};
-use gf_lines::{Ground, Part, SpareLists, Split, are_single, parts, split_parts};
 use gf_order::Order;
 use gf_poly::{Marked, MarkedSet, Poly, PolyError};
+use gf_strand_runs::{settled, strands_in_turn};
+use gf_strands::{Ground, Part, SpareLists, Split, are_single, parts, split_parts};
 use gf_vec::IntVec;
 use std::alloc::Global;
 
 /// Why there is no flip: as there may be no basis.
 pub type FlipError = BasisError;
 
-/// Lifts of the reduced basis of the parts, which end early, by a run on lines that takes the pairs in turn; none where a number doesn't fit, the run
-/// passes a limit, of which `pairs` is that of the lines worked off, or memory runs out.
+/// Lifts of the reduced basis of the parts, which end early, by a run on strands that takes the pairs in turn; none where a number doesn't fit, the run
+/// passes a limit, of which `pairs` is that of the strands worked off, or memory runs out.
 fn lifts_of_split(
     alloc: Global,
     ground: &Ground,
-    places: &[usize],
+    indices: &[usize],
     list: Vec<Part>,
     pairs: u64,
     spare: &mut SpareLists,
 ) -> Option<Lifts>
     requires crossing { IsCrossing (length ground.now.normal.now) ground.now.by.now ground.now.normal.now }
     requires bounded { AreSmall ground.now.normal.now }
-    requires split { AreSplit ground.now.normal.now ground.now.by.now places.now ground.now.marks.now (terms_of_parts ground.now.normal.now list.items) }
-    requires parts { ArePartsOnLines ground.now.normal.now ground.now.by.now list.items }
+    requires split { AreSplit ground.now.normal.now ground.now.by.now indices.now ground.now.marks.now (terms_of_parts ground.now.normal.now list.items) }
+    requires parts { ArePartsOnStrands ground.now.normal.now ground.now.by.now list.items }
     ensures { IfSome result (λ ls. AreLiftsOfParts (length ground.now.normal.now) ground.now.by.now ground.now.normal.now ls.members.items ls.copied.items) }
 {
-    let mut lines = lines_in_turn(alloc, ground, list, pairs)?;
-    let flags = settled(alloc, ground, &mut lines)?;
-    chosen_lifts(alloc, ground, places, &lines, &flags, spare)
+    let mut strands = strands_in_turn(alloc, ground, list, pairs)?;
+    let flags = settled(alloc, ground, &mut strands)?;
+    chosen_lifts(alloc, ground, indices, &strands, &flags, spare)
 }
 
-/// Lifts of the reduced basis of the parts of the members along the normal, which end early, by a run on lines that takes the pairs in turn. The set
-/// is split into these parts first. None where a number doesn't fit, the run passes a limit, of which `pairs` is that of the lines worked
+/// Lifts of the reduced basis of the parts of the members along the normal, which end early, by a run on strands that takes the pairs in turn. The set
+/// is split into these parts first. None where a number doesn't fit, the run passes a limit, of which `pairs` is that of the strands worked
 /// off, or memory runs out.
 fn lifts_in_turn(
     alloc: Global,
@@ -64,7 +64,7 @@ fn lifts_in_turn(
     let by = set.items();
     let normal = normal.as_slice();
     let Split {
-        places,
+        indices,
         marks,
         list,
     } = split_parts(alloc, by, normal, spare)?;
@@ -73,8 +73,8 @@ fn lifts_in_turn(
         normal,
         marks: &marks,
     };
-    let lifts = lifts_of_split(alloc, &ground, &places, list, pairs, spare);
-    spare.leave(places, marks);
+    let lifts = lifts_of_split(alloc, &ground, &indices, list, pairs, spare);
+    spare.leave(indices, marks);
     lifts
 }
 
@@ -134,7 +134,7 @@ fn lifts_by_queue(
     Ok(top_lifts(alloc, below.into_items(), items, &alone, normal.as_slice()))
 }
 
-/// Lifts of the reduced basis of the parts of the members along the normal, which end early: by a run on lines or, where that has none, by a queue of
+/// Lifts of the reduced basis of the parts of the members along the normal, which end early: by a run on strands or, where that has none, by a queue of
 /// pairs.
 fn early_lifts(
     alloc: Global,

@@ -11,4 +11,4 @@ mod queued;
 
 pub use error::TreeError;
 pub use flips::{FlipError, flip, flip_near};
-pub use gf_lines::SpareLists;
+pub use gf_strands::SpareLists;

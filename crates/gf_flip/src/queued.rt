@@ -8,19 +8,19 @@ ghost use Rattle.gf_poly.specs.Polynomial.{coefficient, HasVariables};
 ghost use Rattle.gf_ideal_theory.specs.Reduction.{HasOneMonomial};
 ghost use Rattle.gf_division.specs.NormalForms.{HasSomeWeight};
 ghost use Rattle.gf_buchberger.specs.Bases.{IsArrangedBasis, IsBasisRefusal};
-ghost use Rattle.gf_buchberger.specs.Jobs.{IsBasisJob};
+ghost use Rattle.gf_buchberger.specs.Tasks.{IsBasisTask};
 ghost use Rattle.gf_initial_theory.specs.Lifts.{IsTopLift, AreTopLifts};
-ghost use Rattle.gf_lines.specs.Along.{HasNonzero, AreSmall};
-ghost use Rattle.gf_lines.specs.Members.{AreMonic};
+ghost use Rattle.gf_strands.specs.Along.{HasNonzero, AreSmall};
+ghost use Rattle.gf_strands.specs.Members.{AreMonic};
 ghost use Rattle.gf_lifts.specs.Tops.{IsMarkedAt};
 ghost use Rattle.gf_lifts.specs.LiftTails.{IsCopy, AreCopies};
 ghost use Rattle.gf_flip.specs.Chosen.{AreAloneWhere};
 
 use gf_buchberger::{BasisError, basis, is_single, wide_basis};
-use gf_lifts::{Lifts, place_of_mark, push, top_lift};
-use gf_lines::{pivot_of, with_room};
+use gf_lifts::{Lifts, index_of_mark, push, top_lift};
 use gf_order::Order;
 use gf_poly::{Marked, MarkedSet, Poly};
+use gf_strands::{pivot_of, with_room};
 use std::alloc::Global;
 
 /// What a run goes by: the number of variables, and the order.
@@ -41,7 +41,7 @@ pub fn basis_by_queue(
     list: &[Poly],
     pairs: u64,
 ) -> Result<MarkedSet, BasisError>
-    requires { IsBasisJob task.now.order.now task.now.n list.now }
+    requires { IsBasisTask task.now.order.now task.now.n list.now }
     ensures value { IfOk result (IsArrangedBasis task.now.order.now task.now.n list.now) }
     ensures cause { IfErr result (IsBasisRefusal task.now.order.now task.now.n list.now pairs) }
 {
@@ -58,17 +58,17 @@ pub fn basis_by_queue(
     }
 }
 
-/// The place of the member of the set with the mark of a monomial, if the flag of that member is set. It is looked for from a place on.
+/// The index of the member of the set with the mark of a monomial, if the flag of that member is set. It is looked for from an index on.
 fn untouched(member: &Marked, by: &[Marked], from: usize, alone: &[bool]) -> Option<usize>
     requires { length alone.now ≡ length by.now }
     ensures single { IfSome result (λ _. HasOneMonomial member.now) }
-    ensures place { IfSome result (IsMarkedAt by.now member.now.head) }
+    ensures index { IfSome result (IsMarkedAt by.now member.now.head) }
     ensures alone { IfSome result (λ j. get_or alone.now j false ≡ true) }
 {
     if !is_single(member) {
         return None;
     }
-    let j = place_of_mark(member.head(), by, from)?;
+    let j = index_of_mark(member.head(), by, from)?;
     if !alone[j] {
         return None;
     }
@@ -76,7 +76,7 @@ fn untouched(member: &Marked, by: &[Marked], from: usize, alone: &[bool]) -> Opt
 }
 
 /// The lift, whether it is copied from the set, and where to look on for the next one. A member of the
-/// set with the same mark is looked for from a place on; it is copied into the memory of the member that is lifted.
+/// set with the same mark is looked for from an index on; it is copied into the memory of the member that is lifted.
 fn lifted(
     alloc: Global,
     member: Marked,

@@ -123,7 +123,7 @@ pub *ℚ_assoc : (x y z : Fraction) → (x *ℚ y) *ℚ z ≡ x *ℚ (y *ℚ z)
 pub *ℚ-+ℚ : (x y z : Fraction) → x *ℚ (y +ℚ z) ≡ x *ℚ y +ℚ x *ℚ z
 *ℚ-+ℚ = each_q _ (λ a a' k. each_q _ (λ b b' l. each_q _ (λ c c' m. simp overs (over-eq _ _ _ _ (simp dens (simp naturals (diff-eq _ _ _ _ (omega arith))))))))
 
--- the summands in the middle change places
+-- the summands in the middle change indices
 pub +ℚ-middle : (a b c d : Fraction) → (a +ℚ b) +ℚ (c +ℚ d) ≡ (a +ℚ c) +ℚ (b +ℚ d)
 +ℚ-middle = each_q _
     (λ a a' k. each_q _

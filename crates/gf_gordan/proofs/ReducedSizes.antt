@@ -48,14 +48,14 @@ reduced_up b r j t u v =
 -- ---- its content
 
 pub record Somewhere (xs : List ℤ) : Type 0 where
-  pub place : ℕ
-  pub not_zero : entry_at xs place ≢ pos 0
+  pub index : ℕ
+  pub not_zero : entry_at xs index ≢ pos 0
 
 zero_or_somewhere : (xs : List ℤ) → AllZero xs ⊎ Somewhere xs
 zero_or_somewhere [] = inl tt
-zero_or_somewhere (pos zero ∷ xs) = elim (zero_or_somewhere xs) [ inl z ↦ inl (refl, z) | inr s ↦ inr (record { place = suc s.place; not_zero = s.not_zero }) ]
-zero_or_somewhere (pos (suc n) ∷ xs) = inr (record { place = 0; not_zero = λ e. omega (arith, ints, e) })
-zero_or_somewhere (negsuc n ∷ xs) = inr (record { place = 0; not_zero = λ e. omega (arith, ints, e) })
+zero_or_somewhere (pos zero ∷ xs) = elim (zero_or_somewhere xs) [ inl z ↦ inl (refl, z) | inr s ↦ inr (record { index = suc s.index; not_zero = s.not_zero }) ]
+zero_or_somewhere (pos (suc n) ∷ xs) = inr (record { index = 0; not_zero = λ e. omega (arith, ints, e) })
+zero_or_somewhere (negsuc n ∷ xs) = inr (record { index = 0; not_zero = λ e. omega (arith, ints, e) })
 
 zero_divides : (xs : List ℤ) → AllZero xs → DividesAll 0 xs
 zero_divides [] z = tt
@@ -77,7 +77,7 @@ divides_at d (x ∷ xs) (suc i) h = divides_at d xs i h.1
 pub content_up : (b : ℕ) (xs : List ℤ) (c : ℕ) → 1 ≤ b → IsContent xs c → UpTo b xs → c ≤ b
 content_up b xs c p h u = elim (zero_or_somewhere xs) [
   | inl z ↦ (let k = content_of_zeros xs c z h in omega arith)
-  | inr s ↦ (let k = le_of_dvd (abs_positive (entry_at xs s.place) s.not_zero) (divides_at c xs s.place h.divides) in let l = u.at s.place in omega arith)
+  | inr s ↦ (let k = le_of_dvd (abs_positive (entry_at xs s.index) s.not_zero) (divides_at c xs s.index h.divides) in let l = u.at s.index in omega arith)
 ]
 
 -- a primitive vector of at most one entry

@@ -86,7 +86,7 @@ used-taken scale [] ms = omega arith
 used-taken scale (c ∷ cs) [] = omega arith
 used-taken scale (c ∷ cs) (m ∷ ms) = let e = used-taken scale cs ms in let f = counted_left m (int_div scale c) in omega (arith, e, f)
 
--- those before a place, and the one there
+-- those before an index, and the one there
 pub used-take : (i : ℕ) (xs : List ℤ) → used (take i xs) + counted (entry_at xs i) ≤ used xs
 used-take zero [] = omega arith
 used-take zero (x ∷ xs) = omega arith

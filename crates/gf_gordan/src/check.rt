@@ -1,8 +1,8 @@
 //! Candidates judged by exact arithmetic: whether a vector is a solution, and whether multipliers refute.
-ghost use Rattle.std.specs.Prelude.{◌≡◌, ◌↔◌, pos, All, IfOk, IfErr, OnOk, IsTrue, length, ◌<ℤ◌, ◌≤ℤ◌, ◌++◌};
+ghost use Rattle.std.specs.Prelude.{◌≡◌, ◌↔◌, pos, All, Any, IfOk, IfErr, OnOk, IsTrue, length, ◌<ℤ◌, ◌≤ℤ◌, ◌++◌, ◌⊎◌};
 ghost use Rattle.gf_int_theory.specs.Content.{IsContent, scaled};
 ghost use Rattle.gf_vec.specs.Vector.{dot, vector_sum, zeros, combined};
-ghost use Rattle.gf_vec.specs.Steps.{IsWide, IfWide};
+ghost use Rattle.gf_vec.specs.Steps.{IsWide, IfWide, IsFirstWide, dot_steps};
 ghost use Rattle.gf_gordan.specs.Alternative.{AreRows, IsSolution, IsFarkas};
 
 use gf_vec::{IntVec, VecError, WideVector, dot_slices, product, total};
@@ -11,11 +11,11 @@ use std::alloc::Global;
 /// Whether every row is positive on `v`.
 ///
 /// # Errors
-/// A product or partial sum that leaves the range.
+/// The first product or partial sum of a row with `v`, from the left, that leaves the range.
 fn all_positive(rows: &[IntVec], v: &[i128]) -> Result<bool, WideVector>
     requires { AreRows (length v.now) rows.now }
     ensures ok { IfOk result (λ b. IsTrue b ↔ All (λ t. pos 0 <ℤ dot t v.now) rows.now) }
-    ensures wide { IfErr result IsWide }
+    ensures wide { IfErr result (λ e. Any (λ t. IsFirstWide e (dot_steps (pos 0) t v.now)) rows.now) }
 {
     for row in rows {
         if dot_slices(row.as_slice(), v)? <= 0 {
@@ -28,11 +28,11 @@ fn all_positive(rows: &[IntVec], v: &[i128]) -> Result<bool, WideVector>
 /// Whether every equation is zero on `v`.
 ///
 /// # Errors
-/// A product or partial sum that leaves the range.
+/// The first product or partial sum of an equation with `v`, from the left, that leaves the range.
 fn all_zero(equations: &[IntVec], v: &[i128]) -> Result<bool, WideVector>
     requires { AreRows (length v.now) equations.now }
     ensures ok { IfOk result (λ b. IsTrue b ↔ All (λ t. dot t v.now ≡ pos 0) equations.now) }
-    ensures wide { IfErr result IsWide }
+    ensures wide { IfErr result (λ e. Any (λ t. IsFirstWide e (dot_steps (pos 0) t v.now)) equations.now) }
 {
     for equation in equations {
         if dot_slices(equation.as_slice(), v)? != 0 {
@@ -45,12 +45,13 @@ fn all_zero(equations: &[IntVec], v: &[i128]) -> Result<bool, WideVector>
 /// Whether `v` is a solution of the rows and equations.
 ///
 /// # Errors
-/// A product or partial sum that leaves the range.
+/// The first product or partial sum of a row or an equation with `v`, from the left, that leaves the range.
 pub fn is_solution(rows: &[IntVec], equations: &[IntVec], v: &[i128]) -> Result<bool, WideVector>
     requires rows { AreRows (length v.now) rows.now }
     requires equations { AreRows (length v.now) equations.now }
     ensures ok { IfOk result (λ b. IsTrue b ↔ IsSolution (length v.now) rows.now equations.now v.now) }
-    ensures wide { IfErr result IsWide }
+    ensures wide { IfErr result (λ e. Any (λ t. IsFirstWide e (dot_steps (pos 0) t v.now)) rows.now
+        ⊎ Any (λ t. IsFirstWide e (dot_steps (pos 0) t v.now)) equations.now) }
 {
     if all_positive(rows, v)? {
         all_zero(equations, v)

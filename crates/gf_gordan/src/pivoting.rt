@@ -79,10 +79,10 @@ pub(crate) fn candidate(
         if let Some(row) = rows.get(k) {
             table.enter(row.as_slice(), 1)?;
         }
-        let Some(place) = table.leaving() else {
+        let Some(index) = table.leaving() else {
             return Ok(None);
         };
-        if !table.pivot(place, Column::Row(k))? {
+        if !table.pivot(index, Column::Row(k))? {
             return Ok(None);
         }
     }

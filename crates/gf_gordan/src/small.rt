@@ -210,18 +210,18 @@ impl SmallTable {
     ///
     /// # Errors
     /// Want of memory.
-    fn pivot(&mut self, size: usize, place: usize, column: Column) -> Result<bool, AllocError>
+    fn pivot(&mut self, size: usize, index: usize, column: Column) -> Result<bool, AllocError>
         requires { 0 < size }
     {
-        let f = entry_at(self.entering.as_slice(), place);
+        let f = entry_at(self.entering.as_slice(), index);
         let p = f.wrapping_abs();
-        self.take_line(size, place, f < 0)?;
+        self.take_line(size, index, f < 0)?;
         let pivot_line = self.pivot_line.as_slice();
         let entering = self.entering.as_slice();
         let denominator = self.denominator;
         let mut within = true;
         for (i, line) in self.lines.chunks_exact_mut(size).enumerate() {
-            if i == place {
+            if i == index {
                 overwrite(line, pivot_line);
             } else {
                 let f = entry_at(entering, i);
@@ -230,7 +230,7 @@ impl SmallTable {
                 }
             }
         }
-        if let Some(basic) = self.basic.get_mut(place) {
+        if let Some(basic) = self.basic.get_mut(index) {
             *basic = column;
         }
         self.denominator = p;
@@ -241,9 +241,9 @@ impl SmallTable {
     ///
     /// # Errors
     /// Want of memory.
-    fn take_line(&mut self, size: usize, place: usize, negative: bool) -> Result<(), AllocError> {
+    fn take_line(&mut self, size: usize, index: usize, negative: bool) -> Result<(), AllocError> {
         self.pivot_line.clear();
-        let start = place.saturating_mul(size);
+        let start = index.saturating_mul(size);
         if let Some(line) = self.lines.get(start..start.saturating_add(size)) {
             for x in line {
                 self.pivot_line
@@ -273,8 +273,8 @@ impl SmallTable {
     }
 
     /// Whether a unit vector is basic in a line.
-    fn is_unit(&self, place: usize) -> bool {
-        matches!(self.basic.get(place), Some(Column::Unit(_)))
+    fn is_unit(&self, index: usize) -> bool {
+        matches!(self.basic.get(index), Some(Column::Unit(_)))
     }
 
     /// Adds up the lines in which a unit vector is basic; the last entry is what is left to be paid.
@@ -368,12 +368,12 @@ impl SmallTable {
     {
         let mut entries = vec![in self.alloc; 0; rows.saturating_add(equations)]?;
         for (line, basic) in self.lines.chunks_exact(size).zip(&self.basic) {
-            let place = match basic {
+            let index = match basic {
                 Column::Row(k) => Some(*k),
                 Column::Equation(k) => Some(rows.saturating_add(*k)),
                 Column::Unit(_) => None,
             };
-            if let Some(k) = place
+            if let Some(k) = index
                 && let Some(entry) = entries.get_mut(k)
             {
                 *entry = i128::from(last_of(line));
@@ -419,10 +419,10 @@ pub(crate) fn small_candidate(
         if !table.enter_row(n, size, k)? {
             return Ok(None);
         }
-        let Some(place) = table.leaving(size) else {
+        let Some(index) = table.leaving(size) else {
             return Ok(None);
         };
-        if !table.pivot(size, place, Column::Row(k))? {
+        if !table.pivot(size, index, Column::Row(k))? {
             return Ok(None);
         }
     }

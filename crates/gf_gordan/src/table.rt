@@ -85,9 +85,9 @@ fn add_line(sum: &mut [i128], line: &[i128]) {
 ///
 /// # Errors
 /// Want of memory.
-fn unit_line(alloc: Global, len: usize, place: usize) -> Result<Vec<i128>, AllocError> {
+fn unit_line(alloc: Global, len: usize, index: usize) -> Result<Vec<i128>, AllocError> {
     let mut line = vec![in alloc; 0; len]?;
-    if let Some(x) = line.get_mut(place) {
+    if let Some(x) = line.get_mut(index) {
         *x = 1;
     }
     Ok(line)
@@ -134,14 +134,14 @@ impl Table {
     ///
     /// # Errors
     /// Want of memory.
-    pub(crate) fn pivot(&mut self, place: usize, column: Column) -> Result<bool, AllocError> {
-        let f = entry_at(self.entering.as_slice(), place);
+    pub(crate) fn pivot(&mut self, index: usize, column: Column) -> Result<bool, AllocError> {
+        let f = entry_at(self.entering.as_slice(), index);
         let p = f.wrapping_abs();
-        self.take_line(place, f < 0)?;
+        self.take_line(index, f < 0)?;
         let denominator = self.denominator;
         let mut within = p <= LIMIT;
         for (i, line) in self.lines.iter_mut().enumerate() {
-            if i == place {
+            if i == index {
                 line.clear();
                 line.extend_from_slice(self.pivot_line.as_slice())?;
             } else {
@@ -152,7 +152,7 @@ impl Table {
                 }
             }
         }
-        if let Some(basic) = self.basic.get_mut(place) {
+        if let Some(basic) = self.basic.get_mut(index) {
             *basic = column;
         }
         self.denominator = p;
@@ -163,9 +163,9 @@ impl Table {
     ///
     /// # Errors
     /// Want of memory.
-    fn take_line(&mut self, place: usize, negative: bool) -> Result<(), AllocError> {
+    fn take_line(&mut self, index: usize, negative: bool) -> Result<(), AllocError> {
         self.pivot_line.clear();
-        if let Some(line) = self.lines.get(place) {
+        if let Some(line) = self.lines.get(index) {
             for x in line {
                 self.pivot_line
                     .push(if negative { x.wrapping_neg() } else { *x })?;
@@ -194,8 +194,8 @@ impl Table {
     }
 
     /// Whether a unit vector is basic in a line.
-    fn is_unit(&self, place: usize) -> bool {
-        matches!(self.basic.get(place), Some(Column::Unit(_)))
+    fn is_unit(&self, index: usize) -> bool {
+        matches!(self.basic.get(index), Some(Column::Unit(_)))
     }
 
     /// Adds up the lines in which a unit vector is basic; the last entry is what is left to be paid.
@@ -267,12 +267,12 @@ impl Table {
     ) -> Result<Vec<i128>, AllocError> {
         let mut entries = vec![in self.alloc; 0; rows.saturating_add(equations)]?;
         for (i, line) in self.lines.iter().enumerate() {
-            let place = match self.basic.get(i) {
+            let index = match self.basic.get(i) {
                 Some(Column::Row(k)) => Some(*k),
                 Some(Column::Equation(k)) => Some(rows.saturating_add(*k)),
                 _ => None,
             };
-            if let Some(k) = place
+            if let Some(k) = index
                 && let Some(entry) = entries.get_mut(k)
             {
                 *entry = last_of(line.as_slice());

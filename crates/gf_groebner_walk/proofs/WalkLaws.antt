@@ -9,14 +9,14 @@ use Rattle.gf_ideal_theory.specs.Membership.{AreInVariables}
 use Rattle.gf_ideal_theory.specs.Bases.{IsReducedBasisFor}
 use Rattle.gf_ideal_theory.proofs.MembershipLaws.{member-generator}
 use Rattle.gf_buchberger.specs.Bases.{IsArrangedBasis}
-use Rattle.gf_buchberger.specs.Jobs.{HaveRingVariables}
+use Rattle.gf_buchberger.specs.Tasks.{HaveRingVariables}
 use Rattle.gf_buchberger.proofs.BasesOfRuns.{generated, canonical_variables}
 use Rattle.gf_facets_theory.specs.Regions.{all_positive}
 use Rattle.gf_facets_theory.specs.MarkedBases.{IsBasisInRegion}
 use Rattle.gf_facets_theory.proofs.SystemLaws.{all_positive-region}
-use Rattle.gf_lifts.specs.Crossings.{IsCrossing}
-use Rattle.gf_flip.specs.Reached.{IsReachedByFlips}
-use Rattle.gf_flip.proofs.ReachedLaws.{reached_first, reached_crossing, reached_next}
+use Rattle.gf_tree.specs.Crossings.{IsCrossing}
+use Rattle.gf_tree.specs.Reached.{IsReachedByFlips}
+use Rattle.gf_tree.proofs.ReachedLaws.{reached_first, reached_crossing, reached_next}
 use Rattle.gf_reverse_theory.specs.Upward.{LeadsTowards}
 use Rattle.gf_reverse_theory.proofs.LawsHold.{root_has_no_way_up}
 use Rattle.gf_groebner_walk.specs.Weights.{IsWeightBeforeLex}

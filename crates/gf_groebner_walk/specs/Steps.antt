@@ -5,8 +5,8 @@ use Rattle.gf_poly.specs.Polynomial.{Terms}
 use Rattle.gf_poly.specs.Marking.{MarkedPolynomial, MarkedPolynomials}
 use Rattle.gf_facets_theory.specs.Regions.{Region, all_positive}
 use Rattle.gf_cone.specs.Cones.{ConeRows, normal_at, IsConeOf}
-use Rattle.gf_lifts.specs.Crossings.{IsNeighbour}
-use Rattle.gf_flip.specs.Reached.{IsReachedByFlips}
+use Rattle.gf_tree.specs.Crossings.{IsNeighbour}
+use Rattle.gf_tree.specs.Reached.{IsReachedByFlips}
 use Rattle.gf_reverse_theory.specs.Upward.{LeadsTowards}
 use Rattle.gf_groebner_walk.specs.declared.steps.Towards.{Towards}
 use Rattle.gf_groebner_walk.specs.declared.steps.Towards.TheVariants.{Nowhere, Facet}

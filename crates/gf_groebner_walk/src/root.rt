@@ -7,7 +7,7 @@ ghost use Rattle.gf_order.specs.Weights.{AreBounded};
 ghost use Rattle.gf_buchberger.specs.declared.queue.Strategy.TheVariants.{Degree};
 ghost use Rattle.gf_buchberger.specs.Ruled.{AreRuledRunsWithinLimits};
 ghost use Rattle.gf_buchberger.specs.Bases.{IsArrangedBasis, IsBasisRefusal, AreRunsWithinLimits, IsWantOfMemory};
-ghost use Rattle.gf_buchberger.specs.Jobs.{HaveRingVariables};
+ghost use Rattle.gf_buchberger.specs.Tasks.{HaveRingVariables};
 ghost use Rattle.gf_reverse_theory.specs.Upward.{IsNodeIn, IsNode};
 ghost use Rattle.gf_tree.specs.Ideals.{ideal_within};
 

@@ -5,7 +5,7 @@ ghost use Rattle.gf_order.specs.Comparisons.{HasEntries, is_weight_before_lex};
 ghost use Rattle.gf_buchberger.specs.declared.queue.Strategy.TheVariants.{Degree};
 ghost use Rattle.gf_buchberger.specs.Ruled.{AreRuledRunsWithinLimits};
 ghost use Rattle.gf_buchberger.specs.Bases.{IsArrangedBasis, IsBasisRefusal, AreRunsWithinLimits, IsWantOfMemory};
-ghost use Rattle.gf_buchberger.specs.Jobs.{HaveRingVariables, IsSuited};
+ghost use Rattle.gf_buchberger.specs.Tasks.{HaveRingVariables, IsSuited};
 
 use crate::walk::walked;
 use crate::weights::weight_of;

@@ -7,9 +7,9 @@ ghost use Rattle.gf_groebner_walk.specs.Steps.{IsSomeBasis, IsLeadTold, IsFacetT
 
 use crate::signs::is_negative;
 use gf_cone::Cone;
-use gf_flip::flip;
 use gf_known_cone::KnownCone;
 use gf_poly::MarkedSet;
+use gf_tree::flip;
 use gf_vec::IntVec;
 use std::alloc::Global;
 
@@ -41,17 +41,17 @@ fn cone_of(alloc: Global, set: &MarkedSet) -> Option<KnownCone>
 }
 
 /// Whether the facet of the normal at an index leads towards a weight; none if numbers don't fit.
-fn leads(cone: &KnownCone, weight: &IntVec, place: usize) -> Option<bool>
-    requires place { place < length cone.now.normals }
+fn leads(cone: &KnownCone, weight: &IntVec, index: usize) -> Option<bool>
+    requires index { index < length cone.now.normals }
     requires width { length weight.now ≡ cone.now.variables }
-    ensures { IfSome result (IsLeadTold weight.now cone.now place) }
+    ensures { IfSome result (IsLeadTold weight.now cone.now index) }
 {
-    match is_negative(weight, &cone.normals()[place]) {
+    match is_negative(weight, &cone.normals()[index]) {
         Ok(true) => {}
         Ok(false) => return Some(false),
         Err(_) => return None,
     }
-    match cone.crossing(place) {
+    match cone.crossing(index) {
         Ok(Some(_)) => Some(true),
         Ok(None) => Some(false),
         Err(_) => None,
@@ -63,9 +63,9 @@ fn facet_towards(cone: &KnownCone, weight: &IntVec) -> Option<Towards>
     requires { length weight.now ≡ cone.now.variables }
     ensures { IfSome result (IsFacetTold weight.now cone.now) }
 {
-    'places: for place in 0..cone.normals().len() {
-        if leads(cone, weight, place)? {
-            return Some(Towards::Facet(place));
+    'indices: for index in 0..cone.normals().len() {
+        if leads(cone, weight, index)? {
+            return Some(Towards::Facet(index));
         }
     }
     Some(Towards::Nowhere)
@@ -85,11 +85,11 @@ pub(crate) fn next_step(
 {
     let cone = cone_of(alloc, here)?;
     let told = facet_towards(&cone, weight)?;
-    let place = match told {
+    let index = match told {
         Towards::Nowhere => return Some(Step::Arrived),
-        Towards::Facet(place) => place,
+        Towards::Facet(index) => index,
     };
-    let normal = &cone.normals()[place];
+    let normal = &cone.normals()[index];
     match flip(alloc, here, normal, pairs) {
         Ok(across) => Some(Step::Across(across)),
         Err(_) => None,

@@ -1,6 +1,6 @@
 -- A basis stays one, and a reduced one stays reduced, in whatever order its members are listed.
--- To cite: basis-arranged, reduced-arranged, apart-arranged. The rest are steps: apart by places, and what one exchange
--- of two places does to them.
+-- To cite: basis-arranged, reduced-arranged, apart-arranged. The rest are steps: apart by indices, and what one exchange
+-- of two indices does to them.
 use Rattle.std.specs.Prelude.{◌≡◌, ◌⊎◌, ℕ, zero, suc, ◌<◌, List, [], ◌∷◌, length, Contains, IsPermutation}
 use Rattle.std.specs.List.Sorted.{apply_swaps, SwapsInRange}
 use Rattle.std.specs.List.{swap}
@@ -16,50 +16,50 @@ use Rattle.gf_ideal_theory.specs.Bases.{AreApart, IsBasis, IsReducedBy}
 use Rattle.gf_ideal_theory.proofs.ListLaws.{each_contained, contained_each}
 use Rattle.gf_ideal_theory.proofs.SettledLaws.{default}
 
--- ---- apart, by places
+-- ---- apart, by indices
 
--- no mark divides the mark at another place
+-- no mark divides the mark at another index
 ApartAt : List MarkedPolynomial → Type 0
 ApartAt bs = (i j : ℕ) (d : MarkedPolynomial) → i < length bs → j < length bs → (i ≡ j → ⊥) → NoMultiple (get_or bs i d).head (get_or bs j d).head
 
-at_places : (bs : List MarkedPolynomial) → AreApart bs → ApartAt bs
+at_indices : (bs : List MarkedPolynomial) → AreApart bs → ApartAt bs
 unfolding ApartAt
-at_places [] a i j d l m n = absurd (omega arith)
-at_places (b ∷ bs) a zero zero d l m n = absurd (n refl)
-at_places (b ∷ bs) a zero (suc j) d l m n = (contained_each (λ (c : MarkedPolynomial). NoMultiple b.head c.head × NoMultiple c.head b.head) bs a.0
+at_indices [] a i j d l m n = absurd (omega arith)
+at_indices (b ∷ bs) a zero zero d l m n = absurd (n refl)
+at_indices (b ∷ bs) a zero (suc j) d l m n = (contained_each (λ (c : MarkedPolynomial). NoMultiple b.head c.head × NoMultiple c.head b.head) bs a.0
     (get_or bs j d) (j, omega arith, default bs j (get_or bs j d) d (omega arith))).0
-at_places (b ∷ bs) a (suc i) zero d l m n = (contained_each (λ (c : MarkedPolynomial). NoMultiple b.head c.head × NoMultiple c.head b.head) bs a.0
+at_indices (b ∷ bs) a (suc i) zero d l m n = (contained_each (λ (c : MarkedPolynomial). NoMultiple b.head c.head × NoMultiple c.head b.head) bs a.0
     (get_or bs i d) (i, omega arith, default bs i (get_or bs i d) d (omega arith))).1
-at_places (b ∷ bs) a (suc i) (suc j) d l m n = at_places bs a.1 i j d (omega arith) (omega arith) (λ e. n (omega arith))
+at_indices (b ∷ bs) a (suc i) (suc j) d l m n = at_indices bs a.1 i j d (omega arith) (omega arith) (λ e. n (omega arith))
 
-from_places : (bs : List MarkedPolynomial) → ApartAt bs → AreApart bs
+from_indices : (bs : List MarkedPolynomial) → ApartAt bs → AreApart bs
 unfolding ApartAt
-from_places [] h = tt
-from_places (b ∷ bs) h = (
+from_indices [] h = tt
+from_indices (b ∷ bs) h = (
   each_contained (λ (c : MarkedPolynomial). NoMultiple b.head c.head × NoMultiple c.head b.head) bs
       (λ c k. (
         subst (λ (x : MarkedPolynomial). NoMultiple b.head x.head) k.2 (h 0 (suc k.0) c (omega arith) (omega (arith, k.1)) (λ e. absurd (omega arith))),
         subst (λ (x : MarkedPolynomial). NoMultiple x.head b.head) k.2 (h (suc k.0) 0 c (omega (arith, k.1)) (omega arith) (λ e. absurd (omega arith))),
       )),
-  from_places bs (λ i j d l m n. h (suc i) (suc j) d (omega arith) (omega arith) (λ e. n (omega arith))),
+  from_indices bs (λ i j d l m n. h (suc i) (suc j) d (omega arith) (omega arith) (λ e. n (omega arith))),
 )
 
--- ---- one exchange of two places
+-- ---- one exchange of two indices
 
--- where the element at i stood before the places a and b were exchanged
+-- where the element at i stood before the indices a and b were exchanged
 abbrev IsFrom : ℕ → ℕ → ℕ → ℕ → Type 0
 IsFrom a b i k = ((i ≡ a) × (k ≡ b)) ⊎ ((i ≡ b) × (k ≡ a)) ⊎ ((i ≡ a → ⊥) × (i ≡ b → ⊥) × (k ≡ i))
 
-one_place : (a b i j k l : ℕ) → IsFrom a b i k → IsFrom a b j l → k ≡ l → i ≡ j
-one_place a b i j k l (inl p) (inl q) e = omega (arith, p.0, q.0)
-one_place a b i j k l (inl p) (inr (inl q)) e = omega (arith, p.0, p.1, q.0, q.1, e)
-one_place a b i j k l (inl p) (inr (inr q)) e = absurd (q.1 (omega (arith, p.1, q.2, e)))
-one_place a b i j k l (inr (inl p)) (inl q) e = omega (arith, p.0, p.1, q.0, q.1, e)
-one_place a b i j k l (inr (inl p)) (inr (inl q)) e = omega (arith, p.0, q.0)
-one_place a b i j k l (inr (inl p)) (inr (inr q)) e = absurd (q.0 (omega (arith, p.1, q.2, e)))
-one_place a b i j k l (inr (inr p)) (inl q) e = absurd (p.1 (omega (arith, p.2, q.1, e)))
-one_place a b i j k l (inr (inr p)) (inr (inl q)) e = absurd (p.0 (omega (arith, p.2, q.1, e)))
-one_place a b i j k l (inr (inr p)) (inr (inr q)) e = omega (arith, p.2, q.2, e)
+one_index : (a b i j k l : ℕ) → IsFrom a b i k → IsFrom a b j l → k ≡ l → i ≡ j
+one_index a b i j k l (inl p) (inl q) e = omega (arith, p.0, q.0)
+one_index a b i j k l (inl p) (inr (inl q)) e = omega (arith, p.0, p.1, q.0, q.1, e)
+one_index a b i j k l (inl p) (inr (inr q)) e = absurd (q.1 (omega (arith, p.1, q.2, e)))
+one_index a b i j k l (inr (inl p)) (inl q) e = omega (arith, p.0, p.1, q.0, q.1, e)
+one_index a b i j k l (inr (inl p)) (inr (inl q)) e = omega (arith, p.0, q.0)
+one_index a b i j k l (inr (inl p)) (inr (inr q)) e = absurd (q.0 (omega (arith, p.1, q.2, e)))
+one_index a b i j k l (inr (inr p)) (inl q) e = absurd (p.1 (omega (arith, p.2, q.1, e)))
+one_index a b i j k l (inr (inr p)) (inr (inl q)) e = absurd (p.0 (omega (arith, p.2, q.1, e)))
+one_index a b i j k l (inr (inr p)) (inr (inr q)) e = omega (arith, p.2, q.2, e)
 
 came_from : (xs ys : List MarkedPolynomial) (a b i : ℕ) (d : MarkedPolynomial) → a < length xs → b < length xs →
     i < length xs → ys ≡ swap xs a b → (k : ℕ) × (k < length xs) × (get_or ys i d ≡ get_or xs k d) × IsFrom a b i k
@@ -74,7 +74,8 @@ came_from xs ys a b i d la lb li e = at (swapped_from_swap xs ys a b d la lb e) 
 apart-swap : (xs : List MarkedPolynomial) (a b : ℕ) → a < length xs → b < length xs → AreApart xs →
     AreApart (swap xs a b)
 unfolding ApartAt
-apart-swap xs a b la lb h = from_places (swap xs a b) (λ i j d li lj n. at i j d n (came_from xs (swap xs a b) a b i d la lb (omega (arith, length-swap xs a b))
+apart-swap xs a b la lb h =
+    from_indices (swap xs a b) (λ i j d li lj n. at i j d n (came_from xs (swap xs a b) a b i d la lb (omega (arith, length-swap xs a b))
     refl) (came_from xs (swap xs a b) a b j d la lb (omega (arith, length-swap xs a b)) refl))
   where
     at : (i j : ℕ) (d : MarkedPolynomial) → (i ≡ j → ⊥) →
@@ -84,7 +85,7 @@ apart-swap xs a b la lb h = from_places (swap xs a b) (λ i j d li lj n. at i j 
     at i j d n p q =
         subst (λ (x : MarkedPolynomial). NoMultiple x.head (get_or (swap xs a b) j d).head) (sym p.2)
         (subst (λ (x : MarkedPolynomial). NoMultiple (get_or xs p.0 d).head x.head) (sym q.2)
-        (at_places xs h p.0 q.0 d p.1 q.1 (λ e. n (one_place a b i j p.0 q.0 p.3 q.3 e))))
+        (at_indices xs h p.0 q.0 d p.1 q.1 (λ e. n (one_index a b i j p.0 q.0 p.3 q.3 e))))
 
 -- ---- arrangements
 

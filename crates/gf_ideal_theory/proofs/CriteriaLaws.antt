@@ -69,7 +69,7 @@ pair_more n bs ks below b c h p = record {
   equation = p.equation;
 }
 
--- where the pairs of any two places are settled, those of any two members are
+-- where the pairs of any two indices are settled, those of any two members are
 pub pairs_at_join : (n : ℕ) (bs : List MarkedPolynomial) (below : Exponents → Exponents → Type 0) → IsStrict below →
     ArePairsSettled n bs below → (b c : MarkedPolynomial) → Contains bs b → Contains bs c →
     IsSettledAtJoin (Contains bs) below b c

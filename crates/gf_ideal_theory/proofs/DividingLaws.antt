@@ -7,7 +7,7 @@ use Rattle.gf_poly.specs.Marking.{MarkedPolynomial}
 use Rattle.gf_ideal_theory.specs.Reduction.{IsDivisible}
 use Rattle.gf_ideal_theory.specs.Settled.{IsAt}
 
--- the member at a place is contained
+-- the member at an index is contained
 pub member_contained : (bs : List MarkedPolynomial) (i : ℕ) (b : MarkedPolynomial) → IsAt bs i b → Contains bs b
 member_contained bs i b h = (i, h.within, h.is)
 

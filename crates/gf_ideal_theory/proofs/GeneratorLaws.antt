@@ -124,7 +124,7 @@ monic_generator n xs ys f b v q = same_by_exchange n xs ys f b.poly v
     (v f (middle_there xs ys f)) q (member-generator n (xs ++ b.poly ∷ ys) b.poly (middle_there xs ys b.poly)))
     (member-monic n (xs ++ f ∷ ys) f b v q (member-generator n (xs ++ f ∷ ys) f (middle_there xs ys f)))
 
--- ---- all made monic, place by place
+-- ---- all made monic, index by index
 
 -- each of the first has its monic form in the second
 monic-there : (bs cs : List MarkedPolynomial) → AreMonicForms bs cs → (b : MarkedPolynomial) → Contains bs b →

@@ -129,26 +129,26 @@ pub basis-of_tails : (n : ℕ) (fs : List Terms) (bs cs : List MarkedPolynomial)
 basis-of_tails n fs bs cs v b t h = basis-tails n fs bs cs b (λ c k. tail-member n fs bs c v b.members (t c k))
     (λ c k. tail-marked (lighter b.marked.0) bs c (lighter-strict b.marked.0) b.marked.2 (t c k)) h
 
--- ---- all tails reduced, place by place
+-- ---- all tails reduced, index by index
 
-pub tails-of_place : (bs ks cs : List MarkedPolynomial) → AreReducedTails bs ks cs → (c : MarkedPolynomial) →
+pub tails-of_index : (bs ks cs : List MarkedPolynomial) → AreReducedTails bs ks cs → (c : MarkedPolynomial) →
     Contains cs c → (k : MarkedPolynomial) × Contains ks k × IsReducedTail bs k c
-tails-of_place bs [] [] h c q = absurd (omega (arith, q.1))
-tails-of_place bs [] (d ∷ cs) h c q = elim h [ ]
-tails-of_place bs (k ∷ ks) [] h c q = elim h [ ]
-tails-of_place bs (k ∷ ks) (d ∷ cs) h c q = at (Contains-cases d c cs q) (λ r. tails-of_place bs ks cs h.1 c r)
+tails-of_index bs [] [] h c q = absurd (omega (arith, q.1))
+tails-of_index bs [] (d ∷ cs) h c q = elim h [ ]
+tails-of_index bs (k ∷ ks) [] h c q = elim h [ ]
+tails-of_index bs (k ∷ ks) (d ∷ cs) h c q = at (Contains-cases d c cs q) (λ r. tails-of_index bs ks cs h.1 c r)
   where
     at : (d ≡ c) ⊎ Contains cs c → (Contains cs c → (j : MarkedPolynomial) × Contains ks j × IsReducedTail bs j c) →
         (j : MarkedPolynomial) × Contains (k ∷ ks) j × IsReducedTail bs j c
     at (inl e) r = (k, Contains-here k ks, subst (λ (x : MarkedPolynomial). IsReducedTail bs k x) e h.0)
     at (inr s) r = let j = r s in (j.0, Contains-there k j.0 ks j.1, j.2)
 
-tails-at_place : (bs ks cs : List MarkedPolynomial) → AreReducedTails bs ks cs → (k : MarkedPolynomial) →
+tails-at_index : (bs ks cs : List MarkedPolynomial) → AreReducedTails bs ks cs → (k : MarkedPolynomial) →
     Contains ks k → (c : MarkedPolynomial) × Contains cs c × (same k.head c.head ≡ true)
-tails-at_place bs [] [] h k q = absurd (omega (arith, q.1))
-tails-at_place bs [] (d ∷ cs) h k q = elim h [ ]
-tails-at_place bs (j ∷ ks) [] h k q = elim h [ ]
-tails-at_place bs (j ∷ ks) (d ∷ cs) h k q = at (Contains-cases j k ks q) (λ r. tails-at_place bs ks cs h.1 k r)
+tails-at_index bs [] [] h k q = absurd (omega (arith, q.1))
+tails-at_index bs [] (d ∷ cs) h k q = elim h [ ]
+tails-at_index bs (j ∷ ks) [] h k q = elim h [ ]
+tails-at_index bs (j ∷ ks) (d ∷ cs) h k q = at (Contains-cases j k ks q) (λ r. tails-at_index bs ks cs h.1 k r)
   where
     at : (j ≡ k) ⊎ Contains ks k →
         (Contains ks k → (c : MarkedPolynomial) × Contains cs c × (same k.head c.head ≡ true)) →
@@ -191,22 +191,22 @@ apart-tails bs (k ∷ ks) (c ∷ cs) h a = (first ks cs h.1 a.0, apart-tails bs 
 
 -- the tails of members that are apart, reduced by them
 pub reduced-tails : (ks cs : List MarkedPolynomial) → AreReducedTails ks ks cs → HasReducedTails cs
-reduced-tails ks cs h c q x m d = at (tails-of_place ks ks cs h c q)
+reduced-tails ks cs h c q x m d = at (tails-of_index ks ks cs h c q)
   where
     over : (e : MarkedPolynomial) → ((k : MarkedPolynomial) × Contains ks k × IsReducedTail ks k e) →
         IsDivisible (Contains ks) e.head
     over e k = record { member = k.0; contained = k.1; rest = []; divides = same_flip k.0.head e.head k.2.head }
 
     at : ((k : MarkedPolynomial) × Contains ks k × IsReducedTail ks k c) → same x c.head ≡ true
-    at k = k.2.irreducible x m (divisible_through cs ks (λ e j. over e (tails-of_place ks ks cs h e j)) x d)
+    at k = k.2.irreducible x m (divisible_through cs ks (λ e j. over e (tails-of_index ks ks cs h e j)) x d)
 
 -- members whose marks are apart and still divide each mark, with their tails reduced by them: a basis, reduced
 pub interreduced : (n : ℕ) (fs : List Terms) (bs ks cs : List MarkedPolynomial) → AreInVariables n fs →
     IsBasis n fs bs → ((k : MarkedPolynomial) → Contains ks k → Contains bs k) →
     ((b : MarkedPolynomial) → Contains bs b → IsDivisible (Contains ks) b.head) → AreReducedTails ks ks cs →
     IsBasis n fs cs
-interreduced n fs bs ks cs v b inside over t = basis-of_tails n fs ks cs v (basis-kept n fs bs ks b inside over) (λ c q. (tails-of_place ks ks cs t c q).2.tail)
-    (λ k q. tails-at_place ks ks cs t k q)
+interreduced n fs bs ks cs v b inside over t = basis-of_tails n fs ks cs v (basis-kept n fs bs ks b inside over) (λ c q. (tails-of_index ks ks cs t c q).2.tail)
+    (λ k q. tails-at_index ks ks cs t k q)
 
 -- ---- reduced bases
 

@@ -76,15 +76,15 @@ greatest below f o = at (canonical f)
               r.top.mono,
               record {
                 there = r.holds;
-                greatest = λ y n. place r.top.mono y (found_term (λ (t : Term). (same t.mono r.top.mono ≡ true) ⊎ below t.mono r.top.mono) one_ℚ [] (s ∷ g) y
+                greatest = λ y n. index r.top.mono y (found_term (λ (t : Term). (same t.mono r.top.mono ≡ true) ⊎ below t.mono r.top.mono) one_ℚ [] (s ∷ g) y
                     (r.first, r.rest) (λ z. n (e y ∙ ap (λ g. coefficient g y) (sym (times-plain (s ∷ g))) ∙ z)));
               },
             )
           where
-            place : (x y : Exponents) →
+            index : (x y : Exponents) →
                 ((t : Term) × ((same t.mono x ≡ true) ⊎ below t.mono x) × (same y (plus [] t.mono) ≡ true)) →
                 (same y x ≡ true) ⊎ below y x
-            place x y r = elim r.1 [ inl s ↦ inl (same_trans y r.0.mono x r.2 s) | inr l ↦ inr (o.strict.along_left r.0.mono y x (same_flip y r.0.mono r.2) l) ]
+            index x y r = elim r.1 [ inl s ↦ inl (same_trans y r.0.mono x r.2 s) | inr l ↦ inr (o.strict.along_left r.0.mono y x (same_flip y r.0.mono r.2) l) ]
 
 -- by a monomial order, the greatest monomial leads
 pub top_greatest : (below : Exponents → Exponents → Type 0) → IsMonomialOrder below → IsTop below (IsGreatest below)
@@ -141,12 +141,12 @@ top_heaviest w = record {
               r.0.mono,
               record {
                 there = r.1;
-                heaviest = λ y n. place r.0.mono y (found_term (λ (t : Term). weight w t.mono ≤ weight w r.0.mono) one_ℚ [] (s ∷ g) y
+                heaviest = λ y n. index r.0.mono y (found_term (λ (t : Term). weight w t.mono ≤ weight w r.0.mono) one_ℚ [] (s ∷ g) y
                     (r.2, r.3) (λ z. n (e y ∙ ap (λ g. coefficient g y) (sym (times-plain (s ∷ g))) ∙ z)));
               },
             )
           where
-            place : (x y : Exponents) →
+            index : (x y : Exponents) →
                 ((t : Term) × (weight w t.mono ≤ weight w x) × (same y (plus [] t.mono) ≡ true)) →
                 weight w y ≤ weight w x
-            place x y r = omega (arith, r.1, weight-same w y r.0.mono r.2)
+            index x y r = omega (arith, r.1, weight-same w y r.0.mono r.2)

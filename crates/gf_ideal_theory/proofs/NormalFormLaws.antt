@@ -22,7 +22,7 @@ step-of_rule bs f g s = record {
   at = s.at;
   member = s.member;
   rest = s.rest;
-  contained = (s.place, s.contained.within, s.contained.is);
+  contained = (s.index, s.contained.within, s.contained.is);
   there = s.there;
   divides = s.divides;
   equal = s.equal;
@@ -39,7 +39,7 @@ pub no_divisor : (x h u : Exponents) → NoMultiple h x → same x (plus u h) �
 no_divisor x h u n d = let f : same x (plus h u) ≡ false = n u in let t : same x (plus h u) ≡ true = ap (same x) (plus_comm h u) ∙ d in absurd (cc)
 
 divisible : (bs : List MarkedPolynomial) (f g : Terms) (s : IsRuleStep bs f g) → IsDivisible (Contains bs) s.at
-divisible bs f g s = record { member = s.member; contained = (s.place, s.contained.within, s.contained.is); rest = s.rest; divides = s.divides }
+divisible bs f g s = record { member = s.member; contained = (s.index, s.contained.within, s.contained.is); rest = s.rest; divides = s.divides }
 
 monomial-along : (f g : Terms) (x : Exponents) → SamePolynomial f g → HasMonomial f x → HasMonomial g x
 monomial-along f g x e m z = m (e x ∙ z)
@@ -54,28 +54,28 @@ both_greatest x y (inr l) (inr m) = absurd (deglex-order.strict.irreflexive x x 
 -- the rule takes equal polynomials to equal polynomials
 rule-function : (bs : List MarkedPolynomial) (f g h k : Terms) → SamePolynomial f g → IsRuleStep bs f h →
     IsRuleStep bs g k → SamePolynomial h k
-rule-function bs f g h k e s t = finish place
+rule-function bs f g h k e s t = finish index
   where
     at : same s.at t.at ≡ true
     at = both_greatest s.at t.at (t.greatest s.at (monomial-along f g s.at e s.there) (divisible bs f h s))
         (s.greatest t.at (monomial-along g f t.at (λ x. sym (e x)) t.there) (divisible bs g k t))
 
-    place : s.place ≡ t.place
-    place = elim (cases_lt s.place t.place) [
-      | inl l ↦ absurd (no_divisor t.at s.member.head s.rest (t.first s.place s.member l s.contained)
+    index : s.index ≡ t.index
+    index = elim (cases_lt s.index t.index) [
+      | inl l ↦ absurd (no_divisor t.at s.member.head s.rest (t.first s.index s.member l s.contained)
           (same_trans t.at s.at (plus s.rest s.member.head) (same_flip s.at t.at at) s.divides))
-      | inr m ↦ elim (cases_lt t.place s.place) [
-        | inl l ↦ absurd (no_divisor s.at t.member.head t.rest (s.first t.place t.member l t.contained)
+      | inr m ↦ elim (cases_lt t.index s.index) [
+        | inl l ↦ absurd (no_divisor s.at t.member.head t.rest (s.first t.index t.member l t.contained)
             (same_trans s.at t.at (plus t.rest t.member.head) at t.divides))
         | inr q ↦ omega arith
       ]
     ]
 
-    finish : s.place ≡ t.place → SamePolynomial h k
+    finish : s.index ≡ t.index → SamePolynomial h k
     finish p = onto member
       where
         member : s.member ≡ t.member
-        member = sym s.contained.is ∙ ap (λ (i : ℕ). slice_index_or bs i s.member) p ∙ default bs t.place s.member t.member t.contained.within ∙ t.contained.is
+        member = sym s.contained.is ∙ ap (λ (i : ℕ). slice_index_or bs i s.member) p ∙ default bs t.index s.member t.member t.contained.within ∙ t.contained.is
 
         onto : s.member ≡ t.member → SamePolynomial h k
         onto m x =
@@ -105,7 +105,7 @@ chain-more bs f g h (IsRuleChain.stop k l e) s = IsRuleChain.go f h h (along s) 
     along : IsRuleStep bs g h → IsRuleStep bs f h
     along s = record {
       at = s.at;
-      place = s.place;
+      index = s.index;
       member = s.member;
       rest = s.rest;
       contained = s.contained;

@@ -47,11 +47,11 @@ box_of [] = (0, record { small = λ i. omega arith; short = λ i l. refl })
 box_of (a ∷ x) = at (box_of x)
   where
     at : ((k : ℕ) × IsShort k x) → (k : ℕ) × IsShort k (a ∷ x)
-    at r = (suc (max a r.0), record { small = place; short = gone })
+    at r = (suc (max a r.0), record { small = index; short = gone })
       where
-        place : (i : ℕ) → entry (a ∷ x) i ≤ suc (max a r.0)
-        place zero = omega arith
-        place (suc i) = omega (arith, r.1.small i)
+        index : (i : ℕ) → entry (a ∷ x) i ≤ suc (max a r.0)
+        index zero = omega arith
+        index (suc i) = omega (arith, r.1.small i)
 
         gone : (i : ℕ) → suc (max a r.0) ≤ i → entry (a ∷ x) i ≡ 0
         gone zero l = absurd (omega arith)

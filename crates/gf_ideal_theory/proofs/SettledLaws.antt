@@ -139,7 +139,7 @@ settled_at_join by below b c h =
 
 -- ---- a longer list
 
--- the pairs of two places are settled
+-- the pairs of two indices are settled
 abbrev pub AreWorkingPairsSettled : (Exponents → Exponents → Type 0) → List MarkedPolynomial → Type 0
 AreWorkingPairsSettled below bs = (i j : ℕ) (b c : MarkedPolynomial) → i < j → IsAt bs i b → IsAt bs j c → IsSettledAtJoin (Contains bs) below b c
 
@@ -150,7 +150,7 @@ default [] i c d h = absurd (omega arith)
 default (b ∷ bs) zero c d h = refl
 default (b ∷ bs) (suc i) c d h = default bs i c d (omega arith)
 
--- pairs of two places are all pairs
+-- pairs of two indices are all pairs
 pub all_pairs : (below : Exponents → Exponents → Type 0) (bs : List MarkedPolynomial) → IsStrict below →
     AreWorkingPairsSettled below bs → (b c : MarkedPolynomial) → Contains bs b → Contains bs c →
     IsSettledAtJoin (Contains bs) below b c

@@ -52,7 +52,7 @@ principal_ideal n w b p v m = reduced_by_weight n (b.poly ∷ []) (b ∷ []) w i
     marked : AreMarked (lighter w) (b ∷ [])
     marked d c = subst (λ (e : MarkedPolynomial). IsMarked (lighter w) e) (only b d c) m
 
-    -- there are no two places
+    -- there are no two indices
     pairs : ArePairsSettled n (b ∷ []) (lighter w)
     pairs i j c d l h k = absurd (omega (arith, l, k.within))
 

@@ -120,11 +120,11 @@ canonical_of (suc n) (t ∷ f) h = at (canonical_of n (without t.mono f) (omega 
     parts e = apart x (t ∷ f) e ∙ ap (λ b. (if same e x then c else zero_ℚ) +ℚ coefficient (if b then without x f else (t ∷ without x f)) e) (same-refl x)
 
     stays : (s : Term) → coefficient (without x f) s.mono ≢ zero_ℚ → coefficient (t ∷ f) s.mono ≢ zero_ℚ
-    stays s n z = place (same s.mono x) refl
+    stays s n z = index (same s.mono x) refl
       where
-        place : (b : Bool) → same s.mono x ≡ b → ⊥
-        place true q = n (none_left x s.mono f q)
-        place false q = n (sym (parts s.mono ∙ ap (λ b. (if b then c else zero_ℚ) +ℚ coefficient (without x f) s.mono) q ∙ zero-+ℚ _) ∙ z)
+        index : (b : Bool) → same s.mono x ≡ b → ⊥
+        index true q = n (none_left x s.mono f q)
+        index false q = n (sym (parts s.mono ∙ ap (λ b. (if b then c else zero_ℚ) +ℚ coefficient (without x f) s.mono) q ∙ zero-+ℚ _) ∙ z)
 
     nothing : (b : Bool) → c ≡ zero_ℚ → (if b then c else zero_ℚ) ≡ zero_ℚ
     nothing true z = z

@@ -45,7 +45,7 @@ pub record IsGroebnerBasisBy (n : ℕ) (fs : List Terms) (below : Exponents → 
   pub marked : AreMarked below bs
   pub initial : (f : Terms) → IsMember n fs f → (x : Exponents) → IsLeading f x → IsDivisible (Contains bs) x
 
--- no mark divides the mark at another place
+-- no mark divides the mark at another index
 abbrev pub AreApart : List MarkedPolynomial → Type 0
 AreApart [] = Unit {0}
 AreApart (b ∷ bs) = Each (λ (c : MarkedPolynomial). NoMultiple b.head c.head × NoMultiple c.head b.head) bs × AreApart bs

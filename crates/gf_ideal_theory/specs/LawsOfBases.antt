@@ -18,7 +18,7 @@ use Rattle.gf_ideal_theory.specs.WorkLists.{IsWorkList, IsTail, AreReducedTails}
 abbrev pub AreHomogeneous : ℕ → List ℕ → List Terms → Type 0
 AreHomogeneous n grade fs = (f : Terms) → Contains fs f → IsHomogeneous n grade f
 
--- the S-polynomial of any two places reduces to zero
+-- the S-polynomial of any two indices reduces to zero
 abbrev pub DoPairsReduceToZero : List MarkedPolynomial → Type 0
 DoPairsReduceToZero bs = (i j : ℕ) (b c : MarkedPolynomial) → i < j → IsAt bs i b → IsAt bs j c →
     (s : Terms) × IsSPolynomial b c s × Reached (Contains bs) s []

@@ -1,5 +1,5 @@
 -- Marked polynomials under a comparison of monomials, and sums of their multiples.
--- A list of members is often given by a predicate `by`, as `Contains bs`, so that longer lists need no places.
+-- A list of members is often given by a predicate `by`, as `Contains bs`, so that longer lists need no indices.
 -- Laws: proofs/PieceLaws.antt, proofs/MarkWeights.antt. Source: Sturmfels, Gröbner Bases and Convex Polytopes, 1 and 3.
 use Rattle.std.specs.Prelude.{◌≡◌, ◌⊎◌, ℕ, ◌<◌, ◌≤◌, true, List, [], ◌∷◌, ◌++◌, Contains}
 use Rattle.gf_frac.specs.Fraction.{Fraction, one_ℚ}

@@ -15,13 +15,13 @@ use Rattle.gf_ideal_theory.specs.Settled.{IsAt}
 -- g is f after the step that the rule takes
 pub record IsRuleStep (bs : List MarkedPolynomial) (f g : Terms) : Type 0 where
   pub at : Exponents
-  pub place : ℕ
+  pub index : ℕ
   pub member : MarkedPolynomial
   pub rest : Exponents
-  pub contained : IsAt bs place member
+  pub contained : IsAt bs index member
   pub there : HasMonomial f at
   pub divides : same at (plus rest member.head) ≡ true
-  pub first : (i : ℕ) (b : MarkedPolynomial) → i < place → IsAt bs i b → NoMultiple b.head at
+  pub first : (i : ℕ) (b : MarkedPolynomial) → i < index → IsAt bs i b → NoMultiple b.head at
   pub greatest : (x : Exponents) → HasMonomial f x → IsDivisible (Contains bs) x →
       (same x at ≡ true) ⊎ IsDeglexBelow x at
   pub equal : SamePolynomial g (f ++ times (neg_ℚ (coefficient f at)) rest member.poly)

@@ -13,7 +13,7 @@ use Rattle.gf_ideal_theory.specs.Membership.{HasMonomial}
 use Rattle.gf_ideal_theory.specs.Reduction.{Reached}
 
 -- where a step may be taken: a monomial of f, and a member whose mark, times `rest`, is that monomial
-pub record IsPlace (by : MarkedPolynomial → Type 0) (f : Terms) (at : Exponents) (member : MarkedPolynomial) (rest : Exponents) : Type 0 where
+pub record IsIndex (by : MarkedPolynomial → Type 0) (f : Terms) (at : Exponents) (member : MarkedPolynomial) (rest : Exponents) : Type 0 where
   pub contained : by member
   pub there : HasMonomial f at
   pub divides : same at (plus rest member.head) ≡ true
@@ -28,7 +28,7 @@ AreThese x y left right = ((left ≡ x) × (right ≡ y)) ⊎ ((left ≡ y) × (
 pub record IsStepProduct (by : MarkedPolynomial → Type 0) (f : Terms) (at : Exponents) (left right : Fraction) : Type 0 where
   pub member : MarkedPolynomial
   pub rest : Exponents
-  pub place : IsPlace by f at member rest
+  pub index : IsIndex by f at member rest
   pub exponents : Exponents
   pub operands : AreThese (coefficient f at) (coefficient member.poly exponents) left right
 
@@ -36,7 +36,7 @@ pub record IsStepProduct (by : MarkedPolynomial → Type 0) (f : Terms) (at : Ex
 pub record IsStepDifference (by : MarkedPolynomial → Type 0) (f : Terms) (at : Exponents) (left right : Fraction) : Type 0 where
   pub member : MarkedPolynomial
   pub rest : Exponents
-  pub place : IsPlace by f at member rest
+  pub index : IsIndex by f at member rest
   pub exponents : Exponents
   pub is_left : left ≡ coefficient f (plus rest exponents)
   pub is_right : right ≡ coefficient f at *ℚ coefficient member.poly exponents
@@ -87,7 +87,7 @@ pub record IsShiftOperation (shift : Exponents) (f : Terms) (left right : ℕ) :
 pub record IsStepExponents (by : MarkedPolynomial → Type 0) (f : Terms) (at : Exponents) (left right : ℕ) : Type 0 where
   pub member : MarkedPolynomial
   pub rest : Exponents
-  pub place : IsPlace by f at member rest
+  pub index : IsIndex by f at member rest
   pub sum : IsShiftOperation rest member.poly left right
 
 -- an exponent sum of a reduction of f: of one step from a polynomial that f reaches

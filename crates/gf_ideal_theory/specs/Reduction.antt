@@ -47,7 +47,7 @@ pub record IsMonicForm (f : Terms) (b : MarkedPolynomial) : Type 0 where
   pub there : HasMonomial f b.head
   pub equation : (x : Exponents) → coefficient f b.head *ℚ coefficient b.poly x ≡ coefficient f x
 
--- place by place: c is the monic form of b, with the mark of b
+-- index by index: c is the monic form of b, with the mark of b
 abbrev pub AreMonicForms : List MarkedPolynomial → List MarkedPolynomial → Type 0
 AreMonicForms [] [] = Unit {0}
 AreMonicForms [] (c ∷ cs) = ⊥

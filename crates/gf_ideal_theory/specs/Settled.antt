@@ -40,12 +40,12 @@ pub record IsSettledPair (n : ℕ) (bs : List MarkedPolynomial) (below : Exponen
   pub lower : Each (IsMultipleBelow n bs below (join b.head c.head)) multiples
   pub equation : (x : Exponents) → whole (pos factor) *ℚ coefficient s x ≡ coefficient (integer_value multiples) x
 
--- b is the member at place i
+-- b is the member at index i
 pub record IsAt (bs : List MarkedPolynomial) (i : ℕ) (b : MarkedPolynomial) : Type 0 where
   pub within : i < length bs
   pub is : slice_index_or bs i b ≡ b
 
--- so is the pair of any two places
+-- so is the pair of any two indices
 abbrev pub ArePairsSettled : ℕ → List MarkedPolynomial → (Exponents → Exponents → Type 0) → Type 0
 ArePairsSettled n bs below = (i j : ℕ) (b c : MarkedPolynomial) → i < j → IsAt bs i b → IsAt bs j c →
     IsSettledPair n bs below b c

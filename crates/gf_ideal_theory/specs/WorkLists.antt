@@ -39,7 +39,7 @@ pub record IsReducedTail (bs : List MarkedPolynomial) (k c : MarkedPolynomial) :
   pub head : same k.head c.head ≡ true
   pub irreducible : (x : Exponents) → HasMonomial c.poly x → IsDivisible (Contains bs) x → same x c.head ≡ true
 
--- place by place
+-- index by index
 abbrev pub AreReducedTails : List MarkedPolynomial → List MarkedPolynomial → List MarkedPolynomial → Type 0
 AreReducedTails bs [] [] = Unit {0}
 AreReducedTails bs [] (c ∷ cs) = ⊥

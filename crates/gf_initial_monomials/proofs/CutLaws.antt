@@ -11,7 +11,7 @@ use Rattle.gf_gordan.specs.Alternative.{AreRows}
 use Rattle.gf_gordan.specs.declared.error.GordanError.{GordanError}
 use Rattle.gf_duality_theory.specs.Rays.{IsRays}
 use Rattle.gf_duality_theory.specs.Faces.{Rows, IsInCone, SameCone, part}
-use Rattle.gf_duality_theory.proofs.ListLaws.{none_in, first_in, place, less, at, more}
+use Rattle.gf_duality_theory.proofs.ListLaws.{none_in, first_in, index, less, at, more}
 use Rattle.gf_duality_theory.proofs.Made.{Made-dot}
 use Rattle.gf_duality_theory.proofs.Determined.{described_of, same_rays_of}
 use Rattle.gf_fans_theory.specs.FaceLists.{IsFaceBy, numbered}
@@ -59,7 +59,7 @@ pub cutting_left : (n : ℕ) (c : Rows) (rows : List (List ℤ)) (i : ℕ) (h : 
     IsNowhereNegative n c h → CutSoFar n c rows i out → CutSoFar n c rows (i + 1) out
 cutting_left n c rows i h out l e up s = record {
   each = s.each;
-  every = λ k b. elim (place k i) [
+  every = λ k b. elim (index k i) [
     | more m ↦ s.every k m
     | at m ↦ inr (subst (λ j. IsNowhereNegative n c (get_or rows j [])) (sym m) (subst (IsNowhereNegative n c) (e ∙ get_or_default rows i h [] l) up))
     | less m ↦ absurd (omega (arith, b, m))
@@ -70,7 +70,7 @@ pub cutting_more : (n : ℕ) (c : Rows) (rows : List (List ℤ)) (i : ℕ) (h : 
     next ≡ out ++ h ∷ [] → CutSoFar n c rows i out → CutSoFar n c rows (i + 1) next
 cutting_more n c rows i h out next l e q s = subst (CutSoFar n c rows (i + 1)) (sym q) (record {
   each = λ t k. elim (Contains-last out h t k) [ inl a ↦ s.each t a | inr g ↦ (i, l, sym (get_or_default rows i h t l) ∙ sym e ∙ sym g) ];
-  every = λ k b. elim (place k i) [
+  every = λ k b. elim (index k i) [
     | more m ↦ elim (s.every k m) [ inl a ↦ inl (first_in out h (get_or rows k []) a) | inr u ↦ inr u ]
     | at m ↦ inl (subst (λ j. Contains (out ++ h ∷ []) (get_or rows j [])) (sym m)
         (subst (Contains (out ++ h ∷ [])) (e ∙ get_or_default rows i h [] l) (Contains-push out h)))

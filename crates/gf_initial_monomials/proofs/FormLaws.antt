@@ -5,7 +5,7 @@ use Rattle.gf_int_theory.proofs.ListLaws.{Contains-last}
 use Rattle.gf_poly.specs.Polynomial.{Terms, HasVariables}
 use Rattle.gf_poly.specs.Marking.{MarkedPolynomial, polys}
 use Rattle.gf_poly.specs.InitialForms.{IsInitialForm}
-use Rattle.gf_buchberger.specs.Jobs.{HaveRingVariables}
+use Rattle.gf_saturate.specs.Tasks.{HaveRingVariables}
 use Rattle.gf_initial_theory.specs.Parts.{Matching, IsInitialPart}
 use Rattle.gf_initial_theory.proofs.MatchingLaws.{matched-push}
 use Rattle.gf_initial_monomials.specs.Outcomes.{AreFormsAt}

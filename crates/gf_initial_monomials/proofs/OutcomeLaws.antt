@@ -24,8 +24,8 @@ pub pass_all : {A : Type 0} (P : A → Type 0) (xs : List A) (i : ℕ) → lengt
 pass_all {A} P xs i l h y c = h y (subst (λ (z : List A). Contains z y) (sym (take_all i xs l)) c)
 
 pub reached : {A : Type 0} (P : A → Type 0) (xs : List A) (i : ℕ) (x : A) → i < length xs → x ≡ get_or xs i x → AllPass P xs i → IsReached P xs x
-reached P xs i x l e h = record { place = i; inside = l; here = sym e; earlier = h }
+reached P xs i x l e h = record { index = i; inside = l; here = sym e; earlier = h }
 
 -- what is reached is in the list
 pub reached_in : {A : Type 0} (P : A → Type 0) (xs : List A) (x : A) → IsReached P xs x → Contains xs x
-reached_in P xs x r = (r.place, r.inside, r.here)
+reached_in P xs x r = (r.index, r.inside, r.here)

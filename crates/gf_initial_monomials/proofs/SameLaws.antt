@@ -1,4 +1,4 @@
--- Terms and lists that are the same, lists up to a place. To cite: same_terms, same_more, same_all.
+-- Terms and lists that are the same, lists up to an index. To cite: same_terms, same_more, same_all.
 use Rattle.std.proofs.Common.{◌≡◌, ◌∙◌, ℕ, ◌+◌, ◌<◌, ◌≤◌, List, [], ◌∷◌, ◌++◌, length, take, get_or, sym, ap}
 use Rattle.std.proofs.lemmas.List.{take_more, take_all}
 use Rattle.gf_poly.specs.declared.Term.{Term}

@@ -5,7 +5,7 @@ use Rattle.gf_poly.specs.Marking.{MarkedPolynomial}
 use Rattle.gf_vec.specs.Vector.{zeros}
 use Rattle.gf_vec.specs.Steps.{NoneWide}
 use Rattle.gf_order.specs.Weights.{AreBounded}
-use Rattle.gf_buchberger.specs.Bases.{IsWantOfMemory}
+use Rattle.gf_saturate.specs.Bases.{IsWantOfMemory}
 use Rattle.gf_saturate.specs.Saturating.{AreStepsWithinLimits}
 use Rattle.gf_duality_theory.specs.Faces.{Rows}
 use Rattle.gf_fans_theory.specs.FaceLists.{numbered}

@@ -4,7 +4,7 @@
 use Rattle.std.specs.Prelude.{◌≡◌, ℕ, ◌++◌, ◌<◌, Bool, true, false, List, ℤ, Option, Some, None, Contains, length, take, slice_index_or}
 use Rattle.gf_poly.specs.Polynomial.{Terms}
 use Rattle.gf_poly.specs.Marking.{MarkedPolynomial, polys}
-use Rattle.gf_buchberger.specs.Jobs.{HaveRingVariables}
+use Rattle.gf_saturate.specs.Tasks.{HaveRingVariables}
 use Rattle.gf_duality_theory.specs.Rays.{IsRays}
 use Rattle.gf_duality_theory.specs.Faces.{Rows, sum_of}
 use Rattle.gf_fans_theory.specs.FaceLists.{numbered}
@@ -48,10 +48,10 @@ TellsMonomial n bs v false = HasNoMonomialAt n bs v
 
 -- x is in the list, and all elements before it pass
 pub record IsReached {A : Type 0} (Passes : A → Type 0) (xs : List A) (x : A) : Type 0 where
-  pub place : ℕ
-  pub inside : place < length xs
-  pub here : slice_index_or xs place x ≡ x
-  pub earlier : (y : A) → Contains (take place xs) y → Passes y
+  pub index : ℕ
+  pub inside : index < length xs
+  pub here : slice_index_or xs index x ≡ x
+  pub earlier : (y : A) → Contains (take index xs) y → Passes y
 
 -- some vector: the first element of the list that doesn't pass fails at this vector. None: all pass
 abbrev pub IsFirstThatFails : {A : Type 0} → (A → Type 0) → (List ℤ → A → Type 0) → List A → Option (List ℤ) → Type 0

@@ -2,8 +2,8 @@
 ghost use Rattle.std.specs.Prelude.{◌≡◌};
 ghost use Rattle.gf_initial_monomials.specs.declared.error.InitialError.TheVariants.{Memory};
 
-use gf_buchberger::BasisError;
 use gf_gordan::{ConeOverflow, GordanError};
+use gf_saturate::BasisError;
 use gf_vec::{VecError, WideVector};
 use std::alloc::{AllocError, AllocFailed};
 

@@ -1,7 +1,7 @@
 //! The initial forms of the members of a basis.
 ghost use Rattle.std.specs.Prelude.{◌≡◌, IfOk, length};
 ghost use Rattle.gf_order.specs.Weights.{AreBounded};
-ghost use Rattle.gf_buchberger.specs.Jobs.{HaveRingVariables};
+ghost use Rattle.gf_saturate.specs.Tasks.{HaveRingVariables};
 ghost use Rattle.gf_initial_monomials.specs.Outcomes.{AreFormsAt};
 
 use gf_poly::{MarkedSet, Poly};

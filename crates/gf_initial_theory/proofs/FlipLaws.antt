@@ -21,7 +21,7 @@ use Rattle.gf_ideal_theory.specs.Bases.{IsBasis, HasReducedTails, AreApart, IsRe
 use Rattle.gf_ideal_theory.specs.WorkLists.{AreReducedTails}
 use Rattle.gf_ideal_theory.proofs.MembershipLaws.{member-equal, variables_of_member}
 use Rattle.gf_ideal_theory.proofs.BasisLaws.{basis_of_groebner_for, basis_along}
-use Rattle.gf_ideal_theory.proofs.InterreductionLaws.{interreduced, reduced-tails, apart-tails, tail-marked, tails-of_place}
+use Rattle.gf_ideal_theory.proofs.InterreductionLaws.{interreduced, reduced-tails, apart-tails, tail-marked, tails-of_index}
 use Rattle.gf_ideal_theory.proofs.ArrangementLaws.{basis-arranged, apart-arranged}
 use Rattle.gf_ideal_theory.proofs.ArrangedLists.{arranged_equal}
 use Rattle.gf_ideal_theory.proofs.DividingLaws.{divisible_itself}
@@ -249,7 +249,7 @@ other_side n fs k bs ps hs ls ks ts cs a v vars r o q lifts twins heads tails mo
   };
   zero = o;
   nonzero = q.nonzero;
-  marked = λ d c. let t = tails-of_place ks ks ts tails d (Contains-permutation cs ts d (IsPermutation-sym ts cs moved) c) in
+  marked = λ d c. let t = tails-of_index ks ks ts tails d (Contains-permutation cs ts d (IsPermutation-sym ts cs moved) c) in
       tail-marked (IsBeyond v a) ks d (beyond-strict v a o q.nonzero) (twins_marked (IsBeyond v a) ls ks (beyond-strict v a o q.nonzero) twins marks) t.2.tail;
 }
   where

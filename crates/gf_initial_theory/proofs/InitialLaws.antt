@@ -124,12 +124,12 @@ remainder_below n fs bs ps w d h r t v basis k match m flat irr x n' = at (three
         ∙ elim (zero_or_not (coefficient h y)) [ inl z ↦ z | inr c ↦ absurd (o (flat y c)) ]
 
     irreducible : IsIrreducible (Contains bs) q
-    irreducible y c j = place (three (whole_weight w y) d)
+    irreducible y c j = index (three (whole_weight w y) d)
       where
-        place : (whole_weight w y <ℤ d) ⊎ ((whole_weight w y ≡ d) ⊎ (d <ℤ whole_weight w y)) → ⊥
-        place (inl l) = c (off y (λ e. absurd (omega (arith, ints, l, e))))
-        place (inr (inl e)) = irr y (λ z. c (on y e ∙ z)) j
-        place (inr (inr l)) = c (off y (λ e. absurd (omega (arith, ints, l, e))))
+        index : (whole_weight w y <ℤ d) ⊎ ((whole_weight w y ≡ d) ⊎ (d <ℤ whole_weight w y)) → ⊥
+        index (inl l) = c (off y (λ e. absurd (omega (arith, ints, l, e))))
+        index (inr (inl e)) = irr y (λ z. c (on y e ∙ z)) j
+        index (inr (inr l)) = c (off y (λ e. absurd (omega (arith, ints, l, e))))
 
     zero : SamePolynomial q []
     zero = parts_decide n fs bs ps w q v basis k match (member-difference n (polys ps) h s.poly m s.member) irreducible

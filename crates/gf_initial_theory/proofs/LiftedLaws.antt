@@ -57,22 +57,22 @@ pub lifted_marked : (n : ℕ) (fs : List Terms) (v a : List ℤ) (h l : MarkedPo
     IsLifted n fs v h l → IsMarked (IsBeyond v a) l
 lifted_marked n fs v a h l mark t = record {
   monic = ap (coefficient l.poly) t.head ∙ sym (t.form.heaviest h.head top) ∙ mark.monic;
-  tail = λ x m. subst (λ (z : Exponents). (same x z ≡ true) ⊎ IsBeyond v a x z) (sym t.head) (place x m (three (whole_weight v x) (whole_weight v h.head)));
+  tail = λ x m. subst (λ (z : Exponents). (same x z ≡ true) ⊎ IsBeyond v a x z) (sym t.head) (index x m (three (whole_weight v x) (whole_weight v h.head)));
 }
   where
     top : IsOfGreatestWeight v l.poly h.head
     top = lifted-heaviest n fs v a h l mark t
 
-    place : (x : Exponents) → HasMonomial l.poly x →
+    index : (x : Exponents) → HasMonomial l.poly x →
         (whole_weight v x <ℤ whole_weight v h.head) ⊎ ((whole_weight v x ≡ whole_weight v h.head) ⊎ (whole_weight v h.head <ℤ whole_weight v x)) →
         (same x h.head ≡ true) ⊎ IsBeyond v a x h.head
-    place x m (inl d) = inr (inl d)
-    place x m (inr (inl e)) = elim (mark.tail x (λ z. m (sym (t.form.heaviest x (λ y k. omega (arith, ints, top y k, e))) ∙ z))) [
+    index x m (inl d) = inr (inl d)
+    index x m (inr (inl e)) = elim (mark.tail x (λ z. m (sym (t.form.heaviest x (λ y k. omega (arith, ints, top y k, e))) ∙ z))) [
       | inl s ↦ inl s
       | inr f ↦
           inr (inr f)
     ]
-    place x m (inr (inr d)) = absurd (omega (arith, ints, d, top x m))
+    index x m (inr (inr d)) = absurd (omega (arith, ints, d, top x m))
 
 -- what lighter terms are taken from is the initial form
 lower-form : (v a : List ℤ) (h l : MarkedPolynomial) (r : Terms) → dot a v ≡ pos 0 → IsMarked (IsFurther a) h →

@@ -1,4 +1,4 @@
--- Lists that match place by place.
+-- Lists that match index by index.
 -- To cite: matched-from, matched-to, matched-map, matched-apart, matched-push.
 use Rattle.std.proofs.Common.{◌≡◌, ◌⊎◌, List, [], ◌∷◌, Contains, arith, sym, subst, inl, inr, ◌++◌}
 use Rattle.gf_exponents_theory.specs.Exponents.{Exponents, NoMultiple}
@@ -34,7 +34,7 @@ matched-to {A} {B} R (w ∷ xs) (z ∷ ys) h x c = at (Contains-cases w x xs c) 
     at (inl e) r = (z, Contains-here z ys, subst (λ (v : A). R v z) e h.0)
     at (inr k) r = let q = r k in (q.0, Contains-there z q.0 ys q.1, q.2)
 
--- what follows at each place
+-- what follows at each index
 pub matched-map : {A B : Type 0} (R S : A → B → Type 0) (xs : List A) (ys : List B) →
     ((x : A) (y : B) → Contains xs x → R x y → S x y) → Matching R xs ys → Matching S xs ys
 matched-map R S [] [] w h = tt
@@ -63,7 +63,7 @@ matched-apart R (b ∷ bs) (c ∷ cs) e h a = (each bs cs h.1 a.0, matched-apart
             let two : NoMultiple p s × NoMultiple s p = subst (λ (z : Exponents). NoMultiple z s × NoMultiple s z) (sym i) k in
             subst (λ (z : Exponents). NoMultiple p z × NoMultiple z p) (sym j) two
 
--- one place more
+-- one index more
 pub matched-push : {A B : Type 0} (R : A → B → Type 0) (xs : List A) (ys : List B) (x : A) (y : B) → Matching R xs ys → R x y →
     Matching R (xs ++ x ∷ []) (ys ++ y ∷ [])
 matched-push R [] [] x y m r = (r, tt)

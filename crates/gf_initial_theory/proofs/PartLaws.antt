@@ -143,7 +143,7 @@ raised n fs bs ps w d m k h q (Spans.more c u f j g i s e) = at (Contains-marked
         IsInRing n u ⊎ (IsInRing n u → ⊥) →
         (whole_weight w (plus u b.head) <ℤ d) ⊎ ((whole_weight w (plus u b.head) ≡ d) ⊎ (d <ℤ whole_weight w (plus u b.head))) →
         IsRaised n fs w d q
-    by p b hb part z r ring place = choose ring place
+    by p b hb part z r ring index = choose ring index
       where
         sum : (x : Exponents) → coefficient q x ≡ coefficient (times c u p.poly) x +ℚ coefficient g x
         sum x = e x ∙ ap (λ y. coefficient (times c u y ++ g) x) (sym z) ∙ coefficient-++ (times c u p.poly) g x

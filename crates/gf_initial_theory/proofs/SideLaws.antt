@@ -150,14 +150,14 @@ parts_marked n fs v a bs ps s h p c = at (matched-from (IsLevelPart v) bs ps h p
     at b = record {
       monic = ap (coefficient p.poly) b.2.head ∙ b.2.level b.0.head refl ∙ (s.marked b.0 b.1).monic;
       tail = λ x m. subst (λ (z : Exponents). (same x z ≡ true) ⊎ IsFurther a x z) (sym b.2.head) (let q = part-there v b.0 p x b.2 m in
-          place x q.0 ((s.marked b.0 b.1).tail x q.1));
+          index x q.0 ((s.marked b.0 b.1).tail x q.1));
     }
       where
-        place : (x : Exponents) → whole_weight v x ≡ whole_weight v b.0.head →
+        index : (x : Exponents) → whole_weight v x ≡ whole_weight v b.0.head →
             (same x b.0.head ≡ true) ⊎ IsBeyond v a x b.0.head → (same x b.0.head ≡ true) ⊎ IsFurther a x b.0.head
-        place x e (inl t) = inl t
-        place x e (inr (inl l)) = absurd (omega (arith, ints, e, l))
-        place x e (inr (inr f)) = inr f
+        index x e (inl t) = inl t
+        index x e (inr (inl l)) = absurd (omega (arith, ints, e, l))
+        index x e (inr (inr f)) = inr f
 
 -- each lies in one class
 pub parts_of_one_class : (n : ℕ) (fs : List Terms) (v a : List ℤ) (bs ps : List MarkedPolynomial) → IsSide n fs v a bs →
@@ -280,12 +280,12 @@ side_further n fs v a b bs cs vars s t h = at (level_parts v bs) (level_parts v 
               contained = d.1;
               at = x;
               there = (part-there v d.0 r x d.2 m).1;
-              further = subst (λ (z : Exponents). IsFurther a x z) d.2.head (place ((parts_marked n fs v a cs q.0 t q.1 r c).tail x m));
+              further = subst (λ (z : Exponents). IsFurther a x z) d.2.head (index ((parts_marked n fs v a cs q.0 t q.1 r c).tail x m));
             }
           where
-            place : (same x r.head ≡ true) ⊎ IsFurther a x r.head → IsFurther a x r.head
-            place (inl y) = absurd (cc)
-            place (inr f) = f
+            index : (same x r.head ≡ true) ⊎ IsFurther a x r.head → IsFurther a x r.head
+            index (inl y) = absurd (cc)
+            index (inr f) = f
 
         vars_ps : AreInVariables n (polys p.0)
         vars_ps = parts-variables n bs p.0 v (λ d c. variables_of_member n fs d.poly vars (s.reduced.basis.members d c)) p.1

@@ -17,7 +17,7 @@ pub record IsLifted (n : ℕ) (fs : List Terms) (v : List ℤ) (h l : MarkedPoly
   pub head : l.head ≡ h.head
   pub form : IsInitialForm v l.poly h.poly
 
--- place by place
+-- index by index
 abbrev pub AreLifted : ℕ → List Terms → List ℤ → List MarkedPolynomial → List MarkedPolynomial → Type 0
 AreLifted n fs v hs ls = Matching (IsLifted n fs v) hs ls
 
@@ -31,7 +31,7 @@ pub record IsLift (bs : List MarkedPolynomial) (h l : MarkedPolynomial) : Type 0
   pub head : l.head ≡ h.head
   pub poly : SamePolynomial l.poly (h.poly ++ times (neg_ℚ one_ℚ) [] remainder)
 
--- place by place
+-- index by index
 abbrev pub AreLifts : List MarkedPolynomial → List MarkedPolynomial → List MarkedPolynomial → Type 0
 AreLifts bs hs ls = Matching (IsLift bs) hs ls
 
@@ -43,6 +43,6 @@ pub record IsTopLift (bs : List MarkedPolynomial) (a : List ℤ) (h l : MarkedPo
   pub head : l.head ≡ h.head
   pub poly : SamePolynomial l.poly (h.poly ++ times (neg_ℚ one_ℚ) [] remainder)
 
--- place by place
+-- index by index
 abbrev pub AreTopLifts : List MarkedPolynomial → List ℤ → List MarkedPolynomial → List MarkedPolynomial → Type 0
 AreTopLifts bs a hs ls = Matching (IsTopLift bs a) hs ls

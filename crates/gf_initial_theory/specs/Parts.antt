@@ -9,7 +9,7 @@ use Rattle.gf_poly.specs.Marking.{MarkedPolynomial}
 use Rattle.gf_poly.specs.InitialForms.{IsInitialForm}
 use Rattle.gf_ideal_theory.specs.OrderTable.{AreMultipleApart}
 
--- the relation holds place by place of two lists of one length
+-- the relation holds index by index of two lists of one length
 abbrev pub Matching : {A B : Type 0} → (A → B → Type 0) → List A → List B → Type 0
 Matching R [] [] = Unit {0}
 Matching R [] (y ∷ ys) = ⊥
@@ -23,7 +23,7 @@ pub record IsInitialPart (w : List ℤ) (b p : MarkedPolynomial) : Type 0 where
   pub head : p.head ≡ b.head
   pub form : IsInitialForm w b.poly p.poly
 
--- place by place
+-- index by index
 abbrev pub AreInitialParts : List ℤ → List MarkedPolynomial → List MarkedPolynomial → Type 0
 AreInitialParts w bs ps = Matching (IsInitialPart w) bs ps
 
@@ -35,6 +35,6 @@ pub record IsPartAlong (a : List ℤ) (b p : MarkedPolynomial) : Type 0 where
   pub along : (x : Exponents) → AreMultipleApart a x b.head → coefficient p.poly x ≡ coefficient b.poly x
   pub off : (x : Exponents) → (AreMultipleApart a x b.head → ⊥) → coefficient p.poly x ≡ zero_ℚ
 
--- place by place
+-- index by index
 abbrev pub ArePartsAlong : List ℤ → List MarkedPolynomial → List MarkedPolynomial → Type 0
 ArePartsAlong a bs ps = Matching (IsPartAlong a) bs ps

@@ -75,6 +75,6 @@ cancel_factor k a b h e =
 pub *ℤ_assoc : (a b c : ℤ) → (a *ℤ b) *ℤ c ≡ a *ℤ (b *ℤ c)
 *ℤ_assoc = each _ (λ a a'. each _ (λ b b'. each _ (λ c c'. simp diffs (diff-eq _ _ _ _ (omega arith)))))
 
--- the two factors in the middle change places
+-- the two factors in the middle change indices
 pub swap_middle : (a b c d : ℤ) → (a *ℤ b) *ℤ (c *ℤ d) ≡ (a *ℤ c) *ℤ (b *ℤ d)
 swap_middle = each _ (λ a a'. each _ (λ b b'. each _ (λ c c'. each _ (λ d d'. simp diffs (diff-eq _ _ _ _ (omega arith))))))

@@ -6,7 +6,7 @@ use Rattle.gf_cone.specs.Crossing.{IsCrossable}
 use Rattle.gf_known_cone.specs.declared.known.Known.{Known}
 use Rattle.gf_known_cone.specs.declared.known.Known.TheVariants.{Open, Yes, No}
 
--- what is known of the normal at a place is true
+-- what is known of the normal at an index is true
 abbrev pub IsRemembered : ConeRows → ℕ → Known → Type 0
 IsRemembered c i Open = Unit {0}
 IsRemembered c i (Yes w) = IsSolution c.variables (other_rows c i) (normal_at c i ∷ []) w

@@ -43,7 +43,7 @@ fn without_entry(
     Ok(vector_of(entries))
 }
 
-/// A direction turned, so that on the way the value of the vector at a place stays.
+/// A direction turned, so that on the way the value of the vector at an index stays.
 ///
 /// # Errors
 /// An operation that leaves the range; want of memory.
@@ -51,14 +51,14 @@ fn turned(
     alloc: Global,
     cone: &Cone,
     direction: &[i128],
-    place: usize,
+    index: usize,
 ) -> Result<Option<IntVec>, VecError> {
     let normals = cone.normals();
-    if let Some(normal) = normals.get(place) {
+    if let Some(normal) = normals.get(index) {
         return without(alloc, direction, normal.as_slice());
     }
     let rows = cone.rows();
-    let behind = place.saturating_sub(normals.len());
+    let behind = index.saturating_sub(normals.len());
     if let Some(row) = rows.get(behind) {
         return without(alloc, direction, row.as_slice());
     }
@@ -66,15 +66,15 @@ fn turned(
     Ok(turned)
 }
 
-/// The place that is to be gone round, where a shot doesn't hit that at `place` alone.
-fn in_the_way(hit: &Hit, place: usize) -> Option<usize> {
-    if hit.place != place {
-        return Some(hit.place);
+/// The index that is to be gone round, where a shot doesn't hit that at `index` alone.
+fn in_the_way(hit: &Hit, index: usize) -> Option<usize> {
+    if hit.index != index {
+        return Some(hit.index);
     }
     hit.tied
 }
 
-/// The point of one of a few shots that hits the normal at a place first, and alone: the first is against the normal, and each other one is turned
+/// The point of one of a few shots that hits the normal at an index first, and alone: the first is against the normal, and each other one is turned
 /// from what the one before hit.
 ///
 /// # Errors
@@ -84,13 +84,13 @@ pub(crate) fn aimed(
     cone: &Cone,
     values: &[i64],
     inner: &[i128],
-    place: usize,
+    index: usize,
 ) -> Result<Option<IntVec>, VecError> {
     let normals = cone.normals();
-    if place >= normals.len() {
+    if index >= normals.len() {
         return Ok(None);
     }
-    let mut direction = normals[place].copy()?;
+    let mut direction = normals[index].copy()?;
     for _ in 0..SHOTS {
         let along = direction.as_slice();
         if along.len() != cone.variables() as usize {
@@ -99,7 +99,7 @@ pub(crate) fn aimed(
         let Some(hit) = first_hit(cone, values, along) else {
             return Ok(None);
         };
-        let next = match in_the_way(&hit, place) {
+        let next = match in_the_way(&hit, index) {
             Some(other) => turned(alloc, cone, along, other)?,
             None => return point_hit(alloc, &hit, inner, along),
         };

@@ -79,7 +79,7 @@ fn open_entries(alloc: Global, count: usize) -> Result<Vec<Known>, AllocError>
     ensures { IfOk result (λ known. (length known.items ≡ count) × ((i : ℕ) (d : Known) → i < count → slice_index_or known.items i d ≡ Known.Open)) }
 {
     let mut known = Vec::with_capacity(alloc, count)?;
-    'places: for _i in 0..count {
+    'indices: for _i in 0..count {
         known.push(Known::Open)?;
     }
     Ok(known)
@@ -130,9 +130,9 @@ impl KnownCone {
                 keys,
             },
         };
-        if let Some(place) = inside.shown {
+        if let Some(index) = inside.shown {
             let copy = witness.copy()?;
-            made.set(place, Known::Yes(copy));
+            made.set(index, Known::Yes(copy));
         }
         Ok(made)
     }
@@ -174,60 +174,60 @@ impl KnownCone {
     }
 
     /// Writes what is known of a normal.
-    pub(crate) fn set(&mut self, place: usize, known: Known)
-        requires place { place < length self.old.normals }
-        requires truth { IsRemembered self.old place known }
+    pub(crate) fn set(&mut self, index: usize, known: Known)
+        requires index { index < length self.old.normals }
+        requires truth { IsRemembered self.old index known }
         ensures { self.new ≡ self.old }
     {
-        self.known[place] = known;
+        self.known[index] = known;
     }
 
     /// What is known of a normal.
-    pub(crate) fn told(&self, place: usize) -> Option<bool>
-        requires { place < length self.now.normals }
-        ensures { IfSome result (λ r. IsTrue r ↔ IsCrossable self.now place) }
+    pub(crate) fn told(&self, index: usize) -> Option<bool>
+        requires { index < length self.now.normals }
+        ensures { IfSome result (λ r. IsTrue r ↔ IsCrossable self.now index) }
     {
-        match &self.known[place] {
+        match &self.known[index] {
             Known::Open => None,
             Known::Yes(_witness) => Some(true),
             Known::No => Some(false),
         }
     }
 
-    /// The vector that shows that a flip may cross the facet of the normal at a place, if one was found: it is positive,
+    /// The vector that shows that a flip may cross the facet of the normal at an index, if one was found: it is positive,
     /// zero on the normal, and positive on all other normals.
-    pub fn witness(&self, place: usize) -> Option<&IntVec>
-        requires { place < length self.now.normals }
-        ensures { IfSome result (λ w. IsSolution self.now.variables (other_rows self.now place) (normal_at self.now place ∷ []) w.now) }
+    pub fn witness(&self, index: usize) -> Option<&IntVec>
+        requires { index < length self.now.normals }
+        ensures { IfSome result (λ w. IsSolution self.now.variables (other_rows self.now index) (normal_at self.now index ∷ []) w.now) }
     {
-        match &self.known[place] {
+        match &self.known[index] {
             Known::Yes(witness) => Some(witness),
             _ => None,
         }
     }
 
-    /// Whether a vector is seen to be zero on the normal at a place and positive on all other rows.
-    pub(crate) fn is_shown_by(&self, place: usize, witness: &IntVec) -> bool
-        requires { place < length self.now.normals }
-        ensures { IsTrue result → IsSolution self.now.variables (other_rows self.now place) (normal_at self.now place ∷ []) witness.now }
+    /// Whether a vector is seen to be zero on the normal at an index and positive on all other rows.
+    pub(crate) fn is_shown_by(&self, index: usize, witness: &IntVec) -> bool
+        requires { index < length self.now.normals }
+        ensures { IsTrue result → IsSolution self.now.variables (other_rows self.now index) (normal_at self.now index ∷ []) witness.now }
     {
         let entries = witness.as_slice();
         if entries.len() != self.variables() as usize {
             return false;
         }
-        shows(&self.cone, place, entries)
+        shows(&self.cone, index, entries)
     }
 
-    /// Remembers a vector that shows that a flip may cross the facet of the normal at a place; one that doesn't is dropped, and so is one of a normal of which
+    /// Remembers a vector that shows that a flip may cross the facet of the normal at an index; one that doesn't is dropped, and so is one of a normal of which
     /// it is known already.
-    pub fn learn(&mut self, place: usize, witness: IntVec)
-        requires { place < length self.old.normals }
+    pub fn learn(&mut self, index: usize, witness: IntVec)
+        requires { index < length self.old.normals }
         ensures { self.new ≡ self.old }
     {
-        if let None = self.told(place)
-            && self.is_shown_by(place, &witness)
+        if let None = self.told(index)
+            && self.is_shown_by(index, &witness)
         {
-            self.set(place, Known::Yes(witness));
+            self.set(index, Known::Yes(witness));
         }
     }
 }

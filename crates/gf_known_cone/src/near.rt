@@ -18,7 +18,7 @@ use std::alloc::{AllocError, Global};
 const LARGEST: i128 = 32768;
 
 /// What is seen of a vector `near` and of a second one by the normals: the least number, so many times `near` less the second is positive on them; and the
-/// place of the one that is zero on `near` where all others are positive, or behind the last where all are positive; none where more of them aren't.
+/// index of the one that is zero on `near` where all others are positive, or behind the last where all are positive; none where more of them aren't.
 #[derive(Clone, Copy)]
 struct Sight {
     factor: i128,
@@ -62,7 +62,7 @@ fn values_by(
     Some((value, slope))
 }
 
-/// The place of the normal that is zero, after that at `k` which gives so much; `none` stands for no normal.
+/// The index of the normal that is zero, after that at `k` which gives so much; `none` stands for no normal.
 fn zero_with(zero: Option<usize>, none: usize, k: usize, value: i128) -> Option<usize>
     ensures { IfSome result (λ z. (zero ≡ Some z × pos 0 <ℤ value) ⊎ (zero ≡ Some none × z ≡ k × value ≡ pos 0)) }
 {
@@ -70,7 +70,7 @@ fn zero_with(zero: Option<usize>, none: usize, k: usize, value: i128) -> Option<
         return zero;
     }
     match zero {
-        Some(place) if place == none && value == 0 => Some(k),
+        Some(index) if index == none && value == 0 => Some(k),
         _ => None,
     }
 }
@@ -118,8 +118,8 @@ fn factor_of_entries(factor: i128, near: &[i128], second: &[i128]) -> Option<i12
     Some(factor)
 }
 
-/// The place of the normal that is zero on a vector, where all other rows are seen to be positive on it: all other normals are.
-fn place_shown(cone: &Cone, near: &[i128], zero: usize) -> Option<usize>
+/// The index of the normal that is zero on a vector, where all other rows are seen to be positive on it: all other normals are.
+fn index_shown(cone: &Cone, near: &[i128], zero: usize) -> Option<usize>
     requires width { length near.now ≡ cone.now.variables }
     requires seen { (k : ℕ) → k < length cone.now.normals → IsShownBy cone.now.normals zero near.now k }
     ensures { IfSome result (IsShownAt cone.now near.now) }
@@ -130,7 +130,7 @@ fn place_shown(cone: &Cone, near: &[i128], zero: usize) -> Option<usize>
     None
 }
 
-/// A point near a vector, and the place of the normal that the vector shows, if it shows one.
+/// A point near a vector, and the index of the normal that the vector shows, if it shows one.
 #[derive(Drop)]
 struct Near {
     point: IntVec,
@@ -159,7 +159,7 @@ fn moved(
         && let Some(point) = point_of(alloc, factor, near, 1, normal)?
     {
         let shown = match seen.zero {
-            Some(zero) => place_shown(cone, near, zero),
+            Some(zero) => index_shown(cone, near, zero),
             None => None,
         };
         return Ok(Some(Near { point, shown }));
@@ -293,7 +293,7 @@ fn kept_small(alloc: Global, cone: &Cone, point: IntVec) -> Option<IntVec>
     }
 }
 
-/// A vector of the inside, what each vector of the cone gives on it, and the place of the normal that a witness shows, if it shows one.
+/// A vector of the inside, what each vector of the cone gives on it, and the index of the normal that a witness shows, if it shows one.
 #[derive(Drop)]
 pub(crate) struct Inside {
     pub(crate) inner: Option<IntVec>,

@@ -19,12 +19,12 @@ pub(crate) enum Guess {
     Spanned(Span),
 }
 
-/// A vector modulo the normal, and its place.
+/// A vector modulo the normal, and its index.
 #[derive(Clone, Copy)]
 struct Flat {
     x: i64,
     y: i64,
-    place: usize,
+    index: usize,
 }
 
 /// The vectors that were looked at are between two, from the one to the left to the other; or three that give zero, with their multipliers.
@@ -73,7 +73,7 @@ fn short(vector: &[i128]) -> Option<[i64; 3]> {
     Some(entries)
 }
 
-/// The vector at a place: one that is kept, or a unit vector behind these.
+/// The vector at an index: one that is kept, or a unit vector behind these.
 fn vector_at(cone: &Cone, k: usize) -> Option<[i64; 3]> {
     let kept = cone.kept();
     if k < kept.len() {
@@ -126,11 +126,11 @@ impl Chart {
     }
 
     /// A vector modulo the normal.
-    fn flat(&self, v: [i64; 3], place: usize) -> Flat {
+    fn flat(&self, v: [i64; 3], index: usize) -> Flat {
         Flat {
             x: self.coordinate(v, self.x),
             y: self.coordinate(v, self.y),
-            place,
+            index,
         }
     }
 
@@ -194,15 +194,15 @@ fn swept(from: Flat, to: Flat, v: Flat) -> Sweep {
 
 /// Three vectors that give zero modulo the normal, as shares in a multiple of it.
 fn span_of(cone: &Cone, chart: &Chart, three: [Flat; 3], times: [i64; 3]) -> Option<Span> {
-    let mut shares = [Share { place: 0, times: 0 }; 3];
+    let mut shares = [Share { index: 0, times: 0 }; 3];
     let mut normal = 0i128;
     let pivot = chart.pivot();
     for k in 0..3 {
-        let v = vector_at(cone, three[k].place)?;
+        let v = vector_at(cone, three[k].index)?;
         let part = i128::from(times[k]).wrapping_mul(i128::from(entry(v, chart.out)));
         normal = normal.wrapping_add(part);
         shares[k] = Share {
-            place: three[k].place,
+            index: three[k].index,
             times: i128::from(times[k]).wrapping_mul(i128::from(pivot.wrapping_abs())),
         };
     }
@@ -226,16 +226,16 @@ fn beside(from: Flat, to: Flat) -> (i64, i64) {
     (to.y.wrapping_sub(from.y), from.x.wrapping_sub(to.x))
 }
 
-/// What shows whether a flip may cross the facet of the normal at a place, in three variables, where entries aren't large.
-pub(crate) fn guessed(alloc: Global, cone: &Cone, place: usize) -> Option<Guess> {
+/// What shows whether a flip may cross the facet of the normal at an index, in three variables, where entries aren't large.
+pub(crate) fn guessed(alloc: Global, cone: &Cone, index: usize) -> Option<Guess> {
     let normals = cone.normals();
-    if cone.variables() != 3 || place >= normals.len() {
+    if cone.variables() != 3 || index >= normals.len() {
         return None;
     }
-    let chart = chart_of(short(normals[place].as_slice())?);
+    let chart = chart_of(short(normals[index].as_slice())?);
     let mut between: Option<(Flat, Flat)> = None;
     for k in 0..cone.len() {
-        if k != place {
+        if k != index {
             let v = chart.flat(vector_at(cone, k)?, k);
             let (from, to) = between.unwrap_or((v, v));
             match swept(from, to, v) {

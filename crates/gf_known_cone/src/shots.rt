@@ -249,19 +249,19 @@ pub(crate) fn values_on(
     Ok(Some(values))
 }
 
-/// Where a shot hits: the place of the vector that becomes zero first, that of another one that does so there, and the point's two weights. Until there is one
+/// Where a shot hits: the index of the vector that becomes zero first, that of another one that does so there, and the point's two weights. Until there is one
 /// the inner weight is 0.
 #[derive(Clone, Copy)]
 pub(crate) struct Hit {
-    pub(crate) place: usize,
+    pub(crate) index: usize,
     pub(crate) tied: Option<usize>,
     pub(crate) inner: i64,
     pub(crate) against: i64,
 }
 
-/// The earlier of a hit and of that of the vector at `place`, whose dot product is `value` with the inner vector and `slope` with the vector shot
-/// against; where both come at once, the hit, tied with `place`. A vector whose slope isn't positive isn't hit.
-fn nearer(hit: Hit, place: usize, value: i64, slope: i64) -> Hit {
+/// The earlier of a hit and of that of the vector at `index`, whose dot product is `value` with the inner vector and `slope` with the vector shot
+/// against; where both come at once, the hit, tied with `index`. A vector whose slope isn't positive isn't hit.
+fn nearer(hit: Hit, index: usize, value: i64, slope: i64) -> Hit {
     if slope <= 0 {
         return hit;
     }
@@ -269,7 +269,7 @@ fn nearer(hit: Hit, place: usize, value: i64, slope: i64) -> Hit {
     let right = i128::from(hit.against).wrapping_mul(i128::from(slope));
     if left < right {
         return Hit {
-            place,
+            index,
             tied: None,
             inner: slope,
             against: value,
@@ -277,14 +277,14 @@ fn nearer(hit: Hit, place: usize, value: i64, slope: i64) -> Hit {
     }
     if left == right {
         return Hit {
-            tied: Some(place),
+            tied: Some(index),
             ..hit
         };
     }
     hit
 }
 
-/// The first of a hit and of the hits of the normals, where the normal at place `k` has the dot product `values[k]` with the inner vector. None where
+/// The first of a hit and of the hits of the normals, where the normal at index `k` has the dot product `values[k]` with the inner vector. None where
 /// its dot product with `against` isn't found in 64 bits, or a value is missing.
 fn hit_normals(
     hit: Hit,
@@ -305,8 +305,8 @@ fn hit_normals(
     Some(hit)
 }
 
-/// The first of a hit and of the hits of the rows of a region, where the row at `k` has the place `first + k` among all vectors, and the dot product
-/// at that place of `values` with the inner vector. None where its dot product with `against` isn't found in 64 bits, or a value is missing.
+/// The first of a hit and of the hits of the rows of a region, where the row at `k` has the index `first + k` among all vectors, and the dot product
+/// at that index of `values` with the inner vector. None where its dot product with `against` isn't found in 64 bits, or a value is missing.
 fn hit_rows(
     hit: Hit,
     rows: &[IntVec],
@@ -319,19 +319,19 @@ fn hit_rows(
     let mut hit = hit;
     for k in 0..rows.len() {
         let slope = row_on(&rows[k], against)?;
-        let place = first.saturating_add(k);
-        hit = nearer(hit, place, *values.get(place)?, slope);
+        let index = first.saturating_add(k);
+        hit = nearer(hit, index, *values.get(index)?, slope);
     }
     Some(hit)
 }
 
-/// The first of a hit and of the hits of the unit vectors, where that of the entry at `k` has the place `first + k` among all vectors, and the dot
-/// product at that place of `values` with the inner vector. None where an entry of `against` has more than 64 bits, or a value is missing.
+/// The first of a hit and of the hits of the unit vectors, where that of the entry at `k` has the index `first + k` among all vectors, and the dot
+/// product at that index of `values` with the inner vector. None where an entry of `against` has more than 64 bits, or a value is missing.
 fn hit_entries(hit: Hit, first: usize, values: &[i64], against: &[i128]) -> Option<Hit> {
     let mut hit = hit;
     for (k, x) in against.iter().enumerate() {
-        let place = first.saturating_add(k);
-        hit = nearer(hit, place, *values.get(place)?, narrowed(*x)?);
+        let index = first.saturating_add(k);
+        hit = nearer(hit, index, *values.get(index)?, narrowed(*x)?);
     }
     Some(hit)
 }
@@ -344,7 +344,7 @@ pub(crate) fn first_hit(cone: &Cone, values: &[i64], against: &[i128]) -> Option
     let normals = cone.normals();
     let rows = cone.rows();
     let none = Hit {
-        place: 0,
+        index: 0,
         tied: None,
         inner: 0,
         against: 1,

@@ -114,17 +114,17 @@ fn normal_keys(
     Ok(keys)
 }
 
-/// A vector's key, and its place.
+/// A vector's key, and its index.
 pub(crate) type Keyed = (i64, usize);
 
-/// The keys of a cone's vectors: by their places, and in order.
+/// The keys of a cone's vectors: by their indices, and in order.
 #[derive(Drop)]
 pub(crate) struct Keys {
     placed: Vec<i64>,
     ordered: Vec<Keyed>,
 }
 
-/// Keys with their places: those of the first `count`, into which those from `units` on are merged, the last of them first, and then
+/// Keys with their indices: those of the first `count`, into which those from `units` on are merged, the last of them first, and then
 /// the ones between.
 ///
 /// # Errors
@@ -192,10 +192,10 @@ pub(crate) fn keys_of(alloc: Global, cone: &Cone) -> Result<Keys, AllocError> {
     Ok(Keys { placed, ordered })
 }
 
-/// Two places whose keys have the key of the vector at a place as their sum.
-pub(crate) fn two_places(all: &Keys, place: usize) -> Option<(usize, usize)> {
+/// Two indices whose keys have the key of the vector at an index as their sum.
+pub(crate) fn two_indices(all: &Keys, index: usize) -> Option<(usize, usize)> {
     let keys = all.ordered.as_slice();
-    let target = *all.placed.get(place)?;
+    let target = *all.placed.get(index)?;
     if keys.len() < 2 {
         return None;
     }
@@ -203,7 +203,7 @@ pub(crate) fn two_places(all: &Keys, place: usize) -> Option<(usize, usize)> {
     let mut high = keys.len() - 1;
     let (mut first, _) = keys[low];
     let (mut second, _) = keys[high];
-    'places: while low < high {
+    'indices: while low < high {
         let sum = first.wrapping_add(second);
         if sum < target {
             low += 1;

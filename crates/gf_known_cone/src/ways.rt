@@ -4,7 +4,7 @@ ghost use Rattle.gf_gordan.specs.Alternative.{IsSolution};
 ghost use Rattle.gf_gordan.specs.Steps.{Failed};
 ghost use Rattle.gf_gordan.specs.Sizes.{HaveEntriesUpTo};
 ghost use Rattle.gf_gordan.specs.declared.error.GordanError.TheVariants.{Memory};
-ghost use Rattle.gf_facets_theory.specs.LexPositive.{IsNegative};
+ghost use Rattle.gf_cone.specs.LexPositive.{IsNegative};
 ghost use Rattle.gf_cone.specs.Cones.{all_rows, normal_at, other_rows};
 ghost use Rattle.gf_cone.specs.Answers.{IsNormalStep};
 ghost use Rattle.gf_known_cone.specs.Ways.{LeadsUpAt, IsLeastUp, IsWayFrom, IsWayShown, SomeUpBefore, IsStepBefore};
@@ -15,87 +15,87 @@ use gf_gordan::GordanError;
 use gf_vec::IntVec;
 use std::cmp::Ordering;
 
-/// The place of a normal, and a positive vector that is zero on it and positive on all other normals.
+/// The index of a normal, and a positive vector that is zero on it and positive on all other normals.
 #[derive(Drop)]
 pub struct Way {
-    pub place: usize,
+    pub index: usize,
     pub witness: IntVec,
 }
 
 impl KnownCone {
-    /// Whether the normal at a place is negative at the root of a region.
-    fn is_negative(&self, place: usize, region: &Region) -> bool
-        requires place { place < length self.now.normals }
+    /// Whether the normal at an index is negative at the root of a region.
+    fn is_negative(&self, index: usize, region: &Region) -> bool
+        requires index { index < length self.now.normals }
         requires width { length region.now.root ≡ self.now.variables }
-        ensures { IsTrue result ↔ IsNegative region.now.root (normal_at self.now place) }
+        ensures { IsTrue result ↔ IsNegative region.now.root (normal_at self.now index) }
     {
-        matches!(region.sign(&self.normals()[place]), Ordering::Less)
+        matches!(region.sign(&self.normals()[index]), Ordering::Less)
     }
 
-    /// Whether the normal at a place is negative at the root, and a flip may cross its facet.
+    /// Whether the normal at an index is negative at the root, and a flip may cross its facet.
     ///
     /// # Errors
-    /// What `is_flippable` refuses at this place.
-    fn leads_up(&mut self, place: usize, region: &Region) -> Result<bool, GordanError>
-        requires place { place < length self.old.normals }
+    /// What `is_flippable` refuses at this index.
+    fn leads_up(&mut self, index: usize, region: &Region) -> Result<bool, GordanError>
+        requires index { index < length self.old.normals }
         requires width { length region.now.root ≡ self.old.variables }
         ensures same { self.new ≡ self.old }
-        ensures ok { IfOk result (λ r. IsTrue r ↔ LeadsUpAt region.now.root self.old place) }
-        ensures err { IfErr result (Failed (IsNormalStep self.old.variables (other_rows self.old place) (normal_at self.old place))) }
+        ensures ok { IfOk result (λ r. IsTrue r ↔ LeadsUpAt region.now.root self.old index) }
+        ensures err { IfErr result (Failed (IsNormalStep self.old.variables (other_rows self.old index) (normal_at self.old index))) }
         // no step leaves the range with three variables and entries up to 500
         ensures three_columns { self.old.variables ≤ 3 → HaveEntriesUpTo 500 (all_rows self.old) → IfErr result (λ e. e ≡ Memory) }
     {
-        if self.is_negative(place, region) {
-            self.decided(place)
+        if self.is_negative(index, region) {
+            self.decided(index)
         } else {
             Ok(false)
         }
     }
 
-    /// Whether the normal at a place is known to lead up.
-    fn is_known_to_lead_up(&self, place: usize, region: &Region) -> bool
-        requires place { place < length self.now.normals }
+    /// Whether the normal at an index is known to lead up.
+    fn is_known_to_lead_up(&self, index: usize, region: &Region) -> bool
+        requires index { index < length self.now.normals }
         requires width { length region.now.root ≡ self.now.variables }
-        ensures { IsTrue result → LeadsUpAt region.now.root self.now place }
+        ensures { IsTrue result → LeadsUpAt region.now.root self.now index }
     {
-        if let Some(true) = self.told(place) {
-            self.is_negative(place, region)
+        if let Some(true) = self.told(index) {
+            self.is_negative(index, region)
         } else {
             false
         }
     }
 
-    /// Whether nothing is known of the normal at a place, and it is negative at the root.
-    fn is_candidate(&self, place: usize, region: &Region) -> bool
-        requires place { place < length self.now.normals }
+    /// Whether nothing is known of the normal at an index, and it is negative at the root.
+    fn is_candidate(&self, index: usize, region: &Region) -> bool
+        requires index { index < length self.now.normals }
         requires width { length region.now.root ≡ self.now.variables }
     {
-        if let None = self.told(place) {
-            self.is_negative(place, region)
+        if let None = self.told(index) {
+            self.is_negative(index, region)
         } else {
             false
         }
     }
 
-    /// Looks for a normal before a place that leads up by what is known, and by sums of two for all of them.
+    /// Looks for a normal before an index that leads up by what is known, and by sums of two for all of them.
     fn sum_before(&mut self, end: usize, region: &Region) -> bool
         requires end { end ≤ length self.old.normals }
         requires width { length region.now.root ≡ self.old.variables }
         ensures same { self.new ≡ self.old }
         ensures found { IsTrue result → SomeUpBefore region.now.root self.old end }
     {
-        for place in 0..end {
-            if self.is_known_to_lead_up(place, region) {
+        for index in 0..end {
+            if self.is_known_to_lead_up(index, region) {
                 return true;
             }
-            if self.is_candidate(place, region) {
-                self.look_for_sum(place);
+            if self.is_candidate(index, region) {
+                self.look_for_sum(index);
             }
         }
         false
     }
 
-    /// Looks for a normal before a place that leads up by shots against those of which nothing is known.
+    /// Looks for a normal before an index that leads up by shots against those of which nothing is known.
     fn shots_before(&mut self, end: usize, region: &Region) -> bool
         requires end { end ≤ length self.old.normals }
         requires width { length region.now.root ≡ self.old.variables }
@@ -105,9 +105,9 @@ impl KnownCone {
         if self.variables() == 3 {
             return false;
         }
-        for place in 0..end {
-            if self.is_candidate(place, region) {
-                match self.shoot(place) {
+        for index in 0..end {
+            if self.is_candidate(index, region) {
+                match self.shoot(index) {
                     Some(hit) => {
                         if hit < end && self.is_known_to_lead_up(hit, region) {
                             return true;
@@ -120,7 +120,7 @@ impl KnownCone {
         false
     }
 
-    /// Whether some normal before a place leads up: a flip may cross its facet, and it is negative at the root of the region.
+    /// Whether some normal before an index leads up: a flip may cross its facet, and it is negative at the root of the region.
     ///
     /// It ends at the first such normal that is found: by what is known, by sums of two and shots for all of them, and only
     /// then by their systems.
@@ -142,15 +142,15 @@ impl KnownCone {
         if self.shots_before(end, region) {
             return Ok(true);
         }
-        for place in 0..end {
-            if self.leads_up(place, region)? {
+        for index in 0..end {
+            if self.leads_up(index, region)? {
                 return Ok(true);
             }
         }
         Ok(false)
     }
 
-    /// The place of the least normal that leads up: a flip may cross its facet, and it is negative at the root of the region.
+    /// The index of the least normal that leads up: a flip may cross its facet, and it is negative at the root of the region.
     ///
     /// # Errors
     /// `Cone` names a step of the system of one of the normals that leaves the range; `Memory` may come at any time.
@@ -162,59 +162,59 @@ impl KnownCone {
         // no step leaves the range with three variables and entries up to 500
         ensures three_columns { self.old.variables ≤ 3 → HaveEntriesUpTo 500 (all_rows self.old) → IfErr result (λ e. e ≡ Memory) }
     {
-        for place in 0..self.normals().len() {
-            if self.leads_up(place, region)? {
-                return Ok(Some(place));
+        for index in 0..self.normals().len() {
+            if self.leads_up(index, region)? {
+                return Ok(Some(index));
             }
         }
         Ok(None)
     }
 
-    /// Whether the normal at a place is the least that leads up.
+    /// Whether the normal at an index is the least that leads up.
     ///
     /// # Errors
     /// `Cone` names a step of the system of this normal or of one before it that leaves the range; `Memory` may come at any
     /// time.
-    pub fn is_way_up(&mut self, place: usize, region: &Region) -> Result<bool, GordanError>
-        requires place { place < length self.old.normals }
+    pub fn is_way_up(&mut self, index: usize, region: &Region) -> Result<bool, GordanError>
+        requires index { index < length self.old.normals }
         requires width { length region.now.root ≡ self.old.variables }
         ensures same { self.new ≡ self.old }
-        ensures ok { IfOk result (λ r. IsTrue r ↔ IsLeastUp region.now.root self.old place) }
-        ensures err { IfErr result (Failed (IsStepBefore self.old (place + 1))) }
+        ensures ok { IfOk result (λ r. IsTrue r ↔ IsLeastUp region.now.root self.old index) }
+        ensures err { IfErr result (Failed (IsStepBefore self.old (index + 1))) }
         // no step leaves the range with three variables and entries up to 500
         ensures three_columns { self.old.variables ≤ 3 → HaveEntriesUpTo 500 (all_rows self.old) → IfErr result (λ e. e ≡ Memory) }
     {
-        if !self.leads_up(place, region)? {
+        if !self.leads_up(index, region)? {
             return Ok(false);
         }
-        if self.some_leads_up_before(place, region)? {
+        if self.some_leads_up_before(index, region)? {
             return Ok(false);
         }
         Ok(true)
     }
 
-    /// What `crossing` answers where the normal at a place is negative at the root, else none.
+    /// What `crossing` answers where the normal at an index is negative at the root, else none.
     ///
     /// # Errors
-    /// What `is_flippable` refuses at this place.
-    fn upward(&self, place: usize, region: &Region) -> Result<Option<IntVec>, GordanError>
-        requires place { place < length self.now.normals }
+    /// What `is_flippable` refuses at this index.
+    fn upward(&self, index: usize, region: &Region) -> Result<Option<IntVec>, GordanError>
+        requires index { index < length self.now.normals }
         requires width { length region.now.root ≡ self.now.variables }
-        ensures leads { IfOk result (λ o. IfSome o (λ _. LeadsUpAt region.now.root self.now place)) }
-        ensures yes { IfOk result (λ o. IfSome o (IsSolution self.now.variables (other_rows self.now place) (normal_at self.now place ∷ []))) }
-        ensures no { IfOk result (λ o. IsNone o → LeadsUpAt region.now.root self.now place → ⊥) }
-        ensures err { IfErr result (Failed (IsNormalStep self.now.variables (other_rows self.now place) (normal_at self.now place))) }
+        ensures leads { IfOk result (λ o. IfSome o (λ _. LeadsUpAt region.now.root self.now index)) }
+        ensures yes { IfOk result (λ o. IfSome o (IsSolution self.now.variables (other_rows self.now index) (normal_at self.now index ∷ []))) }
+        ensures no { IfOk result (λ o. IsNone o → LeadsUpAt region.now.root self.now index → ⊥) }
+        ensures err { IfErr result (Failed (IsNormalStep self.now.variables (other_rows self.now index) (normal_at self.now index))) }
         // no step leaves the range with three variables and entries up to 500
         ensures three_columns { self.now.variables ≤ 3 → HaveEntriesUpTo 500 (all_rows self.now) → IfErr result (λ e. e ≡ Memory) }
     {
-        if self.is_negative(place, region) {
-            self.found(place)
+        if self.is_negative(index, region) {
+            self.found(index)
         } else {
             Ok(None)
         }
     }
 
-    /// The place of the least normal that leads up, as `way_up` tells it, and a vector that shows that a flip may cross its
+    /// The index of the least normal that leads up, as `way_up` tells it, and a vector that shows that a flip may cross its
     /// facet. Nothing is learned.
     ///
     /// # Errors
@@ -226,9 +226,9 @@ impl KnownCone {
         // no step leaves the range with three variables and entries up to 500
         ensures three_columns { self.now.variables ≤ 3 → HaveEntriesUpTo 500 (all_rows self.now) → IfErr result (λ e. e ≡ Memory) }
     {
-        for place in 0..self.normals().len() {
-            if let Some(witness) = self.upward(place, region)? {
-                return Ok(Some(Way { place, witness }));
+        for index in 0..self.normals().len() {
+            if let Some(witness) = self.upward(index, region)? {
+                return Ok(Some(Way { index, witness }));
             }
         }
         Ok(None)

@@ -7,7 +7,7 @@ use Rattle.gf_int_theory.proofs.ListLaws.{Contains-here, Contains-last}
 use Rattle.gf_vec.specs.Vector.{dot}
 use Rattle.gf_gordan.specs.Alternative.{AreRows}
 use Rattle.gf_duality_theory.specs.Faces.{Rows, IsInCone, SameCone}
-use Rattle.gf_duality_theory.proofs.ListLaws.{none_in, in_cons, in_tail, first_in, place, less, at, more}
+use Rattle.gf_duality_theory.proofs.ListLaws.{none_in, in_cons, in_tail, first_in, index, less, at, more}
 use Rattle.gf_fans_theory.specs.Fans.{meet}
 use Rattle.gf_fans_theory.proofs.Meeting.{left_in, right_in}
 use Rattle.gf_fans_theory.proofs.FanLaws.{both_in}
@@ -75,7 +75,7 @@ to_pair n A i j c v w l m lv iv t e = both_in c (pair_rows A i j) v iv (((pair_i
 
 -- ---- parts on which one point is highest
 
--- a point that is nowhere below those at some places is nowhere below any one, where each is nowhere above one of those
+-- a point that is nowhere below those at some indices is nowhere below any one, where each is nowhere above one of those
 pub over_top : (n : ℕ) (A : List (List ℤ)) (t : ℕ) (tops : List ℕ) (c s : Rows) (v : List ℤ) → AreTops n A c tops → IsPartOver n A t tops c s →
     length v ≡ n → IsInCone s v → IsInCone c v × IsTopAt A t v
 over_top n A t tops c s v a o lv iv =
@@ -132,7 +132,7 @@ cut_one n A c s p q tops t w a inside l o same e = record {
 
 cut_two : (n : ℕ) (A : List (List ℤ)) (c s p : Rows) (tops : List ℕ) (t x : ℕ) → AreRows n A → AreTops n A c tops → All (λ x. x < length A) tops →
     t < length A → x < length A → x ≢ t → IsPartOver n A t tops c s → IsTiePart n A t x s p → IsCutBy Two n A (c ∷ []) p
-cut_two n A c s p tops t x w a inside l lx d o tie = elim (place t x) [
+cut_two n A c s p tops t x w a inside l lx d o tie = elim (index t x) [
   | at e ↦ absurd (d (sym e))
   | more g ↦ record {
     first = c;
@@ -213,7 +213,7 @@ held_two n A c out tops i j w a inside all l m =
             (omega (arith, ints, low, ky)),
       ),
     ) in
-    elim (place i y.0) [
+    elim (index i y.0) [
       | less g ↦ other (λ e. omega (arith, g, e))
       | more g ↦ other (λ e. omega (arith, g, e))
       | at g ↦

@@ -1,6 +1,6 @@
 -- What the code of a flip meets, from its crossing on: the reduced basis of the parts, and what lifts of it lead to.
 -- To cite: crossing_width, crossing_nonzero, crossing_weight, parts_of, monic_parts, liftable, AreEverLifted, ever_lifted, ever_topped, lifts_marked,
--- realisable, lifts_apart, one_place, needed_same, neighbour, have_at, realisable_at, neighbour_at.
+-- realisable, lifts_apart, one_index, needed_same, neighbour, have_at, realisable_at, neighbour_at.
 use Rattle.std.specs.Prelude.{◌≡◌, ℕ, zero, suc, ◌<◌, true, false, List, [], ◌∷◌, ◌++◌, length, slice_index_or, Contains, IsPermutation, ℤ}
 use Rattle.std.proofs.Common.{arith, refl, sym, ap, ◌∙◌, subst}
 use Rattle.gf_frac.specs.Fraction.{Fraction, ◌+ℚ◌, neg_ℚ, zero_ℚ, one_ℚ}
@@ -25,14 +25,14 @@ use Rattle.gf_facets_theory.specs.Regions.{Region}
 use Rattle.gf_facets_theory.specs.Facets.{IsFlippable}
 use Rattle.gf_facets_theory.specs.MarkedBases.{IsBasisInRegion}
 use Rattle.gf_facets_theory.proofs.NormalLaws.{normal-length, normal-nonzero}
-use Rattle.gf_bases_theory.proofs.DifferenceLaws.{difference, less_summand}
+use Rattle.gf_initial_theory.proofs.DifferenceLaws.{difference, less_summand}
 use Rattle.gf_initial_theory.specs.Lifts.{AreLifts, IsLifted, AreLifted, AreTopLifts}
 use Rattle.gf_initial_theory.proofs.MatchingLaws.{matched-apart}
 use Rattle.gf_initial_theory.proofs.LiftedLaws.{lifted_of_lift, lifted_marked, lifted_basis}
 use Rattle.gf_initial_theory.proofs.SideLaws.{side-weak}
 use Rattle.gf_initial_theory.proofs.FlipLaws.{ArePartFacts, part_facts, lifted_all, lifted_tops, crossed}
-use Rattle.gf_lines.specs.Along.{HasNonzero, IsBasisOfParts}
-use Rattle.gf_lines.specs.Members.{AreMonic}
+use Rattle.gf_strands.specs.Along.{HasNonzero, IsBasisOfParts}
+use Rattle.gf_strands.specs.Members.{AreMonic}
 use Rattle.gf_lifts.specs.Crossings.{IsCrossing, IsNeighbour}
 use Rattle.gf_lifts.specs.Lifting.{AreLiftable}
 
@@ -151,16 +151,16 @@ not_multiple : (x y : Exponents) → NoMultiple x y → Divides x y → ⊥
 not_multiple x y n d = let f : same y (plus x d.rest) ≡ false = n d.rest in let t : same y (plus x d.rest) ≡ true =
     ap (same y) (plus_comm x d.rest) ∙ d.product in absurd (cc)
 
-pub one_place : (bs : List MarkedPolynomial) (i j : ℕ) (b c : MarkedPolynomial) → AreApart bs → IsAt bs i b → IsAt bs j c →
+pub one_index : (bs : List MarkedPolynomial) (i j : ℕ) (b c : MarkedPolynomial) → AreApart bs → IsAt bs i b → IsAt bs j c →
     Divides c.head b.head → i ≡ j
-one_place [] i j b c a p q d = absurd (omega (arith, p.within))
-one_place (e ∷ bs) zero zero b c a p q d = refl
-one_place (e ∷ bs) zero (suc j) b c a p q d = absurd (not_multiple c.head b.head (subst (λ (z : MarkedPolynomial). NoMultiple c.head z.head) p.is
+one_index [] i j b c a p q d = absurd (omega (arith, p.within))
+one_index (e ∷ bs) zero zero b c a p q d = refl
+one_index (e ∷ bs) zero (suc j) b c a p q d = absurd (not_multiple c.head b.head (subst (λ (z : MarkedPolynomial). NoMultiple c.head z.head) p.is
     (contained_each (λ (z : MarkedPolynomial). NoMultiple e.head z.head × NoMultiple z.head e.head) bs a.0 c (j, omega (arith, q.within), q.is)).1) d)
-one_place (e ∷ bs) (suc i) zero b c a p q d = absurd (not_multiple c.head b.head (subst (λ (z : MarkedPolynomial). NoMultiple z.head b.head) q.is
+one_index (e ∷ bs) (suc i) zero b c a p q d = absurd (not_multiple c.head b.head (subst (λ (z : MarkedPolynomial). NoMultiple z.head b.head) q.is
     (contained_each (λ (z : MarkedPolynomial). NoMultiple e.head z.head × NoMultiple z.head e.head) bs a.0 b (i, omega (arith, p.within), p.is)).0) d)
-one_place (e ∷ bs) (suc i) (suc j) b c a p q d =
-    ap suc (one_place bs i j b c a.1 (record { within = omega (arith, p.within); is = p.is }) (record { within = omega (arith, q.within); is = q.is }) d)
+one_index (e ∷ bs) (suc i) (suc j) b c a p q d =
+    ap suc (one_index bs i j b c a.1 (record { within = omega (arith, p.within); is = p.is }) (record { within = omega (arith, q.within); is = q.is }) d)
 
 itself : (b c : MarkedPolynomial) → c ≡ b → IsTwin b c
 itself b c e = subst (λ (z : MarkedPolynomial). IsTwin b z) (sym e) (record { head = same-refl b.head; poly = λ x. refl })
@@ -170,12 +170,12 @@ pub needed_same : (bs ks : List MarkedPolynomial) → AreApart bs → AreMonic b
 needed_same bs ks a one n = record {
   there = λ b k. let f = n.all k.0 b (needed k.0 b (record { within = k.1; is = k.2 })) in (f.0, f.1, itself b f.0 (f.2.kept (one b k)));
   back = λ c k. let f = n.inside c k in
-      let q : Contains bs f.member = (f.place, f.needed.at.within, f.needed.at.is) in
+      let q : Contains bs f.member = (f.index, f.needed.at.within, f.needed.at.is) in
       (f.member, q, itself f.member c (f.form.kept (one f.member q)));
 }
   where
     needed : (i : ℕ) (b : MarkedPolynomial) → IsAt bs i b → IsNeeded bs i b
-    needed i b p = record { at = p; least = λ j c q d. let e = one_place bs i j b c a p q d in (same_at i j b c p q e, omega (arith, e)) }
+    needed i b p = record { at = p; least = λ j c q d. let e = one_index bs i j b c a p q d in (same_at i j b c p q e, omega (arith, e)) }
       where
         same_at : (i j : ℕ) (b c : MarkedPolynomial) → IsAt bs i b → IsAt bs j c → i ≡ j → same c.head b.head ≡ true
         same_at i j b c p q e = subst (λ (z : MarkedPolynomial). same z.head b.head ≡ true) (equal bs i j b c p.within p.is q.is e) (same-refl b.head)

@@ -15,7 +15,7 @@ use Rattle.gf_ideal_theory.proofs.NormalFormLaws.{normal_form-reached}
 use Rattle.gf_ideal_theory.proofs.ListLaws.{Each-++}
 use Rattle.gf_initial_theory.specs.Lifts.{IsLift, AreLifts}
 use Rattle.gf_initial_theory.proofs.MatchingLaws.{matched-push}
-use Rattle.gf_bases_theory.proofs.DifferenceLaws.{difference, less_zero}
+use Rattle.gf_initial_theory.proofs.DifferenceLaws.{difference, less_zero}
 use Rattle.gf_lifts.specs.Lifting.{IsLiftable}
 
 -- ---- one
@@ -62,16 +62,16 @@ variables_at : (n : ℕ) (h : MarkedPolynomial) (g r p : Terms) → g ≡ h.poly
 variables_at n h g r p e k v w = k.at n (subst (HasVariables n) (sym e) v) w
 
 -- the difference has the variables
-pub place_variables : (n : ℕ) (h : MarkedPolynomial) (g r p t : Terms) (x : Exponents) → g ≡ h.poly → KeepsBothVariables g r p → HasVariables n h.poly →
+pub index_variables : (n : ℕ) (h : MarkedPolynomial) (g r p t : Terms) (x : Exponents) → g ≡ h.poly → KeepsBothVariables g r p → HasVariables n h.poly →
     HasVariables n r → t ≡ p → x ≡ h.head → HasMarkedTerm h → HasVariables (length x) t
-place_variables n h g r p t x e k v w q f m =
+index_variables n h g r p t x e k v w q f m =
     let l : n ≡ length x = sym (ap (λ (z : Exponents). length z) f ∙ head_length n h v m) in
     subst (λ (z : Terms). HasVariables (length x) z) (sym q) (subst (λ (z : ℕ). HasVariables z p) l (variables_at n h g r p e k v w))
 
 -- the mark is one of its monomials
-pub place_there : (bs : List MarkedPolynomial) (h : MarkedPolynomial) (f g r p t : Terms) (x : Exponents) → f ≡ h.poly → g ≡ h.poly → IsLiftable bs h →
+pub index_there : (bs : List MarkedPolynomial) (h : MarkedPolynomial) (f g r p t : Terms) (x : Exponents) → f ≡ h.poly → g ≡ h.poly → IsLiftable bs h →
     IsNormalForm bs f r → IsDifference g r p → t ≡ p → x ≡ h.head → HasMonomial t x
-place_there bs h f g r p t x e d l n i q y z =
+index_there bs h f g r p t x e d l n i q y z =
     lift_there bs h r p l (subst (λ (w : Terms). IsNormalForm bs w r) e n) (subst (λ (w : Terms). IsDifference w r p) d i)
     (ap (λ (w : Terms). coefficient w h.head) (sym q) ∙ ap (λ (w : Exponents). coefficient t w) (sym y) ∙ z)
 

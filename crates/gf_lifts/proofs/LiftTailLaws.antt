@@ -20,7 +20,7 @@ use Rattle.gf_division.proofs.StepLaws.{head_length}
 use Rattle.gf_division.proofs.TailLaws.{head_at}
 use Rattle.gf_initial_theory.proofs.MatchingLaws.{matched-push}
 use Rattle.gf_lifts.specs.LiftTails.{IsCopy, AreCopies, AreCopiedTo, AreSparedBeside, AreUndivided, HasUndividedTail, HasUndividedTailAt}
-use Rattle.gf_lines.specs.Members.{HasReducedTail}
+use Rattle.gf_strands.specs.Members.{HasReducedTail}
 
 -- ---- where the lifts are that aren't copied
 
@@ -31,7 +31,7 @@ copied_to-more flags j e h k l = at (cases_lt k j)
     at (inl m) = h k m
     at (inr m) = subst (λ (z : ℕ). get_or flags z false ≡ true) (omega (arith, l, m)) e
 
--- before the first place of those that are tried nothing divides that is tried
+-- before the first index of those that are tried nothing divides that is tried
 pub undivided-start : (ls : List MarkedPolynomial) (flags : List Bool) (copied : Bool) (x : Exponents) (first end : ℕ) →
     AreSparedBeside flags copied first end → AreUndivided ls flags copied x first
 undivided-start ls flags copied x first end s = record { none = λ j b l a n d. n (s.front j l).0 (s.front j l).1 }
@@ -52,7 +52,7 @@ undivided-end ls flags copied x first end i e s l u = record { none = λ j b m a
 abbrev pub IsPassed : List MarkedPolynomial → List Bool → Bool → Exponents → Term → Type 0
 IsPassed ls flags copied x t = (same t.mono x ≡ true) ⊎ AreUndivided ls flags copied t.mono (length ls)
 
--- so are the terms before the place k
+-- so are the terms before the index k
 abbrev pub ArePassed : List MarkedPolynomial → List Bool → Bool → Exponents → ℕ → Terms → Type 0
 ArePassed ls flags copied x k f = Each (IsPassed ls flags copied x) (take k f)
 
@@ -122,8 +122,8 @@ pub stay_reduced : (bs ls : List MarkedPolynomial) (flags : List Bool) (i : ℕ)
     HasUndividedTail ls flags (get_or flags i false) b → IsAt ls i b → HasReducedTail ls b
 stay_reduced bs ls flags i b r h u a x m d = at (listed (IsPassed ls flags (get_or flags i false) b.head) b.poly x u m)
   where
-    place : IsAt ls d.contained.0 d.member
-    place = record { within = d.contained.1; is = d.contained.2 }
+    index : IsAt ls d.contained.0 d.member
+    index = record { within = d.contained.1; is = d.contained.2 }
 
     at : (t : Term) × IsPassed ls flags (get_or flags i false) b.head t × (same x t.mono ≡ true) → same x b.head ≡ true
     at t = by t.1
@@ -134,9 +134,9 @@ stay_reduced bs ls flags i b r h u a x m d = at (listed (IsPassed ls flags (get_
         both : AreUndivided ls flags (get_or flags i false) t.0.mono (length ls) → (p : Bool) → get_or flags i false ≡ p → (q : Bool) →
             get_or flags d.contained.0 false ≡ q → same x b.head ≡ true
         both n true e true f = r b (copied_at bs ls flags i b h a e) x m
-            (record { member = d.member; contained = copied_at bs ls flags d.contained.0 d.member h place f; rest = d.rest; divides = d.divides })
-        both n true e false f = absurd (n.none d.contained.0 d.member d.contained.1 place (λ s t. absurd (false≢true (sym f ∙ t))) over)
-        both n false e q f = absurd (n.none d.contained.0 d.member d.contained.1 place (λ s t. absurd (false≢true (sym e ∙ s))) over)
+            (record { member = d.member; contained = copied_at bs ls flags d.contained.0 d.member h index f; rest = d.rest; divides = d.divides })
+        both n true e false f = absurd (n.none d.contained.0 d.member d.contained.1 index (λ s t. absurd (false≢true (sym f ∙ t))) over)
+        both n false e q f = absurd (n.none d.contained.0 d.member d.contained.1 index (λ s t. absurd (false≢true (sym e ∙ s))) over)
 
         by : IsPassed ls flags (get_or flags i false) b.head t.0 → same x b.head ≡ true
         by (inl e) = same_trans x t.0.mono b.head t.2 e

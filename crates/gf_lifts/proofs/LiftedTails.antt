@@ -27,7 +27,7 @@ use Rattle.gf_initial_theory.specs.Parts.{Matching}
 use Rattle.gf_initial_theory.specs.Lifts.{IsLifted, AreLifted}
 use Rattle.gf_initial_theory.proofs.MatchingLaws.{matched-from}
 use Rattle.gf_initial_theory.proofs.LiftedLaws.{lifted_marked, lifted_marks}
-use Rattle.gf_lines.specs.Along.{IsBasisOfParts}
+use Rattle.gf_strands.specs.Along.{IsBasisOfParts}
 use Rattle.gf_lifts.specs.LiftTails.{IsReducedLift, IsNextInTurn, AreTailsInTurn}
 use Rattle.gf_lifts.proofs.CrossingMath.{parts_of, AreEverLifted}
 

@@ -36,7 +36,7 @@ use Rattle.gf_facets_theory.proofs.VectorLaws.{three, IsNonzero}
 use Rattle.gf_facets_theory.proofs.WholeLaws.{beyond-strict, further-weight}
 use Rattle.gf_facets_theory.proofs.RegionLaws.{beyond-positive}
 use Rattle.gf_facets_theory.specs.Rows.{negated}
-use Rattle.gf_bases_theory.proofs.DifferenceLaws.{difference, other_summand}
+use Rattle.gf_initial_theory.proofs.DifferenceLaws.{difference, other_summand}
 use Rattle.gf_initial_theory.specs.Lifts.{IsLifted}
 use Rattle.gf_initial_theory.proofs.MatchingLaws.{matched-map, matched-from, matched-push}
 use Rattle.gf_initial_theory.proofs.InitialLaws.{remainder_below}
@@ -44,7 +44,7 @@ use Rattle.gf_initial_theory.proofs.LiftLaws.{further-flat, lift-taken, part_rin
 use Rattle.gf_initial_theory.proofs.LiftedLaws.{lifted_marked, lifted_of_lift}
 use Rattle.gf_initial_theory.proofs.SideLaws.{side-weak}
 use Rattle.gf_initial_theory.proofs.FlipLaws.{ArePartFacts}
-use Rattle.gf_lines.specs.Along.{IsBasisOfParts}
+use Rattle.gf_strands.specs.Along.{IsBasisOfParts}
 use Rattle.gf_lifts.specs.Crossings.{IsCrossing}
 use Rattle.gf_lifts.specs.LiftsInTurn.{IsRest, AreRests, IsLessBy, AreLiftsInTurn, IsLiftIn, AreLiftsIn, IsReducedForm}
 use Rattle.gf_lifts.proofs.CrossingMath.{parts_of, AreEverLifted}
@@ -267,7 +267,7 @@ rests_more bs hs i h r old new k q t e m =
     subst (λ (z : List MarkedPolynomial). AreRests bs z new) (sym (take_more hs i h k ∙ ap (λ (z : MarkedPolynomial). take i hs ++ z ∷ []) (sym q)))
     (subst (λ (z : List Terms). AreRests bs (take i hs ++ h ∷ []) z) (sym e) (matched-push (IsRest bs) (take i hs) old h r m t))
 
--- that of a member at its place
+-- that of a member at its index
 pub rest_there : (bs hs : List MarkedPolynomial) (rs : List Terms) (i : ℕ) (h : MarkedPolynomial) (r : Terms) → AreRests bs hs rs → i < length hs →
     h ≡ get_or hs i h → r ≡ get_or rs i r → IsRest bs h r
 rest_there bs [] rs i h r m k p q = absurd (omega (arith, k))

@@ -19,7 +19,7 @@ use Rattle.gf_division.proofs.StepLaws.{head_length}
 use Rattle.gf_division.proofs.TailLaws.{head_at}
 use Rattle.gf_lifts.specs.LiftTails.{IsReducedLift, IsReducedLiftAt}
 
--- the lift at the place is a member, with the variables
+-- the lift at the index is a member, with the variables
 lift_width : (ls : List MarkedPolynomial) (b : MarkedPolynomial) (i : ℕ) (v : ShareSomeVariables ls) → i < length ls → b ≡ get_or ls i b → HasMarkedTerm b →
     length b.head ≡ v.n
 lift_width ls b i v l q m = head_length v.n b (member_variables v.n ls b v.each (member_contained ls i b (member_at ls i b l q))) m
@@ -33,11 +33,11 @@ pub lift_variables : (ls : List MarkedPolynomial) (b : MarkedPolynomial) (h : Ex
 lift_variables ls b h f i v l q m e d = subst (HasVariables (length h)) (sym d) (member_variables (length h) ls b (lifts_width ls b h i v l q m e)
     (member_contained ls i b (member_at ls i b l q)))
 
--- no mark divides an unmarked term before the place i
+-- no mark divides an unmarked term before the index i
 abbrev pub ArePassedOver : List MarkedPolynomial → Exponents → ℕ → Terms → Type 0
 ArePassedOver ls h i f = AreIrreducible ls (Some h) (take i f)
 
--- nor one at the place k, which is the marked one or is tried
+-- nor one at the index k, which is the marked one or is tried
 pub passed_over : (ls : List MarkedPolynomial) (b : MarkedPolynomial) (k m : ℕ) (f : Terms) (t : Term) → f ≡ b.poly → k < length f → t ≡ get_or f k t →
     head_of b.poly m ≡ b.head → (eqb k m ≡ false → IsDivisible (Contains ls) t.mono → ⊥) → ArePassedOver ls b.head k f → ArePassedOver ls b.head (k + 1) f
 passed_over ls b k m f t q l e h n p = subst (AreIrreducible ls (Some b.head)) (sym (take_more f k t l ∙ ap (λ (z : Term). take k f ++ z ∷ []) (sym e)))

@@ -21,8 +21,8 @@ use Rattle.gf_division.specs.Autoreduction.{IsKeptForm}
 use Rattle.gf_division.specs.NormalForms.{HasSomeWeight}
 use Rattle.gf_division.proofs.ReducerLaws.{members_equal, member_contained, member_variables}
 use Rattle.gf_division.proofs.TailLaws.{tail_reached}
-use Rattle.gf_lines.specs.Members.{HasReducedTail}
-use Rattle.gf_lines.proofs.PlaceLaws.{at_place, set_cases, put_same, put_other, divisible_along}
+use Rattle.gf_strands.specs.Members.{HasReducedTail}
+use Rattle.gf_strands.proofs.IndexLaws.{at_index, set_cases, put_same, put_other, divisible_along}
 use Rattle.gf_lifts.specs.LiftTails.{AreCopies, HasUndividedTail, IsReducedLift, IsNextInTurn, AreTailsInTurn}
 use Rattle.gf_lifts.proofs.LiftTailLaws.{IsPassed, undivided_along, stay_reduced}
 
@@ -51,7 +51,7 @@ next_weight w ms ns flags i l (inr r) m = subst (AreMarked (lighter w)) (sym r.2
   where
     at : (d : MarkedPolynomial) → (r.0 ≡ d) ⊎ Contains ms d → IsMarked (lighter w) d
     at d (inl e) =
-        let p : IsAt ms i (get_or ms i d) = at_place ms i d l in
+        let p : IsAt ms i (get_or ms i d) = at_index ms i d l in
         subst (IsMarked (lighter w)) e (reduced_marked w ms (get_or ms i d) r.0 m (member_contained ms i (get_or ms i d) p) (r.1.at (get_or ms i d) p))
     at d (inr k) = m d k
 
@@ -69,7 +69,7 @@ next_variables n ms ns flags i l (inr r) v = subst (HaveVariables n) (sym r.2) (
   where
     at : (d : MarkedPolynomial) → (r.0 ≡ d) ⊎ Contains ms d → HasVariables n d.poly
     at d (inl e) =
-        let p : IsAt ms i (get_or ms i d) = at_place ms i d l in
+        let p : IsAt ms i (get_or ms i d) = at_index ms i d l in
         subst (λ (z : MarkedPolynomial). HasVariables n z.poly) e
         ((r.1.at (get_or ms i d) p).kept.at n (member_variables n ms (get_or ms i d) v (member_contained ms i (get_or ms i d) p))).variables
     at d (inr k) = member_variables n ms d v k
@@ -82,7 +82,7 @@ turned_variables n ls flags i ns (AreTailsInTurn.more j ms ks t l x) v = next_va
 
 -- ---- each tail is reduced
 
--- the marks stay, the lifts from the place i on too, and those before it have reduced tails
+-- the marks stay, the lifts from the index i on too, and those before it have reduced tails
 pub record AreTurned (ls : List MarkedPolynomial) (i : ℕ) (ms : List MarkedPolynomial) : Type 0 where
   pub each : length ms ≡ length ls
   pub heads : (j : ℕ) (b c : MarkedPolynomial) → IsAt ls j b → IsAt ms j c → c.head ≡ b.head
@@ -119,14 +119,14 @@ turn_next bs ls flags i ms ns r k l (inr x) h = subst (AreTurned ls (i + 1)) (sy
   done = λ j b c m p q. done j b c (cases_eq j i) m p q;
 })
   where
-    -- the lift at the place, and what it becomes
+    -- the lift at the index, and what it becomes
     old : (b : MarkedPolynomial) → IsReducedLift ms (get_or ms i b) x.0
-    old b = x.1.at (get_or ms i b) (at_place ms i b l)
+    old b = x.1.at (get_or ms i b) (at_index ms i b l)
 
     heads : (j : ℕ) (b c : MarkedPolynomial) → (j ≡ i) ⊎ (j ≡ i → ⊥) → IsAt ls j b → IsAt (set ms i x.0) j c → c.head ≡ b.head
     heads j b c (inl e) p q =
         ap (λ (z : MarkedPolynomial). z.head) (sym (put_same ms i j x.0 c l e q)) ∙ (old b).head ∙ h.heads i b (get_or ms i b)
-        (subst (λ (z : ℕ). IsAt ls z b) e p) (at_place ms i b l)
+        (subst (λ (z : ℕ). IsAt ls z b) e p) (at_index ms i b l)
     heads j b c (inr n) p q = h.heads j b c p (put_other ms i j x.0 c n q)
 
     done : (j : ℕ) (b c : MarkedPolynomial) → (j ≡ i) ⊎ (j ≡ i → ⊥) → j < i + 1 → IsAt ls j b → IsAt (set ms i x.0) j c → HasReducedTail ls c × IsKeptForm b c
@@ -134,7 +134,7 @@ turn_next bs ls flags i ms ns r k l (inr x) h = subst (AreTurned ls (i + 1)) (sy
     done j b c (inl e) m p q =
         let pi : IsAt ls i b = subst (λ (z : ℕ). IsAt ls z b) e p in
         let f : x.0 ≡ c = put_same ms i j x.0 c l e q in
-        let g : get_or ms i b ≡ b = h.rest i b (get_or ms i b) (omega arith) pi (at_place ms i b l) in (
+        let g : get_or ms i b ≡ b = h.rest i b (get_or ms i b) (omega arith) pi (at_index ms i b l) in (
           subst (HasReducedTail ls) f (λ y t d. (old b).irreducible y t (divisible_along ls ms h.each h.heads y d)),
           subst (λ (z : MarkedPolynomial). IsKeptForm z c) g (subst (IsKeptForm (get_or ms i b)) f (old b).kept),
         )
@@ -149,17 +149,17 @@ turned bs ls flags i ms r k AreTailsInTurn.none = record {
 }
 turned bs ls flags i ns r k (AreTailsInTurn.more j ms ks t l x) = turn_next bs ls flags j ms ns r k l x (turned bs ls flags j ms r k t)
 
-pub by_place : (bs cs : List MarkedPolynomial) → ((j : ℕ) (c : MarkedPolynomial) → IsAt cs j c → IsReducedTail bs c c) → AreReducedTails bs cs cs
-by_place bs [] h = tt
-by_place bs (c ∷ cs) h = (
+pub by_index : (bs cs : List MarkedPolynomial) → ((j : ℕ) (c : MarkedPolynomial) → IsAt cs j c → IsReducedTail bs c c) → AreReducedTails bs cs cs
+by_index bs [] h = tt
+by_index bs (c ∷ cs) h = (
   h zero c (record { within = omega arith; is = refl }),
-  by_place bs cs (λ j d p. h (suc j) d (record { within = omega (arith, p.within); is = p.is })),
+  by_index bs cs (λ j d p. h (suc j) d (record { within = omega (arith, p.within); is = p.is })),
 )
 
 -- in the end each tail is reduced by all
 pub turned_tails : (bs ls : List MarkedPolynomial) (flags : List Bool) (ms : List MarkedPolynomial) → HasReducedTails bs → AreCopies bs ls flags →
     AreTailsInTurn ls flags (length ls) ms → AreReducedTails ms ms ms
-turned_tails bs ls flags ms r k t = by_place ms ms (λ j c p. record {
+turned_tails bs ls flags ms r k t = by_index ms ms (λ j c p. record {
   tail = IsTail.member c (member_contained ms j c p);
   head = same-refl c.head;
   irreducible = λ x m d. reduced j c p x m d;
@@ -171,7 +171,7 @@ turned_tails bs ls flags ms r k t = by_place ms ms (λ j c p. record {
     reduced : (j : ℕ) (c : MarkedPolynomial) → IsAt ms j c → HasReducedTail ms c
     reduced j c p x m d =
         let l : j < length ls = omega (arith, p.within, u.each) in
-        (u.done j (get_or ls j c) c l (at_place ls j c l) p).0 x m (divisible_along ms ls (sym u.each) (λ i b e q w. sym (u.heads i e b w q)) x d)
+        (u.done j (get_or ls j c) c l (at_index ls j c l) p).0 x m (divisible_along ms ls (sym u.each) (λ i b e q w. sym (u.heads i e b w q)) x d)
 
 -- and each member is kept as a program keeps it
 pub turned_canonical : (n : ℕ) (bs ls : List MarkedPolynomial) (flags : List Bool) (ms : List MarkedPolynomial) → HasReducedTails bs → AreCopies bs ls flags →
@@ -179,6 +179,6 @@ pub turned_canonical : (n : ℕ) (bs ls : List MarkedPolynomial) (flags : List B
 turned_canonical n bs ls flags ms r k t v c m =
     let u : AreTurned ls (length ls) ms = turned bs ls flags (length ls) ms r k t in
     let l : m.0 < length ls = omega (arith, m.1, u.each) in
-    let a : IsAt ls m.0 (get_or ls m.0 c) = at_place ls m.0 c l in
+    let a : IsAt ls m.0 (get_or ls m.0 c) = at_index ls m.0 c l in
     (u.done m.0 (get_or ls m.0 c) c l a (record { within = m.1; is = m.2 })).1.at n
     (member_variables n ls (get_or ls m.0 c) v (member_contained ls m.0 (get_or ls m.0 c) a))

@@ -1,19 +1,17 @@
 -- Lifts that end once nothing is left along the normal, as the code works them out.
--- To cite: reducible_there, SeekingLine, seeking_more, Topping, topping-none, topping_more, topping_less, top_step,
--- shares_at, divides_at, off_more, off_end, top_remainder_at, top_there, top_lift_at, divided_by, top_twin, divided_lift, AreTopping, topping_push,
+-- To cite: reducible_there, SeekingStrand, seeking_more, Topping, topping-none, topping_shares, topping_more,
+-- off_more, off_end, top_remainder_at, top_there, top_lift_at, divided_by, top_twin, divided_lift, AreTopping, topping_push,
 -- AreToppingBefore, before-more.
 use Rattle.std.specs.declared.option.Option.{Option}
-use Rattle.std.proofs.Common.{◌≡◌, ◌≢◌, ℕ, ◌+◌, ◌<◌, ◌≤◌, ◌^◌, true, Some, None, IfSome, List, [], ◌∷◌, ◌++◌, length, take, get_or, Contains, ℤ, pos, ◌+ℤ◌}
+use Rattle.std.proofs.Common.{◌≡◌, ◌≢◌, ℕ, ◌+◌, ◌<◌, ◌≤◌, true, Some, None, IfSome, List, [], ◌∷◌, ◌++◌, length, take, get_or, Contains, ℤ, pos, ◌+ℤ◌}
 use Rattle.std.proofs.Common.{◌*ℤ◌, arith, refl, sym, ap, ◌∙◌, subst, inl, inr}
 use Rattle.std.proofs.lemmas.List.{take_more, take_all, append_assoc}
 use Rattle.gf_int_theory.proofs.RingLaws.{dv, dn, ◌⊕◌, ◌⊗◌, same as same_number}
 use Rattle.gf_frac.specs.Fraction.{Fraction, ◌+ℚ◌, ◌*ℚ◌, neg_ℚ, reciprocal_ℚ, zero_ℚ, one_ℚ}
 use Rattle.gf_frac.proofs.FractionLaws.{zero_or_not, +ℚ-zero, +ℚ-neg_ℚ, +ℚ_assoc, +ℚ_comm, *ℚ-one, one-*ℚ, *ℚ_assoc, reciprocal_ℚ-*ℚ, zero-*ℚ, neg_ℚ-*ℚ}
-use Rattle.gf_exponents_theory.specs.Exponents.{Exponents, same, plus, entry, Divides}
-use Rattle.gf_exponents_theory.specs.Orders.{lighter}
-use Rattle.gf_exponents_theory.proofs.ExponentsLaws.{same_of, same-refl}
+use Rattle.gf_exponents_theory.specs.Exponents.{Exponents, same, entry}
+use Rattle.gf_exponents_theory.proofs.ExponentsLaws.{same-refl}
 use Rattle.gf_poly.specs.declared.Term.{Term}
-use Rattle.gf_poly.specs.declared.TheConstants.{ROOM}
 use Rattle.gf_poly.specs.Monomial.{IsMonomial}
 use Rattle.gf_poly.specs.Polynomial.{Terms, coefficient, SamePolynomial, times, HasVariables, IsDescending, KeepsVariables, KeepsBothVariables}
 use Rattle.gf_poly.specs.Marking.{MarkedPolynomial, Each, HaveVariables, head_of, HasMarkedTerm}
@@ -25,42 +23,39 @@ use Rattle.gf_ideal_theory.proofs.StepLaws.{reached_trans}
 use Rattle.gf_poly.proofs.ProductLaws.{IsScaled-products, KeepsVariables-scaled}
 use Rattle.gf_poly.proofs.MarkingLaws.{nonzero_reciprocal, head_of-times}
 use Rattle.gf_ideal_theory.specs.Membership.{HasMonomial}
-use Rattle.gf_ideal_theory.specs.Marks.{AreMarked}
-use Rattle.gf_ideal_theory.specs.Measure.{work_left}
-use Rattle.gf_ideal_theory.specs.Reduction.{IsStep, Reached, HasOneMonomial}
-use Rattle.gf_ideal_theory.specs.Settled.{IsAt}
+use Rattle.gf_ideal_theory.specs.Reduction.{Reached, HasOneMonomial}
 use Rattle.gf_ideal_theory.specs.OrderTable.{AreMultipleApart}
 use Rattle.gf_ideal_theory.proofs.ListLaws.{Each-++}
-use Rattle.gf_ideal_theory.proofs.ListedTerms.{listed, box_of_monomial}
-use Rattle.gf_ideal_theory.proofs.MeasureLaws.{work_left-at}
+use Rattle.gf_ideal_theory.proofs.ListedTerms.{listed}
 use Rattle.gf_ideal_theory.proofs.Identities.{one_not_zero}
-use Rattle.gf_division.specs.Dividends.{Split, joined_terms, IsSound, IsTermInFront, PassesOne, SharesVariables, DividesFirst, TakesStep}
+use Rattle.gf_division.specs.Dividends.{Split, joined_terms, IsSound, IsTermInFront, PassesOne}
 use Rattle.gf_division.specs.NormalForms.{HasSomeWeight}
 use Rattle.gf_poly.proofs.PolynomialLaws.{coefficient-same, coefficient-++, coefficient-times}
-use Rattle.gf_division.specs.Reducers.{IsDivisorAt, IsReducibleFirst}
-use Rattle.gf_division.proofs.DividendLaws.{terms_down, first_head, first_length}
-use Rattle.gf_division.proofs.ReducerLaws.{member_at, members_equal, member_contained, member_variables}
+use Rattle.gf_division.specs.Reducers.{IsDivisorAt, IsReducibleFirst, ShareVariables}
+use Rattle.gf_division.specs.Remainders.{IsWorkedOn}
+use Rattle.gf_division.proofs.DividendLaws.{terms_down, first_length}
 use Rattle.gf_division.proofs.RuleLaws.{keeps_along, sound_same}
+use Rattle.gf_division.proofs.RemainderLaws.{reached_by}
 use Rattle.gf_division.proofs.StepLaws.{head_length}
 use Rattle.gf_initial_theory.specs.Lifts.{IsTopLift, AreTopLifts}
-use Rattle.gf_bases_theory.proofs.DifferenceLaws.{difference, less_zero, less_summand}
+use Rattle.gf_initial_theory.proofs.DifferenceLaws.{difference, less_zero, less_summand}
 use Rattle.gf_initial_theory.proofs.ClassLaws.{multiple-grading}
 use Rattle.gf_initial_theory.proofs.MatchingLaws.{matched-push}
-use Rattle.gf_lines.specs.Along.{HasNonzero}
+use Rattle.gf_strands.specs.Along.{HasNonzero}
 use Rattle.gf_lifts.specs.Tops.{AreOff, IsTopRemainder, IsQuotientAt}
-use Rattle.gf_lines.specs.Splits.{IsAlone}
+use Rattle.gf_strands.specs.Splits.{IsAlone}
 
 -- ---- the search
 
 -- the terms are the same after some moves, and sound
-pub record SeekingLine (n : ℕ) (old new : Split) : Type 0 where
+pub record SeekingStrand (n : ℕ) (old new : Split) : Type 0 where
   pub same : joined_terms new ≡ joined_terms old
   pub sound : IsSound n new
 
-pub seeking_more : (n : ℕ) (old now new : Split) → PassesOne now new → SeekingLine n old now → SeekingLine n old new
+pub seeking_more : (n : ℕ) (old now new : Split) → PassesOne now new → SeekingStrand n old now → SeekingStrand n old new
 seeking_more n old now new w k = let e = terms_down now new w in record { same = e ∙ k.same; sound = sound_same n now new e k.sound }
 
-pub first_width : (n : ℕ) (old s : Split) (t : Term) → IsTermInFront s.below t → SeekingLine n old s → length t.mono ≡ n
+pub first_width : (n : ℕ) (old s : Split) (t : Term) → IsTermInFront s.below t → SeekingStrand n old s → length t.mono ≡ n
 first_width n old s t f k = first_length n s t k.sound f
 
 -- the member that reduces the first term, if there is one
@@ -70,44 +65,6 @@ reducible_there bs s t (Some j) f m d = record { term = t; is = f; divisor = d; 
 reducible_there bs s t None f m d = tt
 
 -- ---- the steps
-
--- the member that reduces the first term
-pub record IsTopStep (n : ℕ) (bs : List MarkedPolynomial) (s : Split) (t : Term) (j : ℕ) (b : MarkedPolynomial) : Type 0 where
-  pub sound : IsSound n s
-  pub first : IsTermInFront s.below t
-  pub divisor : IsDivisorAt bs t.mono j
-  pub monomial : IsMonomial t.mono
-  pub at : IsAt bs j b
-  pub members : HaveVariables n bs
-
-is_member : (n : ℕ) (bs : List MarkedPolynomial) (s : Split) (t : Term) (j : ℕ) (b : MarkedPolynomial) → (k : IsTopStep n bs s t j b) → k.divisor.member ≡ b
-is_member n bs s t j b k = members_equal bs j k.divisor.member b k.divisor.at k.at
-
-pub shares_at : (n : ℕ) (bs : List MarkedPolynomial) (s : Split) (t : Term) (j : ℕ) (b : MarkedPolynomial) → IsTopStep n bs s t j b → SharesVariables b s
-shares_at n bs s t j b k = record { n = n; sound = k.sound; poly = member_variables n bs b k.members (member_contained bs j b k.at) }
-
-pub divides_at : (n : ℕ) (bs : List MarkedPolynomial) (s : Split) (t : Term) (j : ℕ) (b : MarkedPolynomial) → IsTopStep n bs s t j b →
-    DividesFirst b.head s.below
-divides_at n bs s t j b k = record {
-  term = t;
-  first = k.first;
-  divides = subst (λ (c : MarkedPolynomial). Divides c.head t.mono) (is_member n bs s t j b k) k.divisor.divides;
-}
-
-pub step_of : (n : ℕ) (bs : List MarkedPolynomial) (s u : Split) (t : Term) (j : ℕ) (b : MarkedPolynomial) (q : Term) →
-    IsTopStep n bs s t j b → TakesStep b s q u → IsStep (Contains bs) (joined_terms s) (joined_terms u)
-step_of n bs s u t j b q k w =
-    let e = first_head s.below t k.first in
-    record {
-      at = t.mono;
-      member = b;
-      rest = q.mono;
-      contained = member_contained bs j b k.at;
-      there = λ z. w.there (sym w.coefficient_is ∙ ap (coefficient (joined_terms s)) (sym e) ∙ z);
-      divides = same_of t.mono (plus q.mono b.head) (e ∙ sym w.product);
-      equal = λ y. w.same y ∙ ap (λ c. coefficient (joined_terms s ++ times (neg_ℚ c) q.mono b.poly) y)
-          (sym (ap (coefficient (joined_terms s)) e ∙ w.coefficient_is));
-    }
 
 -- what holds after some steps
 pub record Topping (n : ℕ) (bs : List MarkedPolynomial) (f : Terms) (s : Split) : Type 0 where
@@ -123,42 +80,22 @@ topping-none n bs f s v d e = subst (Topping n bs f) (sym e) (record {
   kept = record { at = λ n h. h };
 })
 
-pub topping_more : (n : ℕ) (bs : List MarkedPolynomial) (f : Terms) (old s u : Split) (t : Term) (j : ℕ) (b : MarkedPolynomial) (q : Term) →
-    joined_terms s ≡ joined_terms old → IsTopStep n bs s t j b → TakesStep b s q u → Topping n bs f old → Topping n bs f u
-topping_more n bs f old s u t j b q e k w h = record {
-  reached = Reached.next (joined_terms s) (joined_terms u) (subst (Reached (Contains bs) f) (sym e) h.reached) (step_of n bs s u t j b q k w);
-  sound = w.sound n k.sound;
-  kept = record {
-    at = λ m v. (w.sound m (record {
-      descending = k.sound.descending;
-      variables = (keeps_along f (joined_terms old) (joined_terms s) e h.kept).at m v;
-    })).variables;
-  };
-}
+pub topping_shares : (n : ℕ) (bs : List MarkedPolynomial) (f : Terms) (old s : Split) → joined_terms s ≡ joined_terms old → HaveVariables n bs →
+    Topping n bs f old → ShareVariables s bs None
+topping_shares n bs f old s e m h = record { n = n; sound = sound_same n old s e h.sound; members = m; spare = tt }
 
-pub topping_less : (n : ℕ) (bs : List MarkedPolynomial) (w : List ℕ) (old s u : Split) (t : Term) (j : ℕ) (b : MarkedPolynomial) (q : Term) →
-    joined_terms s ≡ joined_terms old → AreMarked (lighter w) bs → IsTopStep n bs s t j b → TakesStep b s q u →
-    work_left (2 ^ 31) ROOM bs (joined_terms u) < work_left (2 ^ 31) ROOM bs (joined_terms old)
-unfolding step_of
-topping_less n bs w old s u t j b q e m k h =
-    subst (λ (f : Terms). work_left (2 ^ 31) ROOM bs (joined_terms u) < work_left (2 ^ 31) ROOM bs f) e
-    (work_left-at (2 ^ 31) ROOM w bs (joined_terms s) (joined_terms u) m (step_of n bs s u t j b q k h) (box_of_monomial t.mono k.monomial))
-
--- what the search has found
-pub top_step : (n : ℕ) (bs : List MarkedPolynomial) (f : Terms) (old s : Split) (j : ℕ) (b : MarkedPolynomial) → joined_terms s ≡ joined_terms old →
-    (k : IsReducibleFirst bs None s j) → b ≡ get_or bs j b → HaveVariables n bs → Topping n bs f old → IsTopStep n bs s k.term j b
-top_step n bs f old s j b e k q m h = record {
-  sound = sound_same n old s e h.sound;
-  first = k.is;
-  divisor = k.divisor;
-  monomial = k.monomial;
-  at = member_at bs j b k.divisor.at.within q;
-  members = m;
+pub topping_more : (n : ℕ) (bs : List MarkedPolynomial) (f : Terms) (old s u : Split) → joined_terms s ≡ joined_terms old → Topping n bs f old →
+    IsWorkedOn bs None s u → Topping n bs f u
+topping_more n bs f old s u e h k = record {
+  reached = reached_trans (Contains bs) f (joined_terms s) (joined_terms u) (subst (Reached (Contains bs) f) (sym e) h.reached)
+      (reached_by bs None (joined_terms s) (joined_terms u) k.reached);
+  sound = record { descending = k.variables.sound.descending; variables = k.kept.at n (subst (HasVariables n) (sym e) h.sound.variables) };
+  kept = record { at = λ m v. k.kept.at m (subst (HasVariables m) (sym e) (h.kept.at m v)) };
 }
 
 -- ---- the end
 
--- the terms before i are off the line
+-- the terms before i are off the strand
 abbrev pub AreOffBefore : List ℤ → Exponents → ℕ → Terms → Type 0
 AreOffBefore a x i f = Each (λ (t : Term). AreMultipleApart a t.mono x → ⊥) (take i f)
 
@@ -219,9 +156,9 @@ pub top_variables : (bs : List MarkedPolynomial) (a : List ℤ) (n : ℕ) (x : E
     HasVariables n h.poly → IsTopRemainder bs a x f r → KeepsBothVariables g r p → HasVariables n p
 top_variables bs a n x h f g r p ef eg v k b = b.at n (subst (HasVariables n) (sym eg) v) (k.kept.at n (subst (HasVariables n) (sym ef) v))
 
-pub top_place : (bs : List MarkedPolynomial) (a : List ℤ) (n : ℕ) (h : MarkedPolynomial) (f g r p t : Terms) (x y : Exponents) → f ≡ h.poly → g ≡ h.poly →
+pub top_index : (bs : List MarkedPolynomial) (a : List ℤ) (n : ℕ) (h : MarkedPolynomial) (f g r p t : Terms) (x y : Exponents) → f ≡ h.poly → g ≡ h.poly →
     HasVariables n h.poly → IsTopRemainder bs a x f r → KeepsBothVariables g r p → t ≡ p → y ≡ h.head → HasMarkedTerm h → HasVariables (length y) t
-top_place bs a n h f g r p t x y ef eg v k b q ey m =
+top_index bs a n h f g r p t x y ef eg v k b q ey m =
     let l : n ≡ length y = sym (ap (λ (z : Exponents). length z) ey ∙ head_length n h v m) in
     subst (λ (z : Terms). HasVariables (length y) z) (sym q) (subst (λ (z : ℕ). HasVariables z p) l (top_variables bs a n x h f g r p ef eg v k b))
 
@@ -285,7 +222,7 @@ untouched_at bs a h b l one unit single c e alone q = subst (IsTopLift bs a h) (
 
 -- ---- members whose parts are only marked elsewhere
 
--- a member divided by its coefficient at a place, and marked there
+-- a member divided by its coefficient at an index, and marked there
 pub divided_by : (b l : MarkedPolynomial) (f h : Terms) (t : Term) (i : ℕ) (x : Exponents) → f ≡ b.poly → IsDescending f → HasVariables (length x) b.poly →
     i < length f → t ≡ get_or f i t → t.coef ≢ zero_ℚ → HasProducts (reciprocal_ℚ t.coef) [] b.poly h → head_of f i ≡ x →
     l ≡ record { poly = h; head = head_of h i } → IsQuotientAt b x l

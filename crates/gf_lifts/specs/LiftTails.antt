@@ -8,7 +8,7 @@ use Rattle.gf_ideal_theory.specs.Settled.{IsAt}
 use Rattle.gf_division.specs.Autoreduction.{IsKeptForm}
 use Rattle.gf_division.specs.Remainders.{ReachedBeside}
 use Rattle.gf_initial_theory.specs.Parts.{Matching}
-use Rattle.gf_lines.specs.Members.{HasReducedTail}
+use Rattle.gf_strands.specs.Members.{HasReducedTail}
 
 -- a lift with a flag is one of bs
 abbrev pub IsCopy : List MarkedPolynomial → MarkedPolynomial → Bool → Type 0
@@ -23,11 +23,11 @@ AreCopies bs ls flags = Matching (IsCopy bs) ls flags
 abbrev pub AreCopiedTo : List Bool → ℕ → Type 0
 AreCopiedTo flags k = (j : ℕ) → j < k → slice_index_or flags j false ≡ true
 
--- so are those from the place k on that are before the place i
+-- so are those from the index k on that are before the index i
 abbrev pub AreCopiedFrom : List Bool → ℕ → ℕ → Type 0
 AreCopiedFrom flags k i = (j : ℕ) → k ≤ j → j < i → slice_index_or flags j false ≡ true
 
--- so are all before the first place and from the end on
+-- so are all before the first index and from the end on
 pub record AreCopiedBeside (flags : List Bool) (first end : ℕ) : Type 0 where
   pub front : AreCopiedTo flags first
   pub back : AreCopiedFrom flags end (length flags)
@@ -39,7 +39,7 @@ pub record AreSparedBeside (flags : List Bool) (copied : Bool) (first end : ℕ)
   pub back : (j : ℕ) → end ≤ j → j < length flags → (copied ≡ true) × (slice_index_or flags j false ≡ true)
   pub within : end ≤ length flags
 
--- no mark of the lifts before the place i divides x, but that of a copied one where x is of a copied one
+-- no mark of the lifts before the index i divides x, but that of a copied one where x is of a copied one
 pub record AreUndivided (ls : List MarkedPolynomial) (flags : List Bool) (copied : Bool) (x : Exponents) (i : ℕ) : Type 0 where
   pub none : (j : ℕ) (b : MarkedPolynomial) → j < i → IsAt ls j b → (copied ≡ true → slice_index_or flags j false ≡ true → ⊥) → Divides b.head x → ⊥
 
@@ -47,7 +47,7 @@ pub record AreUndivided (ls : List MarkedPolynomial) (flags : List Bool) (copied
 abbrev pub HasUndividedTail : List MarkedPolynomial → List Bool → Bool → MarkedPolynomial → Type 0
 HasUndividedTail ls flags copied b = Each (λ (t : Term). (same t.mono b.head ≡ true) ⊎ AreUndivided ls flags copied t.mono (length ls)) b.poly
 
--- so it is with the lift at the place i, which is kept in as many variables
+-- so it is with the lift at the index i, which is kept in as many variables
 pub record HasUndividedTailAt (ls : List MarkedPolynomial) (flags : List Bool) (i : ℕ) : Type 0 where
   pub tail : (b : MarkedPolynomial) → IsAt ls i b → HasUndividedTail ls flags (slice_index_or flags i false) b
   pub kept : (b : MarkedPolynomial) → IsAt ls i b → IsKeptForm b b
@@ -61,13 +61,13 @@ pub record IsReducedLift (bs : List MarkedPolynomial) (b c : MarkedPolynomial) :
   pub irreducible : HasReducedTail bs c
   pub kept : IsKeptForm b c
 
--- so it is with the lift at the place i
+-- so it is with the lift at the index i
 pub record IsReducedLiftAt (ls : List MarkedPolynomial) (i : ℕ) (c : MarkedPolynomial) : Type 0 where
   pub at : (b : MarkedPolynomial) → IsAt ls i b → IsReducedLift ls b c
 
 -- ---- one lift after another
 
--- the lift at the place i stays, or is put in with its tail reduced by the list
+-- the lift at the index i stays, or is put in with its tail reduced by the list
 abbrev pub IsNextInTurn : List MarkedPolynomial → List Bool → ℕ → List MarkedPolynomial → Type 0
 IsNextInTurn ms flags i ns = ((ns ≡ ms) × HasUndividedTailAt ms flags i) ⊎ ((c : MarkedPolynomial) × IsReducedLiftAt ms i c × (ns ≡ set ms i c))
 

@@ -16,7 +16,7 @@ pub record IsRest (bs : List MarkedPolynomial) (h : MarkedPolynomial) (r : Terms
   pub remainder : IsRemainder bs h.poly r
   pub kept : KeepsVariables h.poly r
 
--- place by place
+-- index by index
 abbrev pub AreRests : List MarkedPolynomial → List MarkedPolynomial → List Terms → Type 0
 AreRests bs hs rs = Matching (IsRest bs) hs rs
 
@@ -37,7 +37,7 @@ pub data AreLiftsInTurn (bs hs : List MarkedPolynomial) : List MarkedPolynomial 
 abbrev pub IsLiftIn : List MarkedPolynomial → MarkedPolynomial → MarkedPolynomial → Type 0
 IsLiftIn ds h l = (l.head ≡ h.head) × Contains ds l
 
--- place by place
+-- index by index
 abbrev pub AreLiftsIn : List MarkedPolynomial → List MarkedPolynomial → List MarkedPolynomial → Type 0
 AreLiftsIn ds hs ls = Matching (IsLiftIn ds) hs ls
 

@@ -22,7 +22,7 @@ pub record IsTopRemainder (bs : List MarkedPolynomial) (a : List ℤ) (x : Expon
   pub kept : KeepsVariables f r
   pub descending : IsDescending r
 
--- the member at the place j has the mark h
+-- the member at the index j has the mark h
 pub record IsMarkedAt (bs : List MarkedPolynomial) (h : Exponents) (j : ℕ) : Type 0 where
   pub member : MarkedPolynomial
   pub at : IsAt bs j member

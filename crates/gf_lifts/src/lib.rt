@@ -12,6 +12,6 @@ mod wide;
 
 pub use literal::literal_lifts;
 pub use tails::reduced_tails;
-pub use tops::{Lifts, divided_at, place_at, place_of_mark, push, top_lift};
+pub use tops::{Lifts, divided_at, index_at, index_of_mark, push, top_lift};
 pub use weights::Facet;
 pub use wide::wide_crossed;

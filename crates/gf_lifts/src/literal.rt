@@ -8,7 +8,7 @@ ghost use Rattle.gf_initial_theory.specs.Lifts.{IsLift, AreLifts};
 ghost use Rattle.gf_lifts.specs.Lifting.{IsLiftable, AreLiftable};
 ghost use Rattle.gf_lifts.specs.LiftRefusals.{IsLiftRefusal, IsLiftsRefusal};
 
-use gf_division::{normal_form, place_of};
+use gf_division::{index_of, normal_form};
 use gf_poly::{Marked, MarkedSet, PolyError};
 use std::alloc::Global;
 
@@ -25,8 +25,8 @@ fn lift(alloc: Global, member: &Marked, by: &MarkedSet) -> Result<Marked, PolyEr
     let head = member.head();
     let rest = normal_form(alloc, member.poly(), by)?;
     let poly = member.poly().sub(&rest)?;
-    let place = place_of(poly.terms(), head);
-    Ok(Marked::mark(poly, place))
+    let index = index_of(poly.terms(), head);
+    Ok(Marked::mark(poly, index))
 }
 
 /// The members less their remainders, marked as they are.

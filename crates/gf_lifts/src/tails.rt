@@ -31,7 +31,7 @@ fn reduces(lift: &Marked, is_copy: bool, x: &Mono, of_copy: bool) -> bool
     lift.head().divides(x)
 }
 
-/// A stretch of places, from the first one on and before the end.
+/// A stretch of indices, from the first one on and before the end.
 #[derive(Clone, Copy)]
 struct Span {
     first: usize,
@@ -51,7 +51,7 @@ fn copied_front(copied: &[bool]) -> usize
     copied.len()
 }
 
-/// The place behind the last lift that isn't copied.
+/// The index behind the last lift that isn't copied.
 fn copied_back(copied: &[bool]) -> usize
     ensures within { result ≤ length copied.now }
     ensures copied { AreCopiedFrom copied.now result (length copied.now) }
@@ -125,7 +125,7 @@ fn is_divided_beside(
     is_divided(lifts, copied, tried, x, of_copy)
 }
 
-/// Whether no unmarked term of the lift at a place is divided by a mark that is tried.
+/// Whether no unmarked term of the lift at an index is divided by a mark that is tried.
 fn stays(lifts: &[Marked], copied: &[bool], fresh: Span, at: usize) -> bool
     requires inside { at < length lifts.now }
     requires flags { length copied.now ≡ length lifts.now }
@@ -186,7 +186,7 @@ pub fn is_reduced(member: &Marked, lifts: &[Marked]) -> bool
     true
 }
 
-/// The lift at a place with its tail reduced by all of them, the heaviest term first, if all numbers fit.
+/// The lift at an index with its tail reduced by all of them, the heaviest term first, if all numbers fit.
 fn reduced_lift(alloc: Global, lifts: &[Marked], at: usize, weight: &Vec<i64>) -> Option<Marked>
     requires inside { at < length lifts.now }
     requires marked { HasSomeWeight lifts.now }
@@ -203,7 +203,7 @@ fn reduced_lift(alloc: Global, lifts: &[Marked], at: usize, weight: &Vec<i64>) -
     }
 }
 
-/// Reduces the tail of the lift at a place, unless it stays. A weight is found where one is needed first.
+/// Reduces the tail of the lift at an index, unless it stays. A weight is found where one is needed first.
 fn settle(
     alloc: Global,
     n: u32,

@@ -8,12 +8,12 @@ ghost use Rattle.gf_division.specs.NormalForms.{HasSomeWeight};
 ghost use Rattle.gf_division.specs.Dividends.{split_of, joined_terms, IsSound};
 ghost use Rattle.gf_division.specs.Reducers.{IsDivisorAt, IsReducibleFirst, IsSought};
 ghost use Rattle.gf_initial_theory.specs.Lifts.{IsTopLift};
-ghost use Rattle.gf_lines.specs.Along.{AreSmall};
+ghost use Rattle.gf_strands.specs.Along.{AreSmall};
 ghost use Rattle.gf_lifts.specs.Tops.{AreOff, IsTopRemainder, IsQuotientAt, IsMarkedAt};
 
-use gf_division::{Dividend, divisor_of, place_of};
-use gf_lines::is_apart;
+use gf_division::{Dividend, divisor_of, index_of, stride};
 use gf_poly::{Marked, Mono, Poly, Term};
+use gf_strands::is_apart;
 use std::alloc::Global;
 use std::cmp::Ordering;
 
@@ -28,7 +28,7 @@ pub struct Lifts {
 }
 
 /// The member that reduces a term at `y`, if that is a multiple of the normal apart from `x`.
-fn reducer_on_line(
+fn reducer_on_strand(
     y: &Mono,
     by: &[Marked],
     x: &Mono,
@@ -49,9 +49,9 @@ fn reducer_on_line(
     divisor_of(y, by)
 }
 
-/// Moves the place down to the first term that is a multiple of the normal apart from `x` and that a member reduces; the
-/// place of that member, if there is such a term.
-fn seek_line(
+/// Moves the index down to the first term that is a multiple of the normal apart from `x` and that a member reduces; the
+/// index of that member, if there is such a term.
+fn seek_strand(
     rest: &mut Dividend,
     by: &[Marked],
     x: &Mono,
@@ -70,7 +70,7 @@ fn seek_line(
     'terms: while let Some(t) = rest.next() {
         // Its exponents are within the limit: the accessor says so.
         let _ = t.mono.exponents();
-        if let Some(j) = reducer_on_line(&t.mono, by, x, normal, pivot) {
+        if let Some(j) = reducer_on_strand(&t.mono, by, x, normal, pivot) {
             return Some(Some(j));
         }
         match rest.advance() {
@@ -81,7 +81,7 @@ fn seek_line(
     Some(None)
 }
 
-/// Moves the place to `y`, which is a multiple of the normal apart from `x`; the place of the member that reduces the term there.
+/// Moves the index to `y`, which is a multiple of the normal apart from `x`; the index of the member that reduces the term there.
 fn reducer_at(
     rest: &mut Dividend,
     y: &Mono,
@@ -106,10 +106,10 @@ fn reducer_at(
     let t = rest.next()?;
     // Its exponents are within the limit: the accessor says so.
     let _ = t.mono.exponents();
-    reducer_on_line(&t.mono, by, x, normal, pivot)
+    reducer_on_strand(&t.mono, by, x, normal, pivot)
 }
 
-/// Moves the place to the last term that is a multiple of the normal apart from `x` and that a member reduces; the place of that
+/// Moves the index to the last term that is a multiple of the normal apart from `x` and that a member reduces; the index of that
 /// member, if there is such a term.
 fn seek_last(
     rest: &mut Dividend,
@@ -133,7 +133,7 @@ fn seek_last(
     }
     let mut last = None;
     'terms: while let Some(t) = rest.next() {
-        if let Some(_) = reducer_on_line(&t.mono, by, x, normal, pivot) {
+        if let Some(_) = reducer_on_strand(&t.mono, by, x, normal, pivot) {
             last = Some(t.mono.copy());
         }
         match rest.advance() {
@@ -149,8 +149,8 @@ fn seek_last(
     Some(Some(j))
 }
 
-/// Moves the place to a term that is a multiple of the normal apart from `x` and that a member reduces, the first or the last one;
-/// the place of that member, if there is such a term.
+/// Moves the index to a term that is a multiple of the normal apart from `x` and that a member reduces, the first or the last one;
+/// the index of that member, if there is such a term.
 fn seek(
     rest: &mut Dividend,
     by: &[Marked],
@@ -171,7 +171,7 @@ fn seek(
     if from_below {
         return seek_last(rest, by, x, normal, pivot);
     }
-    seek_line(rest, by, x, normal, pivot)
+    seek_strand(rest, by, x, normal, pivot)
 }
 
 /// Whether what steps along the normal lead to is greater by degree and then lex.
@@ -208,6 +208,37 @@ fn is_off(terms: &[Term], x: &Mono, normal: &[i128], pivot: usize) -> bool
     true
 }
 
+/// Whether the member has two terms, which are multiples of the normal apart.
+fn is_along(member: &Marked, normal: &[i128], pivot: usize) -> bool
+    requires variables { HasVariables (length normal.now) member.now.poly }
+    requires bounded { AreSmall normal.now }
+    requires inside { pivot < length normal.now }
+    requires nonzero { get_or normal.now pivot (pos 0) ≢ pos 0 }
+{
+    let terms = member.poly().terms();
+    if terms.len() != 2 {
+        return false;
+    }
+    let first = &terms[0];
+    let second = &terms[1];
+    let (x, y) = (first.mono.exponents(), second.mono.exponents());
+    is_apart(x, y, normal, pivot)
+}
+
+/// How many other steps by the member may come before a step at once: none where single steps are asked for, or the terms of the member aren't
+/// multiples of the normal apart.
+fn others_at_most(member: &Marked, normal: &[i128], pivot: usize, is_single: bool) -> u64
+    requires variables { HasVariables (length normal.now) member.now.poly }
+    requires bounded { AreSmall normal.now }
+    requires inside { pivot < length normal.now }
+    requires nonzero { get_or normal.now pivot (pos 0) ≢ pos 0 }
+{
+    if !is_single && is_along(member, normal, pivot) {
+        return u64::MAX;
+    }
+    0
+}
+
 /// What steps by the members lead to, each at a term that is a multiple of the normal apart from `x`, once no member reduces
 /// such a term; if none is left. Where steps lead up, the last such term is taken once there were many: by it equal terms meet before
 /// they are reduced.
@@ -232,9 +263,9 @@ fn top_remainder(
     let mut patience = PATIENCE;
     let mut rest = Dividend::new(alloc, f);
     'steps: while let Some(j) = seek(&mut rest, by, x, normal, pivot, up && patience == 0)? {
+        let most = others_at_most(&by[j], normal, pivot, up && patience > 0);
         patience = patience.saturating_sub(1);
-        let member = &by[j];
-        match rest.step(member) {
+        match stride(alloc, &mut rest, by, j, &None, most) {
             Ok(_) => {}
             Err(_) => return None,
         }
@@ -276,12 +307,12 @@ pub fn top_lift(
         Ok(poly) => poly,
         Err(_) => return None,
     };
-    let place = place_of(poly.terms(), member.head());
-    Some(Marked::mark(poly, place))
+    let index = index_of(poly.terms(), member.head());
+    Some(Marked::mark(poly, index))
 }
 
-/// The place of the first term at `x`, if there is one.
-pub fn place_at(terms: &[Term], x: &Mono) -> Option<usize>
+/// The index of the first term at `x`, if there is one.
+pub fn index_at(terms: &[Term], x: &Mono) -> Option<usize>
     requires { HasVariables (length x.now) terms.now }
     ensures within { IfSome result (λ k. k < length terms.now) }
     ensures head { IfSome result (λ k. head_of terms.now k ≡ x.now) }
@@ -301,7 +332,7 @@ pub fn divided_at(member: &Marked, x: &Mono) -> Option<Marked>
     ensures { IfSome result (IsQuotientAt member.now x.now) }
 {
     let terms = member.poly().terms();
-    let at = place_at(terms, x)?;
+    let at = index_at(terms, x)?;
     match member.poly().divided(&terms[at].coef) {
         Ok(divided) => Some(Marked::mark(divided, at)),
         Err(_) => None,
@@ -319,8 +350,8 @@ fn has_mark(member: &Marked, head: &Mono) -> bool
     mark.is_same(head)
 }
 
-/// The place of a member with this mark, looked for from a place on, and then before it.
-pub fn place_of_mark(head: &Mono, by: &[Marked], from: usize) -> Option<usize>
+/// The index of a member with this mark, looked for from an index on, and then before it.
+pub fn index_of_mark(head: &Mono, by: &[Marked], from: usize) -> Option<usize>
     ensures { IfSome result (λ j. IsMarkedAt by.now head.now j) }
 {
     'after: for j in from..by.len() {

@@ -6,8 +6,8 @@ ghost use Rattle.gf_poly.specs.Marking.{HaveVariables};
 use gf_cone::Cone;
 use gf_division::weight_of;
 use gf_gordan::{Answer, strict};
-use gf_lines::with_room;
 use gf_poly::{Marked, MarkedSet};
+use gf_strands::with_room;
 use gf_vec::IntVec;
 use std::alloc::Global;
 

@@ -7,22 +7,22 @@ ghost use Rattle.gf_poly.specs.Marking.{HaveVariables, head_of};
 ghost use Rattle.gf_poly.specs.Polynomial.{HasVariables, KeepsVariables};
 ghost use Rattle.gf_ideal_theory.specs.Marks.{HasPositiveWeight, IsRealisable};
 ghost use Rattle.gf_division.specs.NormalForms.{HasSomeWeight, HaveSameVariables};
-ghost use Rattle.gf_lines.specs.Along.{IsBasisOfParts};
+ghost use Rattle.gf_strands.specs.Along.{IsBasisOfParts};
 ghost use Rattle.gf_lifts.specs.Crossings.{IsCrossing, IsNeighbour};
 ghost use Rattle.gf_lifts.specs.LiftsInTurn.{IsReducedForm, IsRest, AreRests, IsLessBy, AreLiftsInTurn, IsLiftIn, AreLiftsIn};
 
-use crate::tops::place_of_mark;
+use crate::tops::index_of_mark;
 use crate::weights::{ROUNDS, weight_found};
 use gf_division::{autoreduce, weight_of};
-use gf_lines::one;
 use gf_poly::{Marked, MarkedSet, Mono, Poly, Term};
+use gf_strands::one;
 use gf_vec::IntVec;
 use gf_wide_division::{Beyond, Precedence, WidePoly, wide_remainder, wide_remainder_again};
 use std::alloc::Global;
 use std::cmp::Ordering;
 
-/// The place of the term at a monomial, if there is one.
-fn place_in(terms: &[Term], x: &Mono) -> Option<usize>
+/// The index of the term at a monomial, if there is one.
+fn index_in(terms: &[Term], x: &Mono) -> Option<usize>
     ensures inside { IfSome result (λ i. i < length terms.now) }
     ensures head { IfSome result (λ i. head_of terms.now i ≡ x.now) }
 {
@@ -88,8 +88,8 @@ fn lift_by(
         Ok(poly) => poly,
         Err(_) => return Err(Beyond),
     };
-    match place_in(poly.terms(), member.head()) {
-        Some(place) => Ok(Marked::mark(poly, place)),
+    match index_in(poly.terms(), member.head()) {
+        Some(index) => Ok(Marked::mark(poly, index)),
         None => Err(Beyond),
     }
 }
@@ -127,7 +127,7 @@ fn lifts_in_turn(
 fn lift_in(done: &[Marked], member: &Marked) -> Result<Marked, Beyond>
     ensures { IfOk result (IsLiftIn done.now member.now) }
 {
-    let j = match place_of_mark(member.head(), done, 0) {
+    let j = match index_of_mark(member.head(), done, 0) {
         Some(j) => j,
         None => return Err(Beyond),
     };
@@ -170,8 +170,8 @@ fn shape(alloc: Global, member: &Marked, rest: &WidePoly) -> Result<Marked, Beyo
         Ok(poly) => poly,
         Err(_) => return Err(Beyond),
     };
-    match place_in(poly.terms(), member.head()) {
-        Some(place) => Ok(Marked::mark(poly, place)),
+    match index_in(poly.terms(), member.head()) {
+        Some(index) => Ok(Marked::mark(poly, index)),
         None => Err(Beyond),
     }
 }
@@ -211,8 +211,8 @@ fn is_lighter(below: &[Marked], i: usize, j: usize, then: &Precedence) -> bool {
     then.is_before(below[j].head(), below[i].head())
 }
 
-/// The place of the first turn whose member has a heavier mark.
-fn place_for(turns: &[usize], below: &[Marked], i: usize, then: &Precedence) -> usize
+/// The index of the first turn whose member has a heavier mark.
+fn index_for(turns: &[usize], below: &[Marked], i: usize, then: &Precedence) -> usize
     ensures { result ≤ length turns.now }
 {
     'turns: for k in 0..turns.len() {
@@ -223,11 +223,11 @@ fn place_for(turns: &[usize], below: &[Marked], i: usize, then: &Precedence) -> 
     turns.len()
 }
 
-/// The places of the members, that with the lightest mark first.
+/// The indices of the members, that with the lightest mark first.
 fn turns_by(alloc: Global, below: &[Marked], then: &Precedence) -> Result<Vec<usize>, Beyond> {
     let mut turns = Vec::with_capacity(alloc, below.len())?;
     'members: for i in 0..below.len() {
-        let at = place_for(&turns, below, i, then);
+        let at = index_for(&turns, below, i, then);
         turns.insert(at, i)?;
     }
     Ok(turns)

@@ -1,2 +1,2 @@
 -- What the contracts of this crate cite.
-pub mod Numbers  -- numbers as places, and what is told of them
+pub mod NumberMoves  -- numbers as states, and what is told of them

@@ -1,6 +1,6 @@
-//! The numbers up to a limit as places.
+//! The numbers up to a limit as states.
 ghost use Rattle.std.specs.Prelude.{◌≡◌, ◌≤◌, IfErr, IfOk};
-ghost use Rattle.gf_number_sessions.specs.Numbers.{IsNumberStep, IsRefusedAtNumber, digit_of, number_rules, number_and_steps};
+ghost use Rattle.gf_number_sessions.specs.NumberMoves.{IsNumberStep, IsRefusedAtNumber, digit_of, number_rules, number_and_steps};
 
 use gf_session::Moves;
 use std::alloc::{AllocError, Global};
@@ -16,7 +16,7 @@ pub enum NumberError {
 
 /// The numbers from 0 to a limit. All calls refuse at the chosen one.
 #[derive(Drop)]
-pub struct Numbers {
+pub struct NumberMoves {
     pub limit: u64,
     pub chosen: u64,
     pub alloc: Global,
@@ -37,7 +37,7 @@ fn text_of(alloc: Global, number: u64, behind: usize) -> Result<Vec<u8>, AllocEr
     text.to_vec(alloc)
 }
 
-impl Numbers {
+impl NumberMoves {
     /// Refuses at the chosen number, and only there.
     fn ask(&self, number: u64) -> Result<(), NumberError>
         ensures { IfErr result (IsRefusedAtNumber self.now.chosen number) }
@@ -49,14 +49,14 @@ impl Numbers {
     }
 }
 
-impl Moves for Numbers {
-    type Place = u64;
+impl Moves for NumberMoves {
+    type State = u64;
 
     type Step = u64;
 
     type Error = NumberError;
 
-    ghost is_place = { λ t p. p ≤ t.limit };
+    ghost is_state = { λ t p. p ≤ t.limit };
 
     ghost rules = { λ t. number_rules t.limit };
 

@@ -48,7 +48,7 @@ fn tree_answer<R: Threads + Sync>(
         ("waves", [limit, front]) => waves::whole(rt, alloc, *limit, *front),
         ("refused", [limit, first, second]) => waves::refused(rt, alloc, *limit, *first, *second),
         ("after", [limit]) => waves::after(rt, alloc, *limit),
-        ("jobs", [limit]) => waves::numbered(rt, alloc, *limit),
+        ("batches", [limit]) => waves::numbered(rt, alloc, *limit),
         ("meet", [limit]) => waves::meet(rt, alloc, *limit),
         _ => Ok(Vec::new(alloc)),
     }

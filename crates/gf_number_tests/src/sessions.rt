@@ -1,5 +1,5 @@
 //! Sessions over numbers.
-use gf_number_sessions::{NumberError, Numbers};
+use gf_number_sessions::{NumberError, NumberMoves};
 use gf_outside::{MemSink, MemSource, read_all};
 use gf_session::{SessionError, converse};
 use std::alloc::{AllocError, Global};
@@ -27,7 +27,7 @@ pub fn session(alloc: Global, input: &[u8], numbers: &[u64]) -> Result<Vec<u8>, 
     let [chosen, read, write] = numbers else {
         return Ok(Vec::new(alloc));
     };
-    let moves = Numbers {
+    let moves = NumberMoves {
         limit: 3,
         chosen: *chosen,
         alloc,

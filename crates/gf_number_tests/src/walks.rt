@@ -1,15 +1,15 @@
 //! Lists of numbers in path order, walkers and their parts.
 ghost use Rattle.std.specs.Prelude.{◌≡◌};
 
-use gf_number_trees::{NumberError, Numbers};
+use gf_number_trees::{NumberError, NumberTree};
 use gf_reverse_search::{Mark, Nodes, Split, Walker, list_all, to_root};
 use std::alloc::{AllocError, Global};
 
 /// The tree up to a limit, where calls refuse at two numbers.
-pub fn tree(alloc: Global, limit: u64, first: u64, second: u64) -> Numbers
+pub fn tree(alloc: Global, limit: u64, first: u64, second: u64) -> NumberTree
     ensures { result.limit ≡ limit }
 {
-    Numbers {
+    NumberTree {
         limit,
         chosen: (first, second),
         alloc,
@@ -78,7 +78,7 @@ fn push_next(
 fn push_place(
     out: &mut Vec<u8>,
     alloc: Global,
-    walker: &Walker<Numbers>,
+    walker: &Walker<NumberTree>,
 ) -> Result<(), AllocError> {
     let here = *walker.position().here;
     let is_at_start = walker.is_at_start();
@@ -112,7 +112,7 @@ pub fn nodes(alloc: Global, limit: u64, chosen: u64) -> Result<Vec<u8>, AllocErr
 fn push_steps(
     out: &mut Vec<u8>,
     alloc: Global,
-    walker: &mut Walker<Numbers>,
+    walker: &mut Walker<NumberTree>,
     steps: u64,
 ) -> Result<(), AllocError> {
     for _ in 0..steps {
@@ -127,8 +127,8 @@ fn push_steps(
 fn push_parts(
     out: &mut Vec<u8>,
     alloc: Global,
-    mut first: Walker<Numbers>,
-    mut rest: Walker<Numbers>,
+    mut first: Walker<NumberTree>,
+    mut rest: Walker<NumberTree>,
     most: u64,
 ) -> Result<(), AllocError> {
     push_steps(out, alloc, &mut first, most)?;
@@ -142,7 +142,7 @@ fn push_parts(
 fn push_split(
     out: &mut Vec<u8>,
     alloc: Global,
-    split: Result<Split<Numbers>, (Walker<Numbers>, NumberError)>,
+    split: Result<Split<NumberTree>, (Walker<NumberTree>, NumberError)>,
     most: u64,
 ) -> Result<(), AllocError> {
     match split {

@@ -1,6 +1,6 @@
 //! Waves of several workers: one list and one refusal for every number of them, going on behind any number, the gate.
 use crate::walks::{push_number, tree};
-use gf_number_trees::{NumberError, Numbers};
+use gf_number_trees::{NumberError, NumberTree};
 use gf_reverse_search::{Walker, list_all};
 use gf_waves::{FreeGate, Gate, Waves};
 use std::alloc::{AllocError, Global};
@@ -24,7 +24,7 @@ struct Outcome {
 fn written<R: Threads + Sync, G: Gate>(
     rt: &R,
     alloc: Global,
-    waves: &mut Waves<'_, Numbers, G>,
+    waves: &mut Waves<'_, NumberTree, G>,
     most: u64,
 ) -> Result<Outcome, NumberError> {
     let mut all = Outcome {
@@ -210,23 +210,23 @@ pub fn after<R: Threads + Sync>(rt: &R, alloc: Global, limit: u64) -> Result<Vec
     Ok(out)
 }
 
-/// Counts the jobs, and keeps which of the first 64 numbers came.
+/// Counts the batches, and keeps which of the first 64 numbers came.
 #[derive(Drop)]
 struct Counting {
-    jobs: AtomicU64,
+    batches: AtomicU64,
     numbers: AtomicU64,
 }
 
 impl Gate for Counting {
-    fn at(&self, job: u64) {
-        self.jobs.fetch_add(1, Ordering::SeqCst);
-        if job < 64 {
-            self.numbers.fetch_or(1 << job, Ordering::SeqCst);
+    fn at(&self, batch: u64) {
+        self.batches.fetch_add(1, Ordering::SeqCst);
+        if batch < 64 {
+            self.numbers.fetch_or(1 << batch, Ordering::SeqCst);
         }
     }
 }
 
-/// Whether so many workers give all numbers, and call the gate with as many numbers as there are jobs, from 0 on, so with each once.
+/// Whether so many workers give all numbers, and call the gate with as many numbers as there are batches, from 0 on, so with each once.
 fn is_numbered<R: Threads + Sync>(
     rt: &R,
     alloc: Global,
@@ -237,21 +237,21 @@ fn is_numbered<R: Threads + Sync>(
         return Ok(false);
     }
     let gate = Counting {
-        jobs: AtomicU64::new(0),
+        batches: AtomicU64::new(0),
         numbers: AtomicU64::new(0),
     };
     let mut waves = Waves::new(alloc, tree(alloc, limit, 0, 0), 1, workers, &gate)?;
     let all = written(rt, alloc, &mut waves, limit.saturating_add(1))?;
-    let jobs = gate.jobs.load(Ordering::SeqCst);
-    let expected = if 1 <= jobs && jobs <= 64 {
-        u64::MAX >> (64 - jobs)
+    let batches = gate.batches.load(Ordering::SeqCst);
+    let expected = if 1 <= batches && batches <= 64 {
+        u64::MAX >> (64 - batches)
     } else {
         0
     };
     Ok(all.nodes.len() as u64 == limit && gate.numbers.load(Ordering::SeqCst) == expected)
 }
 
-/// The numbers of workers, among 1 and 4, by whom jobs are numbered in turn.
+/// The numbers of workers, among 1 and 4, by whom batches are numbered in turn.
 ///
 /// # Errors
 ///
@@ -270,7 +270,7 @@ pub fn numbered<R: Threads + Sync>(
     Ok(out)
 }
 
-/// Lets jobs 3 and 4 meet, those of one wave: each sets its own flag and looks for the other's, for so many turns.
+/// Lets batches 3 and 4 meet, those of one wave: each sets its own flag and looks for the other's, for so many turns.
 #[derive(Drop)]
 struct Meeting {
     first: AtomicU64,
@@ -278,7 +278,7 @@ struct Meeting {
     spent: AtomicU64,
 }
 
-/// How often a job looks for the other.
+/// How often a batch looks for the other.
 const TURNS: u64 = 100_000_000;
 
 impl Meeting {
@@ -294,17 +294,17 @@ impl Meeting {
 }
 
 impl Gate for Meeting {
-    fn at(&self, job: u64) {
-        if job == 3 {
+    fn at(&self, batch: u64) {
+        if batch == 3 {
             self.meet(&self.first, &self.second);
         }
-        if job == 4 {
+        if batch == 4 {
             self.meet(&self.second, &self.first);
         }
     }
 }
 
-/// How many numbers come where jobs 3 and 4 of two workers have to meet; none where one doesn't come, or has spent its turns.
+/// How many numbers come where batches 3 and 4 of two workers have to meet; none where one doesn't come, or has spent its turns.
 ///
 /// # Errors
 ///

@@ -5,7 +5,7 @@ use Rattle.gf_reverse_search.specs.Listing.{Among}
 use Rattle.gf_reverse_search.specs.Path.{IsRoot}
 use Rattle.gf_reverse_search.specs.Whole.{Parent, IsFinite}
 use Rattle.gf_reverse_search.proofs.FinitenessLaws.{finite_tree}
-use Rattle.gf_number_trees.specs.Numbers.{IsNumber, IsHalf, numbers_strict, numbers_tree, numbers_nodes}
+use Rattle.gf_number_trees.specs.NumberTree.{IsNumber, IsHalf, numbers_strict, numbers_tree, numbers_nodes}
 
 -- a number is below its half
 pub numbers_fall : (limit v c u : ℕ) → IsHalf limit v c u → u < v

@@ -1,2 +1,2 @@
-pub mod Numbers  -- the tree: halves, and that it is one
+pub mod NumberTree  -- the tree: halves, and that it is one
 pub mod Finite  -- the tree is finite

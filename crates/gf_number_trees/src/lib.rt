@@ -5,4 +5,4 @@
 
 mod numbers;
 
-pub use numbers::{NumberError, Numbers};
+pub use numbers::{NumberError, NumberTree};

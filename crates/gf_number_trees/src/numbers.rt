@@ -1,8 +1,8 @@
 //! The tree of the numbers up to a limit.
 ghost use Rattle.std.specs.Prelude.{◌≡◌, ◌<◌, length, IfOk, IfErr, OnErr};
 ghost use Rattle.gf_reverse_search.specs.Tree.{RisesBy, HasLabels, IsChildOf, IsParentOf};
-ghost use Rattle.gf_number_trees.specs.Numbers.{IsNumber, IsHalf, IsChosen, IsOutOfMemory, Refuses, memory_refuses, numbers_strict, numbers_tree};
-ghost use Rattle.gf_number_trees.specs.Numbers.{numbers_nodes};
+ghost use Rattle.gf_number_trees.specs.NumberTree.{IsNumber, IsHalf, IsChosen, IsOutOfMemory, Refuses, memory_refuses, numbers_strict, numbers_tree};
+ghost use Rattle.gf_number_trees.specs.NumberTree.{numbers_nodes};
 ghost use Rattle.gf_number_trees.specs.Finite.{down_to_one, numbers_fall, numbers_finite};
 ghost use Rattle.gf_number_trees.specs.declared.numbers.NumberError.TheVariants.{Memory, Chosen};
 ghost use Rattle.std.proofs.Common.{refl, rules};
@@ -29,13 +29,13 @@ impl From<AllocError> for NumberError {
 
 /// The tree of the numbers from 1 to a limit. `labels`, `child` and `parent` refuse at the two chosen numbers; 0 is no number of the tree.
 #[derive(Drop)]
-pub struct Numbers {
+pub struct NumberTree {
     pub limit: u64,
     pub chosen: (u64, u64),
     pub alloc: Global,
 }
 
-impl Numbers {
+impl NumberTree {
     /// Refuses at a chosen number, and only there.
     fn ask(&self, node: u64) -> Result<(), NumberError>
         ensures err { IfErr result (Refuses self.now.chosen node) }
@@ -49,7 +49,7 @@ impl Numbers {
     }
 }
 
-impl Tree for Numbers {
+impl Tree for NumberTree {
     type Node = u64;
 
     type Label = u64;
@@ -132,7 +132,7 @@ impl Tree for Numbers {
     }
 
     fn again(&self) -> Result<Self, NumberError> {
-        Ok(Numbers {
+        Ok(NumberTree {
             limit: self.limit,
             chosen: self.chosen,
             alloc: self.alloc,
@@ -140,7 +140,7 @@ impl Tree for Numbers {
     }
 }
 
-impl ReusingTree for Numbers {
+impl ReusingTree for NumberTree {
     type Store = ();
 
     fn store(_alloc: Global) {}
@@ -167,7 +167,7 @@ impl ReusingTree for Numbers {
     }
 }
 
-impl FiniteTree for Numbers {
+impl FiniteTree for NumberTree {
     ghost rank = { λ _ v. v };
 
     ghost count = { λ t _. length (down_to_one t.limit) };

@@ -11,7 +11,7 @@ use gf_vec::{IntVec, weight_of};
 use std::cmp::Ordering;
 use std::marker::Model;
 
-/// A weight with which an order is no term order; `index` is the place, counted from 0, of its first entry that is too
+/// A weight with which an order is no term order; `index` is the index, counted from 0, of its first entry that is too
 /// small.
 #[derive(Clone, Copy, PartialEq, Eq)]
 pub struct NotTermOrder {

@@ -8,7 +8,7 @@ ghost use Rattle.gf_order.specs.Weights.{AreBounded, IsFirstBelow, CompareSo};
 use gf_vec::share;
 use std::cmp::Ordering;
 
-/// The place of the first entry that is below the limit.
+/// The index of the first entry that is below the limit.
 pub fn first_below(weight: &[i128], limit: i128) -> Option<usize>
     ensures { MatchOption result (All (λ w. limit ≤ℤ w) weight.now) (IsFirstBelow limit weight.now) }
 {

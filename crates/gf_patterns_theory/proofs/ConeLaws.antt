@@ -9,7 +9,7 @@ use Rattle.gf_int_theory.proofs.ListLaws.{Contains-here}
 use Rattle.gf_vec.specs.Vector.{dot}
 use Rattle.gf_gordan.specs.Alternative.{AreRows}
 use Rattle.gf_duality_theory.specs.Faces.{Rows, IsInCone, IsFaceOf}
-use Rattle.gf_duality_theory.proofs.ListLaws.{none_in, in_tail, in_cons, of_rest, rest_cover, less, at, more, place}
+use Rattle.gf_duality_theory.proofs.ListLaws.{none_in, in_tail, in_cons, of_rest, rest_cover, less, at, more, index}
 use Rattle.gf_fans_theory.specs.Fans.{MeetInFaces, MeetPairwise}
 use Rattle.gf_fans_theory.proofs.FanLaws.{is_in, up_in, zero_in, of_part}
 use Rattle.gf_patterns_theory.specs.Refinements.{IsFaceOfSome}
@@ -59,7 +59,7 @@ single_is n A i w li =
       every = λ g k. elim (rest_cover A i [] g li k) [ inl j ↦ inr (map_in (vector_difference a) rest g j) | inr j ↦ inl j ];
     }
 
--- the members of two places, or of the rest
+-- the members of two indices, or of the rest
 rest_of_two : (A : List (List ℤ)) (i j : ℕ) (g : List ℤ) → i < j → j < length A → Contains A g →
     Contains (point_at A i ∷ point_at A j ∷ []) g ⊎ Contains (remove (remove A j) i) g
 rest_of_two A i j g l lj k =
@@ -169,7 +169,7 @@ singles_minkowski n A b cones w kb s inner = record {
       (f.0, (record { cone = single_rows A k; listed = s.every k lk (subst (IsVertex n A) (sym e) h.1.1); face = f.1.0 }, f.1.1));
 }
 
--- a pair of places, the lesser first
+-- a pair of indices, the lesser first
 pair_at : (n : ℕ) (A : List (List ℤ)) (cones : List Rows) (v : List ℤ) (i j : ℕ) → AreRows n A → AreVertexPairCones n A cones → i < j → j < length A →
     IsHighest A v (point_at A i) → IsHighest A v (point_at A j) → IsVertex n A (point_at A i) → IsVertex n A (point_at A j) →
     (f : Rows) × (IsFaceOfSome n cones f × IsClosedCone n (A ∷ []) v f)
@@ -210,7 +210,7 @@ pairs_hypersurface n A cones w different s inner = record {
       let ej : point_at A j ≡ h.two = get_or_default A j [] h.two lj ∙ h.second.listed.2 in
       let hi = subst (IsHighest A v) (sym ei) h.first in let hj = subst (IsHighest A v) (sym ej) h.second in
       let vi = subst (IsVertex n A) (sym ei) h.first_vertex in let vj = subst (IsVertex n A) (sym ej) h.second_vertex in
-      elim (place j i) [
+      elim (index j i) [
         | less g ↦ pair_at n A cones v i j w s g lj hi hj vi vj
         | more g ↦ pair_at n A cones v j i w s g li hj hi vj vi
         | at g ↦ absurd (h.other (sym ei ∙ ap (point_at A) (sym g) ∙ ej))

@@ -9,7 +9,7 @@ use Rattle.gf_vec.proofs.VectorLaws.{length-zeros}
 use Rattle.gf_gordan.specs.Alternative.{AreRows, GordansAlternative, IsSolvable}
 use Rattle.gf_duality_theory.specs.Faces.{Rows, IsInCone, IsFaceOf, part}
 use Rattle.gf_duality_theory.proofs.Equations.{in_map}
-use Rattle.gf_duality_theory.proofs.ListLaws.{none_in, in_tail, in_cons, of_rest, stood, place, less, at, more}
+use Rattle.gf_duality_theory.proofs.ListLaws.{none_in, in_tail, in_cons, of_rest, stood, index, less, at, more}
 use Rattle.gf_fans_theory.specs.Fans.{MeetInFaces}
 use Rattle.gf_fans_theory.proofs.FanLaws.{is_in, own_face, same_turned}
 use Rattle.gf_patterns_theory.specs.Refinements.{HaveEntries}
@@ -134,12 +134,12 @@ whole_prevariety n = whole_list IsOnPrevariety n (λ w A k. absurd (none_in A k)
 pub whole_minkowski : (n : ℕ) → IsMinkowskiList n [] (whole_space ∷ [])
 whole_minkowski n = whole_list IsAnywhere n (λ w. tt)
 
--- points at other places are others
+-- points at other indices are others
 others_differ : (A : List (List ℤ)) (i : ℕ) (x : List ℤ) → i < length A → AllPairs (λ x y. x ≢ y) A → Contains (remove A i) x → x ≢ point_at A i
 others_differ A i x li different k e =
     let st = stood A i x li k in let j : ℕ = st.j in
     let q : point_at A j ≡ x = get_or_default A j [] x st.inside ∙ st.is in
-    elim (place i j) [
+    elim (index i j) [
       | less g ↦ different j i [] g li (q ∙ e)
       | at g ↦ st.other g
       | more g ↦ different i j [] g st.inside (sym (q ∙ e))

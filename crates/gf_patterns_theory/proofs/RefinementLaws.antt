@@ -5,7 +5,7 @@ use Rattle.std.proofs.lemmas.List.Elements.{All-append, Contains-get_or, Contain
 use Rattle.gf_int_theory.proofs.ListLaws.{Contains-here}
 use Rattle.gf_gordan.specs.Alternative.{AreRows}
 use Rattle.gf_duality_theory.specs.Faces.{Rows, IsFaceOf}
-use Rattle.gf_duality_theory.proofs.ListLaws.{none_in, in_tail, in_cons, less, at, more, place}
+use Rattle.gf_duality_theory.proofs.ListLaws.{none_in, in_tail, in_cons, less, at, more, index}
 use Rattle.gf_fans_theory.specs.Fans.{meet, MeetInFaces, MeetPairwise}
 use Rattle.gf_fans_theory.proofs.FanLaws.{face_same, meet_swap, same_turned}
 use Rattle.gf_patterns_theory.specs.Refinements.{HaveEntries, all_meets, IsCommonRefinement}
@@ -19,7 +19,7 @@ pub all_meet : (n : ℕ) (cones : List Rows) → MeetPairwise n cones → AllMee
 all_meet n cones f c d (i, li, ei) (j, lj, ej) =
     let e : get_or cones i c ≡ c = ei in
     let e' : get_or cones j c ≡ d = get_or_default cones j c d lj ∙ ej in
-    elim (place j i) [
+    elim (index j i) [
       | less h ↦ subst (λ z. MeetInFaces n z d) e (subst (λ z. MeetInFaces n (get_or cones i c) z) e' (f i j c (omega (arith, h)) lj))
       | more h ↦ meet_swap n d c (subst (λ z. MeetInFaces n z c) e' (subst (λ z. MeetInFaces n (get_or cones j c) z) e (f j i c h li)))
       | at h ↦ let same : c ≡ d = sym e ∙ ap (λ k. get_or cones k c) (sym h) ∙ e' in subst (λ z. MeetInFaces n c z) same (meets_self n c)

@@ -8,7 +8,7 @@ vector_difference [] ys = []
 vector_difference (x ∷ xs) [] = []
 vector_difference (x ∷ xs) (y ∷ ys) = (x -ℤ y) ∷ vector_difference xs ys
 
--- the point at a place
+-- the point at an index
 abbrev pub point_at : List (List ℤ) → ℕ → List ℤ
 point_at A i = slice_index_or A i []
 

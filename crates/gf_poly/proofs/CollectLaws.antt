@@ -230,7 +230,7 @@ Collecting-next f out new x c t fs o p m = record {
   variables = λ n h. let v = m.variables n h in (pushed_variables n out new c x p v.0 v.1, v.2.0, v.2.1);
 }
 
--- ---- the same by places
+-- ---- the same by indices
 
 pub nonempty_by_test : (n : ℕ) → false ≡ (n == 0) → 0 < n
 nonempty_by_test n h = grind (arith, nat_tests)

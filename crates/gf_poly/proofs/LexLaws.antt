@@ -1,4 +1,4 @@
--- Comparisons of lists by the first entry that differs, and equal monomials by their places and their words.
+-- Comparisons of lists by the first entry that differs, and equal monomials by their indices and their words.
 -- To cite: AgreeUpTo-more, lex_less, lex_greater, lex_end, IsSameUpTo-more, IsSameUpTo-end, placed-same, word-unique.
 use Rattle.std.specs.Prelude.{◌≡◌, ℕ, zero, suc, ◌+◌, ◌-◌, ◌<◌, ◌≤◌, ◌⊎◌, ◌↔◌, Bool, IsTrue, List, [], ◌∷◌, length, min}
 use Rattle.std.specs.Ordering.{nat_cmp, ordering_then}
@@ -18,11 +18,11 @@ pub record AgreeUpTo (x y : List ℕ) (i : ℕ) : Type 0 where
   pub at : (k : ℕ) → k < i → get_or x k 0 ≡ get_or y k 0
 
 pub AgreeUpTo-more : (x y : List ℕ) (i : ℕ) → get_or x i 0 ≡ get_or y i 0 → AgreeUpTo x y i → AgreeUpTo x y (i + 1)
-AgreeUpTo-more x y i e h = record { at = λ k l. place k (cases_lt k i) l }
+AgreeUpTo-more x y i e h = record { at = λ k l. index k (cases_lt k i) l }
   where
-    place : (k : ℕ) → (k < i) ⊎ (i ≤ k) → k < i + 1 → get_or x k 0 ≡ get_or y k 0
-    place k (inl m) l = h.at k m
-    place k (inr m) l = let q : i ≡ k = omega arith in subst (λ (j : ℕ). get_or x j 0 ≡ get_or y j 0) q e
+    index : (k : ℕ) → (k < i) ⊎ (i ≤ k) → k < i + 1 → get_or x k 0 ≡ get_or y k 0
+    index k (inl m) l = h.at k m
+    index k (inr m) l = let q : i ≡ k = omega arith in subst (λ (j : ℕ). get_or x j 0 ≡ get_or y j 0) q e
 
 rest : (a b : ℕ) (x y : List ℕ) (i : ℕ) → AgreeUpTo (a ∷ x) (b ∷ y) (suc i) → AgreeUpTo x y i
 rest a b x y i h = record { at = λ k l. h.at (suc k) (omega arith) }
@@ -74,17 +74,17 @@ IsSameUpTo-more x y i old new g h = record {
 }
 
 pub IsSameUpTo-end : (x y : List ℕ) (i : ℕ) (same : Bool) → length x ≡ length y → length x ≤ i → IsSameUpTo x y same i → IsTrue same ↔ (x ≡ y)
-IsSameUpTo-end x y i same e l h = (λ t. same_lists x y e (λ k. place t k (cases_lt k i)), h.all)
+IsSameUpTo-end x y i same e l h = (λ t. same_lists x y e (λ k. index t k (cases_lt k i)), h.all)
   where
-    place : IsTrue same → (k : ℕ) → (k < i) ⊎ (i ≤ k) → entry x k ≡ entry y k
-    place t k (inl m) = sym (entry-get_or x k) ∙ (h.so t).at k m ∙ entry-get_or y k
-    place t k (inr m) = entry-past x k (omega arith) ∙ sym (entry-past y k (omega arith))
+    index : IsTrue same → (k : ℕ) → (k < i) ⊎ (i ≤ k) → entry x k ≡ entry y k
+    index t k (inl m) = sym (entry-get_or x k) ∙ (h.so t).at k m ∙ entry-get_or y k
+    index t k (inr m) = entry-past x k (omega arith) ∙ sym (entry-past y k (omega arith))
 
--- monomials are the same where their places are
-pub placed-same : (x y places others : Exponents) → length x ≡ length y → IsPlaced x places → IsPlaced y others → (places ≡ others) ↔ (x ≡ y)
-placed-same x y places others e h k = (
+-- monomials are the same where their indices are
+pub placed-same : (x y indices others : Exponents) → length x ≡ length y → IsPlaced x indices → IsPlaced y others → (indices ≡ others) ↔ (x ≡ y)
+placed-same x y indices others e h k = (
   λ q. same_lists x y e (λ i. sym (h.at i) ∙ ap (λ z. entry z i) q ∙ k.at i),
-  λ q. same_lists places others (h.full ∙ sym k.full) (λ i. h.at i ∙ ap (λ z. entry z i) q ∙ sym (k.at i)),
+  λ q. same_lists indices others (h.full ∙ sym k.full) (λ i. h.at i ∙ ap (λ z. entry z i) q ∙ sym (k.at i)),
 )
 
 -- a monomial has one word

@@ -1,5 +1,5 @@
 pub mod MonomialLaws  -- exponents entry by entry, and as slices
-pub mod PlacedLaws  -- monomials in all places, with zeros behind their exponents
+pub mod PlacedLaws  -- monomials in all indices, with zeros behind their exponents
 pub mod LexLaws  -- comparisons by lex, and equal monomials
 pub mod FillingLaws  -- monomials in one more variable
 pub mod WordLaws  -- the word of the variables that occur

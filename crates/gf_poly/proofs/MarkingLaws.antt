@@ -1,4 +1,4 @@
--- Marked terms by their places, monic polynomials, and lists of marked polynomials.
+-- Marked terms by their indices, monic polynomials, and lists of marked polynomials.
 -- To cite: coefficient_at, coefficient_nonzero, head_value, head_marked, monic_value, monic_cause, length-products,
 -- HaveVariables-permutation, by_head, arranged. The rest are steps.
 use Rattle.std.specs.Prelude.{◌≡◌, ◌≢◌, ℕ, zero, suc, ◌<◌, List, [], ◌∷◌, length, Contains, IsPermutation, IsSortedByKey}
@@ -20,7 +20,7 @@ use Rattle.gf_poly.specs.Marking.{MarkedPolynomial, head_of, HasMark, HasMarkedT
 use Rattle.gf_poly.proofs.DescendingLaws.{Contains-cons, Contains-there, Contains-none}
 use Rattle.gf_poly.proofs.ProductLaws.{IsScaled-products, KeepsVariables-scaled}
 
--- ---- places
+-- ---- indices
 head_of-at : (f : Terms) (i : ℕ) (t : Term) → i < length f → t ≡ get_or f i t → t.mono ≡ head_of f i
 head_of-at [] i t h is = absurd (omega arith)
 head_of-at (s ∷ f) zero t h is = ap (λ (z : Term). z.mono) is
@@ -81,7 +81,7 @@ monic_at f h i k m n p w =
 
 -- ---- lists
 
--- ---- the same of a marked polynomial that is kept as its terms f and the place i
+-- ---- the same of a marked polynomial that is kept as its terms f and the index i
 pub coefficient_at : (b : MarkedPolynomial) (f g : Terms) (i : ℕ) (t : Term) → ◌≡◌ {A = MarkedPolynomial} (record { poly = f; head = head_of f i }) b → g ≡ f →
     i < length f → t ≡ get_or g i t → HasMark b (get_or g i t).coef
 coefficient_at b f g i t v e h is =

@@ -202,7 +202,7 @@ Merging-neither sign f g out fs gs s t c m alike value w nothing = record {
     none true = refl
     none false = refl
 
--- ---- the same by places
+-- ---- the same by indices
 
 pub at_left : (sign : Sign) (f g out new gs : Terms) (i : ℕ) (s t : Term) → i < length f → t ≡ get_or f i t → s ≡ t → new ≡ out ++ s ∷ [] →
     (IsDescending gs → IsAbove t.mono gs) → Merging sign f g out (drop i f) gs → Merging sign f g new (drop (i + 1) f) gs
@@ -219,7 +219,7 @@ at_right sign f g out new fs j s t h is copied pushed a m =
     subst (λ o. Merging sign f g o fs (drop (j + 1) g)) (ap (λ (x : Term). out ++ x ∷ []) (sym copied) ∙ sym pushed)
     (Merging-right sign f g out fs (drop (j + 1) g) t n (a n.left))
 
--- a greater head at a place
+-- a greater head at an index
 pub above_at : (g : Terms) (j : ℕ) (s t : Term) → j < length g → t ≡ get_or g j t → deglex s.mono t.mono ≡ Greater → IsDescending (drop j g) →
     IsAbove s.mono (drop j g)
 above_at g j s t h is c d =

@@ -48,7 +48,7 @@ entry-take_last x i = ap (λ n. entry (take n x) i) (add-one i) ∙ at x i
     at (a ∷ x) zero = refl
     at (a ∷ x) (suc i) = at x i
 
--- ---- one place set
+-- ---- one index set
 pub entry-set_other : (x : Exponents) (i k a : ℕ) → k ≢ i → entry (set x i a) k ≡ entry x k
 entry-set_other x i k a other = sym (entry-get_or (set x i a) k) ∙ get_or-set_other x i k a 0 other ∙ entry-get_or x k
 
@@ -87,33 +87,33 @@ plus-minus x y e d =
     (λ i. omega (arith, entries_by_divides y x d i, entry-plus (minus x y) y i, entry-minus x y i))
 
 -- ---- what a loop over the variables has done
--- the first i places of all hold f of the two exponents
+-- the first i indices of all hold f of the two exponents
 pub record AreEntries (f : ℕ → ℕ → ℕ) (x y : Exponents) (all : List ℕ) (i : ℕ) : Type 0 where
   pub room : length all ≡ ROOM
   pub at : (k : ℕ) → k < i → get_or all k 0 ≡ f (entry x k) (entry y k)
 
 pub AreEntries-more : (f : ℕ → ℕ → ℕ) (x y : Exponents) (all : List ℕ) (i v : ℕ) → i < ROOM → v ≡ f (entry x i) (entry y i) → AreEntries f x y all i →
     AreEntries f x y (set all i v) (i + 1)
-AreEntries-more f x y all i v l e h = record { room = length-set all i v ∙ h.room; at = λ k b. place k b (cases_lt k i) }
+AreEntries-more f x y all i v l e h = record { room = length-set all i v ∙ h.room; at = λ k b. index k b (cases_lt k i) }
   where
-    place : (k : ℕ) → k < i + 1 → (k < i) ⊎ (i ≤ k) → get_or (set all i v) k 0 ≡ f (entry x k) (entry y k)
-    place k b (inl m) = get_or-set_other all i k v 0 (λ q. absurd (omega arith)) ∙ h.at k m
-    place k b (inr m) =
+    index : (k : ℕ) → k < i + 1 → (k < i) ⊎ (i ≤ k) → get_or (set all i v) k 0 ≡ f (entry x k) (entry y k)
+    index k b (inl m) = get_or-set_other all i k v 0 (λ q. absurd (omega arith)) ∙ h.at k m
+    index k b (inr m) =
         let q : k ≡ i = omega arith in
         get_or-set_at all i k v 0 q (omega (arith, h.room)) ∙ e ∙ ap (λ j. f (entry x j) (entry y j)) (sym q)
 
--- all places are done
+-- all indices are done
 pub AreEntries-end : (f : ℕ → ℕ → ℕ) (x y z : Exponents) (all : List ℕ) (i : ℕ) → length x ≤ i → length x ≤ ROOM → length z ≡ length x →
     ((k : ℕ) → entry z k ≡ f (entry x k) (entry y k)) → AreEntries f x y all i → take (length x) all ≡ z
 AreEntries-end f x y z all i l r e g h = taken_is (length x) all z e (omega (arith, h.room)) (λ k b. h.at k (omega arith) ∙ sym (g k))
 
--- all ROOM places are done
+-- all ROOM indices are done
 pub AreEntries-all : (f : ℕ → ℕ → ℕ) (x y z : Exponents) (all : List ℕ) (i : ℕ) → length x ≡ ROOM → ROOM ≤ i → length z ≡ ROOM →
     ((k : ℕ) → entry z k ≡ f (entry x k) (entry y k)) → AreEntries f x y all i → all ≡ z
 AreEntries-all f x y z all i e l r g h = sym (take_all ROOM all (omega (arith, h.room))) ∙ ap (λ n. take n all) (sym e) ∙ AreEntries-end f x y z all i
     (omega (arith, e, l)) (omega (arith, e)) (r ∙ sym e) g h
 
--- the first i places of all hold the exponents of x, and zeros stand behind them
+-- the first i indices of all hold the exponents of x, and zeros stand behind them
 pub record ArePlacedUpTo (x : Exponents) (all : List ℕ) (i : ℕ) : Type 0 where
   pub room : length all ≡ ROOM
   pub at : (k : ℕ) → k < i → entry all k ≡ entry x k
@@ -122,13 +122,13 @@ pub record ArePlacedUpTo (x : Exponents) (all : List ℕ) (i : ℕ) : Type 0 whe
 pub ArePlacedUpTo-more : (x : Exponents) (all : List ℕ) (i v : ℕ) → i < ROOM → v ≡ entry x i → ArePlacedUpTo x all i → ArePlacedUpTo x (set all i v) (i + 1)
 ArePlacedUpTo-more x all i v l e h = record {
   room = length-set all i v ∙ h.room;
-  at = λ k b. place k b (cases_lt k i);
+  at = λ k b. index k b (cases_lt k i);
   behind = λ k b. entry-set_other all i k v (λ q. absurd (omega arith)) ∙ h.behind k (omega arith);
 }
   where
-    place : (k : ℕ) → k < i + 1 → (k < i) ⊎ (i ≤ k) → entry (set all i v) k ≡ entry x k
-    place k b (inl m) = entry-set_other all i k v (λ q. absurd (omega arith)) ∙ h.at k m
-    place k b (inr m) =
+    index : (k : ℕ) → k < i + 1 → (k < i) ⊎ (i ≤ k) → entry (set all i v) k ≡ entry x k
+    index k b (inl m) = entry-set_other all i k v (λ q. absurd (omega arith)) ∙ h.at k m
+    index k b (inr m) =
         let q : k ≡ i = omega arith in
         sym (entry-get_or (set all i v) k) ∙ get_or-set_at all i k v 0 q (omega (arith, h.room)) ∙ e ∙ ap (λ j. entry x j) (sym q)
 
@@ -137,11 +137,11 @@ pub record FitsBelow (x y : Exponents) (i : ℕ) : Type 0 where
   pub at : (k : ℕ) → k < i → entry x k + entry y k < 2 ^ 31
 
 pub FitsBelow-more : (x y : Exponents) (i : ℕ) → entry x i + entry y i < 2 ^ 31 → FitsBelow x y i → FitsBelow x y (i + 1)
-FitsBelow-more x y i l h = record { at = λ k b. place k b (cases_lt k i) }
+FitsBelow-more x y i l h = record { at = λ k b. index k b (cases_lt k i) }
   where
-    place : (k : ℕ) → k < i + 1 → (k < i) ⊎ (i ≤ k) → entry x k + entry y k < 2 ^ 31
-    place k b (inl m) = h.at k m
-    place k b (inr m) = let q : i ≡ k = omega arith in subst (λ (j : ℕ). entry x j + entry y j < 2 ^ 31) q l
+    index : (k : ℕ) → k < i + 1 → (k < i) ⊎ (i ≤ k) → entry x k + entry y k < 2 ^ 31
+    index k b (inl m) = h.at k m
+    index k b (inr m) = let q : i ≡ k = omega arith in subst (λ (j : ℕ). entry x j + entry y j < 2 ^ 31) q l
 
 -- whether the sums so far are below the limit, as a flag says
 pub record IsFitting (x y : Exponents) (fits : Bool) (i : ℕ) : Type 0 where
@@ -156,32 +156,32 @@ IsFitting-more x y i sum old new e g k h = record {
 }
 
 pub FitsBelow-end : (x y : Exponents) (i : ℕ) → length x ≡ length y → length x ≤ i → FitsBelow x y i → ProductFits x y
-FitsBelow-end x y i e l h = record { at = λ k. place k (cases_lt k i) }
+FitsBelow-end x y i e l h = record { at = λ k. index k (cases_lt k i) }
   where
-    place : (k : ℕ) → (k < i) ⊎ (i ≤ k) → entry x k + entry y k < 2 ^ 31
-    place k (inl m) = h.at k m
-    place k (inr m) = omega (arith, entry-past x k (omega arith), entry-past y k (omega arith))
+    index : (k : ℕ) → (k < i) ⊎ (i ≤ k) → entry x k + entry y k < 2 ^ 31
+    index k (inl m) = h.at k m
+    index k (inr m) = omega (arith, entry-past x k (omega arith), entry-past y k (omega arith))
 
 -- so far the exponents of x are at most those of y
 pub record IsBelowSoFar (x y : Exponents) (i : ℕ) : Type 0 where
   pub at : (k : ℕ) → k < i → entry x k ≤ entry y k
 
 pub IsBelowSoFar-more : (x y : Exponents) (i : ℕ) → get_or x i 0 ≤ get_or y i 0 → IsBelowSoFar x y i → IsBelowSoFar x y (i + 1)
-IsBelowSoFar-more x y i l h = record { at = λ k b. place k b (cases_lt k i) }
+IsBelowSoFar-more x y i l h = record { at = λ k b. index k b (cases_lt k i) }
   where
     here : entry x i ≤ entry y i
     here = omega (arith, entry-get_or x i, entry-get_or y i)
 
-    place : (k : ℕ) → k < i + 1 → (k < i) ⊎ (i ≤ k) → entry x k ≤ entry y k
-    place k b (inl m) = h.at k m
-    place k b (inr m) = let q : i ≡ k = omega arith in subst (λ (j : ℕ). entry x j ≤ entry y j) q here
+    index : (k : ℕ) → k < i + 1 → (k < i) ⊎ (i ≤ k) → entry x k ≤ entry y k
+    index k b (inl m) = h.at k m
+    index k b (inr m) = let q : i ≡ k = omega arith in subst (λ (j : ℕ). entry x j ≤ entry y j) q here
 
 pub IsBelowSoFar-end : (x y : Exponents) (i : ℕ) → length x ≤ i → IsBelowSoFar x y i → Divides x y
-IsBelowSoFar-end x y i l h = divides_by_entries x y (λ k. place k (cases_lt k i))
+IsBelowSoFar-end x y i l h = divides_by_entries x y (λ k. index k (cases_lt k i))
   where
-    place : (k : ℕ) → (k < i) ⊎ (i ≤ k) → entry x k ≤ entry y k
-    place k (inl m) = h.at k m
-    place k (inr m) = omega (arith, entry-past x k (omega arith))
+    index : (k : ℕ) → (k < i) ⊎ (i ≤ k) → entry x k ≤ entry y k
+    index k (inl m) = h.at k m
+    index k (inr m) = omega (arith, entry-past x k (omega arith))
 
 pub not_divides_at : (x y : Exponents) (i : ℕ) → get_or y i 0 < get_or x i 0 → ¬ (Divides x y)
 not_divides_at x y i l d = absurd (omega (arith, entries_by_divides x y d i, entry-get_or x i, entry-get_or y i))
@@ -216,11 +216,11 @@ entry-limit x h i = elim (cases_lt i (length x)) [
 
 pub limit-raised : (x : Exponents) (i by : ℕ) → i < length x → get_or x i 0 + by < 2 ^ 31 → All (λ k. k < 2 ^ 31) x →
     All (λ k. k < 2 ^ 31) (set x i (get_or x i 0 + by))
-limit-raised x i by l less h = limit_by_entries (set x i (get_or x i 0 + by)) (λ k. place k (same_or_not k i))
+limit-raised x i by l less h = limit_by_entries (set x i (get_or x i 0 + by)) (λ k. index k (same_or_not k i))
   where
-    place : (k : ℕ) → (k ≡ i) ⊎ (k ≢ i) → entry (set x i (get_or x i 0 + by)) k < 2 ^ 31
-    place k (inl q) = omega (arith, ap (λ j. entry (set x i (get_or x i 0 + by)) j) q, entry-raised x i by l, entry-get_or x i)
-    place k (inr d) = omega (arith, entry-set_other x i k (get_or x i 0 + by) d, entry-limit x h k)
+    index : (k : ℕ) → (k ≡ i) ⊎ (k ≢ i) → entry (set x i (get_or x i 0 + by)) k < 2 ^ 31
+    index k (inl q) = omega (arith, ap (λ j. entry (set x i (get_or x i 0 + by)) j) q, entry-raised x i by l, entry-get_or x i)
+    index k (inr d) = omega (arith, entry-set_other x i k (get_or x i 0 + by) d, entry-limit x h k)
 
 -- ---- the total degree, entry by entry
 pub degree-take : (x : List ℕ) (i : ℕ) → i < length x → degree (take (i + 1) x) ≡ degree (take i x) + get_or x i 0

@@ -176,7 +176,7 @@ KeepsVariables-scaled c f h p = record {
 pub IsScaled-products : (c : Fraction) (f h : Terms) → HasProducts c [] f h → IsScaled c f h
 IsScaled-products c f h p e = SamePolynomial-products c [] f h p e ∙ coefficient-times c [] f e
 
--- ---- places
+-- ---- indices
 pub HasVariables-at : (n : ℕ) (f : Terms) (i : ℕ) (t : Term) → i < length f → t ≡ get_or f i t → HasVariables n f → length t.mono ≡ n
 HasVariables-at n [] i t h is v = absurd (omega arith)
 HasVariables-at n (s ∷ f) zero t h is v = ap (λ (z : Term). length z.mono) is ∙ v.0

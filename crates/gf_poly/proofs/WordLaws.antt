@@ -32,11 +32,11 @@ pub word_set : (x z : Exponents) (i w : ℕ) → i < ROOM → 0 < entry z i → 
     IsWordOf z (bit_or w (1 * 2 ^ (ROOM - 1 - i) % 2 ^ 32))
 word_set x z i w r p same h = record {
   fits = or_lt ROOM w (1 * 2 ^ (ROOM - 1 - i) % 2 ^ 32) h.fits (bit_fits i);
-  bits = λ k j e. place k j e (same_or_not k i);
+  bits = λ k j e. index k j e (same_or_not k i);
 }
   where
-    place : (k j : ℕ) → k + j + 1 ≡ ROOM → (k ≡ i) ⊎ (k ≢ i) → bit_at (bit_or w (1 * 2 ^ (ROOM - 1 - i) % 2 ^ 32)) j ≡ min (entry z k) 1
-    place k j e (inl q) =
+    index : (k j : ℕ) → k + j + 1 ≡ ROOM → (k ≡ i) ⊎ (k ≢ i) → bit_at (bit_or w (1 * 2 ^ (ROOM - 1 - i) % 2 ^ 32)) j ≡ min (entry z k) 1
+    index k j e (inl q) =
         let here : j ≡ ROOM - 1 - i = omega arith in
         omega (
           arith,
@@ -44,7 +44,7 @@ word_set x z i w r p same h = record {
           bit_at_set_same w32 w (ROOM - 1 - i) (omega arith),
           ap (λ n. entry z n) q,
         )
-    place k j e (inr d) = bit_at_set_other w32 w (ROOM - 1 - i) (omega arith) j (λ q. d (omega arith)) ∙ h.bits k j e ∙ ap (λ n. min n 1) (sym (same k d))
+    index k j e (inr d) = bit_at_set_other w32 w (ROOM - 1 - i) (omega arith) j (λ q. d (omega arith)) ∙ h.bits k j e ∙ ap (λ n. min n 1) (sym (same k d))
 
 -- among the first i + 1 exponents, and it doesn't occur
 pub word_kept : (x : Exponents) (i w : ℕ) → entry x i ≡ 0 → IsWordOf (take i x) w → IsWordOf (take (i + 1) x) w
@@ -78,10 +78,10 @@ word-join x y v w h k = record {
 
 -- each variable of a divisor occurs in its multiples
 pub within_word : (x y : Exponents) (v w : ℕ) → IsWordOf x v → IsWordOf y w → Divides x y → bit_and v w ≡ v
-within_word x y v w h k d = same_from_bits_below ROOM (bit_and v w) v (omega (arith, h.fits, and_le_l v w)) h.fits place
+within_word x y v w h k d = same_from_bits_below ROOM (bit_and v w) v (omega (arith, h.fits, and_le_l v w)) h.fits index
   where
-    place : (j : ℕ) → j < ROOM → bit_at (bit_and v w) j ≡ bit_at v j
-    place j b = let e : ROOM - 1 - j + j + 1 ≡ ROOM = omega arith in omega (
+    index : (j : ℕ) → j < ROOM → bit_at (bit_and v w) j ≡ bit_at v j
+    index j b = let e : ROOM - 1 - j + j + 1 ≡ ROOM = omega arith in omega (
       arith,
       bit_at_and v w j,
       h.bits (ROOM - 1 - j) j e,

@@ -7,3 +7,4 @@ pub mod Collecting  -- sums of like terms from the left
 pub mod InitialForms  -- the terms of greatest weight
 pub mod Marking  -- marked polynomials
 pub mod Laws  -- what a function of this crate names
+pub use Rattle.gf_frac.specs.Fraction

@@ -26,7 +26,7 @@ Each P (x ∷ xs) = P x × Each P xs
 
 -- ---- one of them
 
--- the monomial of the term at place i; past the end the monomial 1
+-- the monomial of the term at index i; past the end the monomial 1
 abbrev pub head_of : Terms → ℕ → Exponents
 head_of [] i = []
 head_of (t ∷ f) zero = t.mono

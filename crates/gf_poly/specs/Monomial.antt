@@ -13,12 +13,12 @@ pub record IsWordOf (x : Exponents) (w : ℕ) : Type 0 where
   pub fits : w < 2 ^ ROOM
   pub bits : (i j : ℕ) → i + j + 1 ≡ ROOM → bit_at w j ≡ min (entry x i) 1
 
--- ROOM places with the exponents of x, which are within the limit, and zeros behind them
-pub record IsPlaced (x places : Exponents) : Type 0 where
+-- ROOM indices with the exponents of x, which are within the limit, and zeros behind them
+pub record IsPlaced (x indices : Exponents) : Type 0 where
   pub room : length x ≤ ROOM
-  pub full : length places ≡ ROOM
-  pub limit : All (λ k. k < 2 ^ 31) places
-  pub at : (i : ℕ) → entry places i ≡ entry x i
+  pub full : length indices ≡ ROOM
+  pub limit : All (λ k. k < 2 ^ 31) indices
+  pub at : (i : ℕ) → entry indices i ≡ entry x i
 
 -- what is kept of a monomial in n variables: its exponents, inline, their sum, and the word of the variables that occur
 pub record IsMono (total word n : ℕ) (v : SmallVec ℕ) : Type 0 where

@@ -1,4 +1,4 @@
-//! Lists of polynomials, and of pairs of places.
+//! Lists of polynomials, and of pairs of indices.
 
 ghost use Rattle.std.specs.Prelude.{◌≡◌};
 
@@ -36,7 +36,7 @@ impl Polys {
     }
 }
 
-/// A list of pairs of places.
+/// A list of pairs of indices.
 #[derive(Drop)]
 pub struct Pairs {
     items: Vec<(u32, u32)>,

@@ -30,7 +30,7 @@ impl Model for Marked {
 }
 
 impl Marked {
-    /// The polynomial with its term at place `index` marked, which is one of its places.
+    /// The polynomial with its term at index `index` marked, which is one of its indices.
     pub fn mark(poly: Poly, index: usize) -> Marked
         requires { index < length poly }
         ensures { result ≡ record { poly = poly; head = head_of poly index } }
@@ -52,7 +52,7 @@ impl Marked {
         self.poly
     }
 
-    /// The place of the marked term.
+    /// The index of the marked term.
     pub fn index(&self) -> usize
         ensures inside { result < length self.now.poly }
         ensures head { head_of self.now.poly result ≡ self.now.head }

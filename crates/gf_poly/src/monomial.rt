@@ -1,5 +1,5 @@
 //! Monomials: up to `ROOM` exponents, kept inline with zeros behind them, with their sum and with a word of the variables that occur. Loops
-//! that go over all places are unrolled, so that they take a few wide instructions.
+//! that go over all indices are unrolled, so that they take a few wide instructions.
 
 ghost use Rattle.std.specs.Prelude.{◌≡◌, ◌+◌, ◌≤◌, ◌<◌, ◌^◌, ◌↔◌, length, take, replicate, slice_index, slice_set, bit_and, bit_xor, All, IfOk, IfErr, OnOk};
 ghost use Rattle.std.specs.Prelude.{OnErr, IsOk, IsTrue};
@@ -22,7 +22,7 @@ pub struct Mono {
     total: u64,
     word: u32,
     count: u32,
-    places: SmallVec<u32, ROOM>,
+    indices: SmallVec<u32, ROOM>,
 }
 
 impl Model for Mono {
@@ -32,9 +32,9 @@ impl Model for Mono {
 
     ghost Value = { Exponents };
 
-    ghost view = { λ m. take m.count m.places.items };
+    ghost view = { λ m. take m.count m.indices.items };
 
-    ghost invariant = { λ m. IsMono m.total m.word m.count m.places };
+    ghost invariant = { λ m. IsMono m.total m.word m.count m.indices };
 }
 
 /// Two exponents of one variable whose sum is above `2^31 - 1`.
@@ -143,7 +143,7 @@ fn words_decide(x: u32, y: u32) -> bool
     x & y < x ^ y
 }
 
-/// Whether two monomials have the same exponents in all places.
+/// Whether two monomials have the same exponents in all indices.
 fn are_same(x: &[u32], y: &[u32]) -> bool
     requires left { length x.now ≡ ROOM }
     requires right { length y.now ≡ ROOM }
@@ -218,7 +218,7 @@ fn maxima(x: &[u32], y: &[u32]) -> [u32; ROOM]
     all
 }
 
-/// All places of a monomial.
+/// All indices of a monomial.
 fn whole(x: &[u32]) -> [u32; ROOM]
     requires { length x.now ≡ ROOM }
     ensures { result ≡ x.now }
@@ -277,7 +277,7 @@ impl Mono {
             total,
             word,
             count: n as u32,
-            places: SmallVec::from_buf(alloc, all),
+            indices: SmallVec::from_buf(alloc, all),
         }
     }
 
@@ -288,11 +288,11 @@ impl Mono {
         self.count as usize
     }
 
-    /// All places, the exponents first.
-    fn places(&self) -> &[u32]
+    /// All indices, the exponents first.
+    fn indices(&self) -> &[u32]
         ensures { IsPlaced self.now result.now }
     {
-        self.places.as_slice()
+        self.indices.as_slice()
     }
 
     /// The exponents, the first variable first.
@@ -300,7 +300,7 @@ impl Mono {
         ensures value { result.now ≡ self.now }
         ensures valid { IsMonomial self.now }
     {
-        &self.places.as_slice()[..self.count as usize]
+        &self.indices.as_slice()[..self.count as usize]
     }
 
     /// An equal monomial.
@@ -308,8 +308,8 @@ impl Mono {
         ensures { result ≡ self.now }
     {
         Mono::known(
-            *self.places.allocator(),
-            whole(self.places()),
+            *self.indices.allocator(),
+            whole(self.indices()),
             self.variables(),
             self.total,
             self.word,
@@ -345,15 +345,15 @@ impl Mono {
         ensures overflow { IfErr result (λ o. o ≡ record { left = slice_index self.old variable; right = by }) }
         ensures unchanged { OnErr result (self.new ≡ self.old) }
     {
-        let places = self.places.as_mut_slice();
-        let exponent = places[variable];
+        let indices = self.indices.as_mut_slice();
+        let exponent = indices[variable];
         if by > MOST - exponent {
             return Err(ExponentOverflow {
                 left: u64::from(exponent),
                 right: u64::from(by),
             });
         }
-        places[variable] = exponent + by;
+        indices[variable] = exponent + by;
         self.total += u64::from(by);
         if by != 0 {
             self.word |= 1 << (ROOM - 1 - variable);
@@ -373,9 +373,9 @@ impl Mono {
         ensures fits { IsOk result ↔ ProductFits self.now other.now }
         ensures overflow { IfErr result (IsFirstOverflow self.now other.now) }
     {
-        let all = sums(self.places(), other.places())?;
+        let all = sums(self.indices(), other.indices())?;
         Ok(Mono::known(
-            *self.places.allocator(),
+            *self.indices.allocator(),
             all,
             self.variables(),
             self.total + other.total,
@@ -399,10 +399,10 @@ impl Mono {
         ensures product { plus result by.now ≡ self.now }
     {
         let n = self.variables();
-        let all = differences(self.places(), by.places());
+        let all = differences(self.indices(), by.indices());
         let word = word_of(&all[..n]);
         Mono::known(
-            *self.places.allocator(),
+            *self.indices.allocator(),
             all,
             n,
             self.total - by.total,
@@ -416,10 +416,10 @@ impl Mono {
         ensures { result ≡ join self.now other.now }
     {
         let n = self.variables();
-        let all = maxima(self.places(), other.places());
+        let all = maxima(self.indices(), other.indices());
         let total = total_of(&all[..n]);
         Mono::known(
-            *self.places.allocator(),
+            *self.indices.allocator(),
             all,
             n,
             total,
@@ -435,7 +435,7 @@ impl Mono {
         if self.word() != other.word() {
             return false;
         }
-        are_same(self.places(), other.places())
+        are_same(self.indices(), other.indices())
     }
 
     /// The comparison by lex: the first exponent that differs decides. Where the words do, no exponent is looked at.

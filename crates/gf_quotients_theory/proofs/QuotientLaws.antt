@@ -47,7 +47,7 @@ power-other (suc p) k i l = omega (arith, entry-plus (next_variable k) (power p 
 ring-power : (n p k : ℕ) → k < n → IsInRing n (power p k)
 ring-power n p k l = ring-powered n p (next_variable k) (λ i g. ring-next k i (omega (arith, l, g)))
 
--- three cases of a place
+-- three cases of an index
 pub cases_at : (i k : ℕ) → ((i < k) ⊎ (k < i)) ⊎ (i ≡ k)
 cases_at i k = at (cases_lt i k) (cases_lt k i)
   where

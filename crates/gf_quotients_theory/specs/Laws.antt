@@ -21,7 +21,7 @@ pub record QuotientsSaturate : Type 0 where
   pub basis : (n k : ℕ) (fs : List Terms) (bs ds : List MarkedPolynomial) → k < n → AreInVariables n fs → IsBasis n fs bs →
       AreQuotients k bs ds → IsBasis n (polys ds) ds
 
--- marks of homogeneous polynomials have least of the last variable by revlex, and of the variable at place k by a weight that is twice the
+-- marks of homogeneous polynomials have least of the last variable by revlex, and of the variable at index k by a weight that is twice the
 -- grade less 1 there
 pub record MarksHaveLeast : Type 0 where
   pub last : (k : ℕ) (grade : List ℕ) (b : MarkedPolynomial) → IsHomogeneous (suc k) grade b.poly → IsMarked IsRevlexBelow b → HasLeastAtMark k b

@@ -8,11 +8,11 @@ use Rattle.gf_poly.specs.Marking.{MarkedPolynomial}
 use Rattle.gf_ideal_theory.specs.Membership.{HasMonomial}
 use Rattle.gf_saturation_theory.specs.Saturations.{powered, next_variable}
 
--- no monomial of b has less of the variable at place k than its mark
+-- no monomial of b has less of the variable at index k than its mark
 abbrev pub HasLeastAtMark : ℕ → MarkedPolynomial → Type 0
 HasLeastAtMark k b = (x : Exponents) → HasMonomial b.poly x → entry b.head k ≤ entry x k
 
--- b is d times a power of the variable at place k, of which the mark of d has nothing
+-- b is d times a power of the variable at index k, of which the mark of d has nothing
 pub record IsQuotient (k : ℕ) (b d : MarkedPolynomial) : Type 0 where
   pub power : ℕ
   pub head : same b.head (plus (powered power (next_variable k)) d.head) ≡ true
@@ -29,13 +29,13 @@ abbrev pub doubled : List ℕ → List ℕ
 doubled [] = []
 doubled (g ∷ gs) = (2 * g) ∷ doubled gs
 
--- twice the grade, less 1 at place k
+-- twice the grade, less 1 at index k
 abbrev pub lowered : ℕ → List ℕ → List ℕ
 lowered k [] = []
 lowered zero (g ∷ gs) = (2 * g - 1) ∷ doubled gs
 lowered (suc k) (g ∷ gs) = (2 * g) ∷ lowered k gs
 
--- b is h times a monomial that has at least as much of the variable at place k as the mark of b
+-- b is h times a monomial that has at least as much of the variable at index k as the mark of b
 pub record IsStripped (n k : ℕ) (b : MarkedPolynomial) (h : Terms) : Type 0 where
   pub by : Exponents
   pub ring : IsInRing n by

@@ -6,7 +6,7 @@ use Rattle.std.proofs.Math.Seq.{get_or-append_seam}
 use Rattle.std.proofs.lemmas.Bool.{cases_eq, and_from}
 use Rattle.std.proofs.lemmas.List.Elements.{All-contains}
 use Rattle.gf_int_theory.proofs.ListLaws.{all_by}
-use Rattle.gf_duality_theory.proofs.PlacesLaws.{All-rest}
+use Rattle.gf_duality_theory.proofs.IndicesLaws.{All-rest}
 use Rattle.gf_rays.specs.declared.ray.Ray.{Ray}
 use Rattle.gf_rays.specs.Flags.{flag_at, common, IsBelow}
 use Rattle.gf_rays.specs.FlagFaces.{AreFlagsAt}
@@ -136,18 +136,18 @@ pub pruned_flagged : (m : ℕ) (rays out : List Ray) → IsPruned rays out → A
 pruned_flagged m rays out p w =
     all_by (λ (r : Ray). length r.zero ≡ m) out (λ y c. All-contains (λ (r : Ray). length r.zero ≡ m) rays y w (of_pruned rays out y p c))
 
-there : (place : ℕ) (read rs : List Ray) → read ≡ rs → (place < length read) × IsInside read place → place < length rs
-there place read rs e g = subst (λ (t : List Ray). place < length t) e g.0
+there : (index : ℕ) (read rs : List Ray) → read ≡ rs → (index < length read) × IsInside read index → index < length rs
+there index read rs e g = subst (λ (t : List Ray). index < length t) e g.0
 
-pub there_len : (place len : ℕ) (read rs : List Ray) → read ≡ rs → len ≡ length rs → (place < length read) × IsInside read place → place < len
-there_len place len read rs e l g = subst (λ (k : ℕ). place < k) (sym l) (there place read rs e g)
+pub there_len : (index len : ℕ) (read rs : List Ray) → read ≡ rs → len ≡ length rs → (index < length read) × IsInside read index → index < len
+there_len index len read rs e l g = subst (λ (k : ℕ). index < k) (sym l) (there index read rs e g)
 
 -- one more ray taken away, as the slice of the rays tells
-pub thinned_more : (rays rs out read : List Ray) (place : ℕ) → IsPruned rays rs → ((m : ℕ) × AreFlagged m rs) → read ≡ rs →
-    (place < length read) × IsInside read place → out ≡ remove rs place → IsPruned rays out × ((m : ℕ) × AreFlagged m out)
-thinned_more rays rs out read place p m e g o =
-    let h : place < length rs = there place read rs e g in
-    let s : IsInside rs place = subst (λ (t : List Ray). IsInside t place) e g.1 in (
-      taken rays rs out place p h s o,
-      (m.0, subst (AreFlagged m.0) (sym o) (All-rest (λ (r : Ray). length r.zero ≡ m.0) rs place h m.1)),
+pub thinned_more : (rays rs out read : List Ray) (index : ℕ) → IsPruned rays rs → ((m : ℕ) × AreFlagged m rs) → read ≡ rs →
+    (index < length read) × IsInside read index → out ≡ remove rs index → IsPruned rays out × ((m : ℕ) × AreFlagged m out)
+thinned_more rays rs out read index p m e g o =
+    let h : index < length rs = there index read rs e g in
+    let s : IsInside rs index = subst (λ (t : List Ray). IsInside t index) e g.1 in (
+      taken rays rs out index p h s o,
+      (m.0, subst (AreFlagged m.0) (sym o) (All-rest (λ (r : Ray). length r.zero ≡ m.0) rs index h m.1)),
     )

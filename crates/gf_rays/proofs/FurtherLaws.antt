@@ -73,9 +73,9 @@ pub further_begun : (count : ℕ) (rows basis : List (List ℤ)) (start : List R
 further_begun count rows basis start = record { more = []; parts = sym (append-nil (take count rows)); reached = begun }
 
 -- where the row at k is the next one
-further_place : (count k : ℕ) (rows more : List (List ℤ)) → count ≤ length rows → k < length rows → take k rows ≡ take count rows ++ more →
+further_index : (count k : ℕ) (rows more : List (List ℤ)) → count ≤ length rows → k < length rows → take k rows ≡ take count rows ++ more →
     count + length more ≡ k
-further_place count k rows more hc hk e = omega (
+further_index count k rows more hc hk e = omega (
   arith,
   ap length e,
   length-take-le k rows (omega (arith, hk)),
@@ -91,7 +91,7 @@ further_more count k rows basis lin lines start rays next h hc hk e t f = record
   parts = take_more rows k h hk ∙ ap (λ (x : List ℤ). take k rows ++ x ∷ []) (sym e) ∙ ap (λ (z : List (List ℤ)). z ++ h ∷ []) f.parts ∙
       append_assoc (take count rows) f.more (h ∷ []);
   reached = taken f.more lin lines rays next h (f.more ++ h ∷ []) refl
-      (subst (λ m. IsTaken h m lin rays lines next) (length-take-le k rows (omega (arith, hk)) ∙ sym (further_place count k rows f.more hc hk f.parts)) t)
+      (subst (λ m. IsTaken h m lin rays lines next) (length-take-le k rows (omega (arith, hk)) ∙ sym (further_index count k rows f.more hc hk f.parts)) t)
       f.reached;
 }
 
@@ -116,7 +116,7 @@ further_row_step count k rows basis lin start rays h s hc hk e f d = record {
   parts = ap (drop count) (parts_at rows k h hk e ∙ ap (λ (z : List (List ℤ)). z ++ h ∷ drop (suc k) rows) f.parts ∙ append_assoc (take count rows) f.more
       (h ∷ drop (suc k) rows)) ∙ drop_at (take count rows) (f.more ++ h ∷ drop (suc k) rows) count (length-take-le count rows hc);
   reached = f.reached;
-  step = subst (λ m. IsRowStep m h lin rays s) (sym (further_place count k rows f.more hc hk f.parts)) d;
+  step = subst (λ m. IsRowStep m h lin rays s) (sym (further_index count k rows f.more hc hk f.parts)) d;
 }
 
 -- an operation of taking in one of the inequalities behind those of a cone

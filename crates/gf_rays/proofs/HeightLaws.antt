@@ -11,11 +11,11 @@ use Rattle.std.proofs.lemmas.List.Quantifiers.{position-Some}
 use Rattle.std.proofs.lemmas.Option.{none-some, same_Some}
 use Rattle.std.proofs.lemmas.List.Sorted.{Contains-permutation, IsPermutation-sym}
 use Rattle.gf_int_theory.proofs.ListLaws.{Contains-here, all_by}
-use Rattle.gf_duality_theory.proofs.ListLaws.{none_in, in_tail, in_cons, place, less, at, more}
+use Rattle.gf_duality_theory.proofs.ListLaws.{none_in, in_tail, in_cons, index, less, at, more}
 use Rattle.gf_fans_theory.specs.Heights.{IsWithinPart, IsNextBelow}
 use Rattle.gf_fans_theory.proofs.Ordered.{by_lengths, within_short, within_all, same_numbers, still_apart, decide_same}
 use Rattle.gf_rays.specs.declared.ray.Ray.{Ray}
-use Rattle.gf_rays.specs.FlagFaces.{IsNarrowed, AreFlagFaces, AreSortedParts, IsFlatPart, IsPartAtFlag, later_place, IsLastAtFlags}
+use Rattle.gf_rays.specs.FlagFaces.{IsNarrowed, AreFlagFaces, AreSortedParts, IsFlatPart, IsPartAtFlag, later_index, IsLastAtFlags}
 
 -- ---- faces in another order
 
@@ -68,10 +68,10 @@ pub last_none : (rays : List Ray) (parts : List (List ℕ)) (i : ℕ) → IsLast
 last_none rays parts i = record { each = λ l e. absurd (none-some l e); every = λ q h. absurd (omega (arith, h)) }
 
 further : (P : ℕ → Type 0) (k : ℕ) → ((q : ℕ) → q < k → P q) → P k → (q : ℕ) → q < k + 1 → P q
-further P k old new q h = elim (place q k) [ more l ↦ old q l | at e ↦ subst P (sym e) new | less l ↦ absurd (omega (arith, h, l)) ]
+further P k old new q h = elim (index q k) [ more l ↦ old q l | at e ↦ subst P (sym e) new | less l ↦ absurd (omega (arith, h, l)) ]
 
 pub last_more : (k : ℕ) (rays : List Ray) (parts : List (List ℕ)) (i : ℕ) (last next : Option ℕ) → IsLastAtFlags k rays parts i last →
-    MatchOption next (IsFlatPart k rays parts i) (IsPartAtFlag k rays parts i) → IsLastAtFlags (k + 1) rays parts i (later_place last next)
+    MatchOption next (IsFlatPart k rays parts i) (IsPartAtFlag k rays parts i) → IsLastAtFlags (k + 1) rays parts i (later_index last next)
 last_more k rays parts i None None s flat = record {
   each = s.each;
   every = further (λ q. IsFlatPart q rays parts i ⊎ ((j : ℕ) × (l : ℕ) × (IsPartAtFlag q rays parts i j × (None ≡ Some l) × (j ≤ l)))) k s.every (inl flat);
@@ -88,7 +88,7 @@ last_more k rays parts i None (Some j) s p = record {
 last_more k rays parts i (Some l) (Some j) s p =
     let low : l ≤ max l j = omega arith in let high : j ≤ max l j = omega arith in
     record {
-      each = λ z e. elim (place l j) [
+      each = λ z e. elim (index l j) [
         | more h ↦ let q : max l j ≡ j = omega (arith, h) in (k, subst (IsPartAtFlag k rays parts i) (sym q ∙ same_Some (max l j) z e) p)
         | at h ↦ let q : max l j ≡ j = omega (arith, h) in (k, subst (IsPartAtFlag k rays parts i) (sym q ∙ same_Some (max l j) z e) p)
         | less h ↦ let q : max l j ≡ l = omega (arith, h) in s.each z (ap (λ t. Some t) (sym q ∙ same_Some (max l j) z e))
@@ -115,10 +115,10 @@ flat_or m rays parts i last (k ∷ ks) s f = elim (s.every k (f k (Contains-here
   ]
 ]
 
--- no two places have the same part
+-- no two indices have the same part
 apart_at : (parts : List (List ℕ)) (i j : ℕ) → AllPairs (λ f g. (f ≡ g) → ⊥) parts → i < length parts → j < length parts →
     get_or parts i [] ≡ get_or parts j [] → i ≡ j
-apart_at parts i j once hi hj e = elim (place i j) [ at q ↦ q | more h ↦ absurd (once i j [] h hj e) | less h ↦ absurd (once j i [] h hi (sym e)) ]
+apart_at parts i j once hi hj e = elim (index i j) [ at q ↦ q | more h ↦ absurd (once i j [] h hj e) | less h ↦ absurd (once j i [] h hi (sym e)) ]
 
 -- a part inside another one isn't behind the last one
 within_last : (m : ℕ) (rays : List Ray) (parts : List (List ℕ)) (i p : ℕ) (last : Option ℕ) → AreSortedParts m rays parts → i < length parts →
@@ -137,7 +137,7 @@ within_last m rays parts i p last a hi hp d w s =
           let hs : List ℕ = get_or parts j [] in
           let up = ascending_at m rays parts j a.faces hj in
           let sub : (y : ℕ) → Contains gs y → Contains hs y = λ y c. at_k.narrowed.every y (inside y c) ((lower.1.1.each y c).1 k x.3.0) in
-          let b : p ≤ j = elim (place p j) [
+          let b : p ≤ j = elim (index p j) [
             | more h ↦ omega (arith, h)
             | at h ↦ omega (arith, h)
             | less h ↦
@@ -156,7 +156,7 @@ next_of m rays parts i None a hi s = λ j h w. let x = within_last m rays parts 
 next_of m rays parts i (Some l) a hi s =
     let x = s.each l refl in let p = x.1 in let few = p.fewer in
     record {
-      before = elim (place l i) [
+      before = elim (index l i) [
         | more h ↦ h
         | at h ↦ let e = ap (λ t. length (get_or parts t [])) h in absurd (omega (arith, few, e))
         | less h ↦ let b = by_lengths parts a.sorted i l (omega (arith, h)) p.inside in absurd (omega (arith, few, b))

@@ -7,7 +7,7 @@ use Rattle.std.proofs.lemmas.List.Elements.{All-push, Contains-push}
 use Rattle.std.proofs.Math.Seq.{get_or-append_seam}
 use Rattle.gf_int_theory.proofs.ListLaws.{Contains-last}
 use Rattle.gf_vec.specs.Vector.{dot}
-use Rattle.gf_duality_theory.proofs.ListLaws.{first_in, place, less, at, more}
+use Rattle.gf_duality_theory.proofs.ListLaws.{first_in, index, less, at, more}
 use Rattle.gf_rays.specs.declared.ray.Ray.{Ray}
 use Rattle.gf_rays.specs.Splitting.{IsRayKept, IsSplit, AreValues}
 use Rattle.gf_rays.proofs.SplitLoops.{value_of, values_long}
@@ -27,7 +27,7 @@ flagged_none rays values = record {
   kept = λ j d h l. absurd (omega (arith, h, l));
 }
 
--- not negative on the ray at a place
+-- not negative on the ray at an index
 not_negative_at : (h : List ℤ) (rays : List Ray) (values : List ℤ) (j : ℕ) (r : Ray) → AreValues h rays values → All (λ z. pos 0 ≤ℤ z) values →
     j < length rays → (get_or values j (pos 0) ≡ dot h (get_or rays j r).vector) × (pos 0 ≤ℤ dot h (get_or rays j r).vector)
 not_negative_at h rays values j r a p l =
@@ -63,7 +63,7 @@ flagged_more rays values left rest out new r y bit z el ez ev ef eb en s =
               zero = (λ u. sym value ∙ eb.0 u, λ u. eb.1 (value ∙ u));
             })
       ];
-      kept = λ j d h l. elim (place j n) [
+      kept = λ j d h l. elim (index j n) [
         | more b ↦ absurd (omega (arith, h, b))
         | at q ↦ (y, (Contains-push out y, ev ∙ ap (λ (t : Ray). t.vector) (sym last ∙ get_or_default rays n r d hn ∙ ap (λ i. get_or rays i d) (sym q))))
         | less b ↦ let t = s.kept j d (omega (arith, long, b)) l in (t.0, (first_in out y t.0 t.1.0, t.1.1))

@@ -17,7 +17,7 @@ pub mod RoomLaws  -- bounds with room for any equations and lineality space
 mod ImpliedLaws  -- inequalities that are zero on all rays
 pub mod SumLaws  -- sums of lists of vectors
 pub mod OrderLaws  -- vectors in lexicographic order: sorted, ascending, each once
-mod FacetLoops  -- rows that a loop takes, one place further
+mod FacetLoops  -- rows that a loop takes, one index further
 mod LeastLaws  -- among inequalities with the same flags there is a least one
 pub mod FacetLaws  -- facet rows by flags
 pub mod PartLaws  -- the rays on which an inequality is zero

@@ -8,7 +8,7 @@ use Rattle.std.proofs.lemmas.List.{get_or_default, take_more}
 use Rattle.std.proofs.lemmas.List.Elements.{All-contains, Contains-push}
 use Rattle.std.proofs.lemmas.Nat.Bits.{bit_at-lt}
 use Rattle.gf_int_theory.proofs.ListLaws.{Contains-last, all_by}
-use Rattle.gf_duality_theory.proofs.ListLaws.{first_in, place, less, at, more}
+use Rattle.gf_duality_theory.proofs.ListLaws.{first_in, index, less, at, more}
 use Rattle.gf_fans_theory.specs.Heights.{IsWithinPart, IsNextBelow}
 use Rattle.gf_rays.specs.Flags.{IsBelow, IsRoomFor, bit_of, flags_of}
 use Rattle.gf_rays.specs.FlagFaces.{AreInside, AreFlagsAt, ArePartFlags, IsLastBelow}
@@ -28,12 +28,12 @@ bits_more count k x numbers old new h e l b others a =
     subst (λ z. AreBitsAt count z new) (sym t) (record {
       long = l ∙ a.long;
       each = λ i. (
-        (λ q. elim (place i x) [
+        (λ q. elim (index i x) [
           | at g ↦ subst (Contains (take k numbers ++ x ∷ [])) (sym g) (Contains-push (take k numbers) x)
           | less g ↦ first_in (take k numbers) x i ((a.each i).0 (sym (others i (λ z. omega (arith, g, z))) ∙ q))
           | more g ↦ first_in (take k numbers) x i ((a.each i).0 (sym (others i (λ z. omega (arith, g, z))) ∙ q))
         ]),
-        λ c. elim (place i x) [
+        λ c. elim (index i x) [
           | at g ↦ subst (λ z. bit_of new z ≡ 1) (sym g) b
           | less g ↦ others i (λ z. omega (arith, g, z)) ∙ (a.each i).1 (elim (Contains-last (take k numbers) x i c) [
             | inl d ↦ d
@@ -55,7 +55,7 @@ bits_room count numbers words inside a = record {
   clear = λ i h.
       let l : bit_of words i < 2 = bit_at-lt (get_or words (i / 64) 0) (i % 64) in
       let n : bit_of words i ≡ 1 → ⊥ = λ b. let k : i < count = All-contains (λ i. i < count) numbers i inside ((a.each i).0 b) in omega (arith, h, k) in
-      elim (place (bit_of words i) 1) [
+      elim (index (bit_of words i) 1) [
         | at e ↦ absurd (n e)
         | more e ↦ let q : bit_of words i ≡ 0 = omega (arith, e) in q
         | less e ↦ absurd (omega (arith, e, l))
@@ -92,7 +92,7 @@ pub members_more : (count k : ℕ) (parts : List (List ℕ)) (part numbers : Lis
 members_more count k parts part numbers flags old new h e q en f m = subst (MembersSoFar count parts (k + 1)) (sym en) (record {
   long = omega (arith, length-append old (flags ∷ []), m.long);
   inside = omega (arith, h);
-  each = λ i b. elim (place i k) [
+  each = λ i b. elim (index i k) [
     | more l ↦ subst (AreFlagsAt count (get_or parts i [])) (sym (get_or-append old (flags ∷ []) [] i (omega (arith, l, m.long)))) (m.each i l)
     | at l ↦ subst (λ j. AreFlagsAt count (get_or parts j []) (get_or (old ++ flags ∷ []) j [])) (sym l)
         (subst (λ z. AreFlagsAt count z (get_or (old ++ flags ∷ []) k [])) (q ∙ e ∙ get_or_default parts k part [] h)
@@ -138,7 +138,7 @@ next_from count i parts members (Some j) inside m hi f = record {
 pub below_further : (members : List (List Bool)) (i k : ℕ) → k < i → (IsBelow (get_or members (i - 1 - k) []) (get_or members i []) → ⊥) →
     ((m : ℕ) → i ≤ m + k → m < i → IsBelow (get_or members m []) (get_or members i []) → ⊥) → (m : ℕ) → i ≤ m + (k + 1) → m < i →
     IsBelow (get_or members m []) (get_or members i []) → ⊥
-below_further members i k h n f m a b w = elim (place m (i - 1 - k)) [
+below_further members i k h n f m a b w = elim (index m (i - 1 - k)) [
   | at e ↦ n (subst (λ t. IsBelow (get_or members t []) (get_or members i [])) e w)
   | less e ↦ f m (omega (arith, e, h)) b w
   | more e ↦ absurd (omega (arith, a, e, h))

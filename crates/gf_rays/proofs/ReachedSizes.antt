@@ -28,7 +28,7 @@ use Rattle.gf_duality_theory.specs.Elimination.{IsTurned, IsEliminated, begun as
 use Rattle.gf_duality_theory.specs.Elimination.{IsNullSpace, IsNullStep, eliminating, reducing, columns}
 use Rattle.gf_duality_theory.specs.Straightening.{IsLeveled, IsStraightened, done as straight_done, next as straight_next, IsOrthogonalized, start, added}
 use Rattle.gf_duality_theory.specs.Straightening.{gone, IsOrthogonalizing}
-use Rattle.gf_duality_theory.proofs.ListLaws.{none_in, first_in, zip_from, of_rest, place, less, at, more}
+use Rattle.gf_duality_theory.proofs.ListLaws.{none_in, first_in, zip_from, of_rest, index, less, at, more}
 use Rattle.gf_duality_theory.proofs.Echelon.{turn_in}
 use Rattle.gf_rays.specs.declared.ray.Ray.{Ray}
 use Rattle.gf_rays.specs.Leveling.{IsLine, IsLinedBy, IsLeveledRay, IsLeveling, IsRowStep, lineal, splitting, leveling}
@@ -59,7 +59,7 @@ snoc_long (x ∷ xs) h whole e = ap length e ∙ ap suc (snoc_long xs h (xs ++ h
 
 pub mono : (f : ℕ → ℕ) → ((k : ℕ) → f k ≤ f (suc k)) → (j c : ℕ) → j ≤ c → f j ≤ f c
 mono f s j zero h = subst (λ i. f i ≤ f zero) (let e : 0 ≡ j = omega (arith, h) in e) (omega arith)
-mono f s j (suc c) h = elim (place j (suc c)) [
+mono f s j (suc c) h = elim (index j (suc c)) [
   | less l ↦ absurd (omega (arith, h, l))
   | at e ↦ subst (λ i. f j ≤ f i) e (omega arith)
   | more l ↦ let a = mono f s j c (omega (arith, l)) in let b = s c in omega (arith, a, b)
@@ -307,7 +307,7 @@ pub units_unitary : (n : ℕ) → AreUnitary (unit_vectors n)
 units_unitary n = record { each = each }
   where
     only : (k p : ℕ) → k < n → entry_at (get_or (unit_vectors n) k []) p ≢ pos 0 → p ≡ k
-    only k p h z = elim (place p k) [
+    only k p h z = elim (index p k) [
       | less l ↦ absurd (z (unit_other n k p h (λ e. omega (arith, l, e))))
       | at e ↦ e
       | more l ↦ absurd (z (unit_other n k p h (λ e. omega (arith, l, e))))
@@ -315,7 +315,7 @@ units_unitary n = record { each = each }
 
     unit : (k : ℕ) → k < n → IsUnitary (get_or (unit_vectors n) k [])
     unit k h = record {
-      values = λ p. elim (place p k) [
+      values = λ p. elim (index p k) [
         | less l ↦ inl (unit_other n k p h (λ e. omega (arith, l, e)))
         | at e ↦ inr (subst (λ i. entry_at (get_or (unit_vectors n) k []) i ≡ pos 1) (sym e) (unit_same n k h))
         | more l ↦ inl (unit_other n k p h (λ e. omega (arith, l, e)))
@@ -552,8 +552,8 @@ reached_unitary n hs lin rays f (split before lines old middle out h whole e z k
               | inl t ↦ subst IsUnitary (sym t.vector) (q.second.each t.r.vector (vector_in old t.r t.in_r))
               | inr t ↦
                   let cq = vector_in old t.q t.in_q in
-                  absurd (not_below (entry_at t.q.vector u.place) ((q.second.each t.q.vector cq).values u.place)
-                  (subst (λ v. v <ℤ pos 0) (ap (λ o. dot o t.q.vector) u.is ∙ dot_row n u.place t.q.vector u.inside (d.rays_width t.q.vector cq)) t.down))
+                  absurd (not_below (entry_at t.q.vector u.index) ((q.second.each t.q.vector cq).values u.index)
+                  (subst (λ v. v <ℤ pos 0) (ap (λ o. dot o t.q.vector) u.is ∙ dot_row n u.index t.q.vector u.inside (d.rays_width t.q.vector cq)) t.down))
             ]);
       };
     }
@@ -563,8 +563,8 @@ reached_unitary n hs lin rays f (lined before whole lines old next h l i all e k
     let d = (reached_state n [] before whole old (no_widths n) r).described in
     let at = get_or whole i [] in
     let ci : Contains whole at = (i, k.inside, get_or_default whole i at [] k.inside) in
-    let up : pos 0 <ℤ dot (get_or (unit_vectors n) u.place []) l = subst (λ o. pos 0 <ℤ dot o l) u.is k.up in
-    let el : l ≡ at = line_unitary n u.place l at u.inside (d.lin_width at ci) (q.first.each at ci) k.signed up in
+    let up : pos 0 <ℤ dot (get_or (unit_vectors n) u.index []) l = subst (λ o. pos 0 <ℤ dot o l) u.is k.up in
+    let el : l ≡ at = line_unitary n u.index l at u.inside (d.lin_width at ci) (q.first.each at ci) k.signed up in
     let ul : IsUnitary l = subst IsUnitary (sym el) (q.first.each at ci) in
     let ll : length l ≡ n = ap length el ∙ d.lin_width at ci in
     record {
@@ -572,7 +572,7 @@ reached_unitary n hs lin rays f (lined before whole lines old next h l i all e k
         each = λ x c.
             let t = zip_from (IsLeveled h l) (remove whole i) lin x z.leveled c in
             let ct = of_rest whole i t.0 k.inside t.1.0 in
-            level_unitary n u.place l t.0 x u.inside ll (d.lin_width t.0 ct) ul (q.first.each t.0 ct) up (subst (λ o. IsLeveled o l t.0 x) u.is t.1.1);
+            level_unitary n u.index l t.0 x u.inside ll (d.lin_width t.0 ct) ul (q.first.each t.0 ct) up (subst (λ o. IsLeveled o l t.0 x) u.is t.1.1);
       };
       second = record {
         each = λ x c.
@@ -581,7 +581,7 @@ reached_unitary n hs lin rays f (lined before whole lines old next h l i all e k
               | inl a ↦
                   let t = zip_from (IsLeveledRay h l) old z.middle y.0 z.rays_leveled a in
                   let ct = vector_in old t.0 t.1.0 in
-                  level_unitary n u.place l t.0.vector y.0.vector u.inside ll (d.rays_width t.0.vector ct) ul (q.second.each t.0.vector ct) up
+                  level_unitary n u.index l t.0.vector y.0.vector u.inside ll (d.rays_width t.0.vector ct) ul (q.second.each t.0.vector ct) up
                   (subst (λ o. IsLeveled o l t.0.vector y.0.vector) u.is t.1.1.0)
               | inr g ↦ subst IsUnitary (sym (ap (λ (o : Ray). o.vector) g ∙ z.vector)) ul
             ]);
@@ -613,7 +613,7 @@ at_next n b u k m xs ys e h q = let s : suc (k - u) ≡ m - u = omega (arith, e,
 reached_up : (n b u : ℕ) (hs lin : List (List ℤ)) (rays : List Ray) → 1 ≤ n → 1 ≤ b → AreSized n b hs → BeginWithUnits n u hs →
     IsReachedState n [] hs lin rays → BothUpTo (reached_bound n b (length hs - u)) lin (vectors_of rays)
 reached_up n b u hs lin rays hn hb s f (begun basis k) = few_rows n b u [] basis [] hn hb (omega arith) f (begun basis k)
-reached_up n b u hs lin rays hn hb s f (split before lines old middle out h whole e z k p g r) = elim (place (length before) u) [
+reached_up n b u hs lin rays hn hb s f (split before lines old middle out h whole e z k p g r) = elim (index (length before) u) [
   | less l ↦ at_next n b u (length before) (length hs) lin (vectors_of rays) (snoc_long before h hs e)
       (omega (arith, l)) (split_up n b (reached_bound n b (length before - u)) h lin old middle rays hn hb (reached_one n b (length before - u) hn hb)
       (s.long h (sized_last before h hs e)) (s.small.each h (sized_last before h hs e)) k p
@@ -624,7 +624,7 @@ reached_up n b u hs lin rays hn hb s f (split before lines old middle out h whol
       (reached_up n b u before lin old hn hb (sized_front n b before h hs e s) (front_begins n u before h hs e f) r))
   | more l ↦ few_rows n b u hs lin rays hn hb (let w = snoc_long before h hs e in omega (arith, l, w)) f (split before lines old middle out h whole e z k p g r)
 ]
-reached_up n b u hs lin rays hn hb s f (lined before whole lines old next h l i all e k z r) = elim (place (length before) u) [
+reached_up n b u hs lin rays hn hb s f (lined before whole lines old next h l i all e k z r) = elim (index (length before) u) [
   | less t ↦ at_next n b u (length before) (length hs) lin (vectors_of rays) (snoc_long before h hs e)
       (omega (arith, t)) (lined_up n b (reached_bound n b (length before - u)) h l whole lin i _ old rays hn hb (reached_one n b (length before - u) hn hb)
       (s.long h (sized_last before h hs e)) (s.small.each h (sized_last before h hs e)) k z
@@ -649,7 +649,7 @@ no_leveling n b m row h l x s e u ul ux small room (inr (inr k)) =
 pub no_row_step : (n b m row : ℕ) (h : List ℤ) (lin : List (List ℤ)) (rays : List Ray) (s : ConeOverflow) → length h ≡ n → UpTo b h → AreUpTo m lin →
     AreUpTo m (vectors_of rays) → n * (b * m) < 2 ^ 127 → next_bound n b m < 2 ^ 127 → IsRowStep row h lin rays s → ⊥
 no_row_step n b m row h lin rays s e u ul ur small room (lineal t) =
-    no_dot n b m row h (get_or lin t.place []) s (omega (arith, e)) u (ul.each _ (t.place, t.inside, get_or_default lin t.place _ [] t.inside)) small t.step
+    no_dot n b m row h (get_or lin t.index []) s (omega (arith, e)) u (ul.each _ (t.index, t.inside, get_or_default lin t.index _ [] t.inside)) small t.step
 no_row_step n b m row h lin rays s e u ul ur small room (splitting f (testing r c k)) =
     no_dot n b m row h r.vector s (omega (arith, e)) u (ur.each r.vector (vector_in rays r c)) small k
 no_row_step n b m row h lin rays s e u ul ur small room (splitting f (pairing p q cp cq up down free k)) =
@@ -749,16 +749,16 @@ no_reached_step n b u hs s hn hb z p f room ends (taking before after lin rays h
     let has : next_bound n b m < 2 ^ 127 = omega (arith, up, room) in
     no_row_step n b m (length before) h lin rays s (z.long h ch) (z.small.each h ch) q.first q.second
     (room_below n b m (reached_one n b (length before - u) hn hb) has) has k in
-    elim (place (length before) u) [
+    elim (index (length before) u) [
       | less l ↦ late (omega (arith, l))
       | at l ↦ late (omega (arith, l))
       | more l ↦
           let row : IsUnitRow n h = subst (IsUnitRow n) (ap (λ (l : List (List ℤ)). get_or l (length before) []) e ∙ at_middle before after h)
           (f (length before) l (omega (arith, fits))) in
           let uh : UpTo 1 h = subst (UpTo 1) (sym row.is) (unitary_up _ ((units_unitary n).each _ (
-            row.place,
+            row.index,
             omega (arith, units_long n, row.inside),
-            get_or_default (unit_vectors n) row.place _ [] (omega (arith, units_long n, row.inside)),
+            get_or_default (unit_vectors n) row.index _ [] (omega (arith, units_long n, row.inside)),
           ))) in
           let w = reached_unitary n before lin rays (λ x c. subst (IsUnitRow n) (get_or_default before c.0 [] x c.1 ∙ c.2) (fb c.0 (omega (arith, c.1, l)) c.1))
           r in
@@ -782,12 +782,12 @@ no_reached_step n b u hs s hn hb z p f room ends (implied flat c k) =
     }) (inl (omega arith)) ends k
 
 pub entry_up : (b : ℕ) (xs : List ℤ) → All (λ x. unsigned_abs x ≤ b) xs → UpTo b xs
-entry_up b xs h = record { at = λ i. at_place b xs i h }
+entry_up b xs h = record { at = λ i. at_index b xs i h }
   where
-    at_place : (b : ℕ) (xs : List ℤ) (i : ℕ) → All (λ x. unsigned_abs x ≤ b) xs → unsigned_abs (entry_at xs i) ≤ b
-    at_place b [] i h = omega arith
-    at_place b (x ∷ xs) zero h = h 0 (pos 0) (omega arith)
-    at_place b (x ∷ xs) (suc i) h = at_place b xs i (λ k d l. h (suc k) d (omega (arith, l)))
+    at_index : (b : ℕ) (xs : List ℤ) (i : ℕ) → All (λ x. unsigned_abs x ≤ b) xs → unsigned_abs (entry_at xs i) ≤ b
+    at_index b [] i h = omega arith
+    at_index b (x ∷ xs) zero h = h 0 (pos 0) (omega arith)
+    at_index b (x ∷ xs) (suc i) h = at_index b xs i (λ k d l. h (suc k) d (omega (arith, l)))
 
 pub small_systems_stay_within_limits : SmallSystemsStayWithinLimits
 small_systems_stay_within_limits n b m rows hn hb w u p f room ends s k =
@@ -822,7 +822,7 @@ orthant_pointed n others x l f = all_zero n x l (λ i h.
     sym (dot_unit n i x l h) ∙ dot_comm x e ∙ f e (Contains-append_left (unit_vectors n) others e (i, k, get_or_default (unit_vectors n) i e [] k)))
 
 orthant_begins : (n : ℕ) (others : List (List ℤ)) → BeginWithUnits n n (unit_vectors n ++ others)
-orthant_begins n others k h l = record { place = k; inside = h; is = get_or_append_left (unit_vectors n) others [] k (omega (arith, units_long n, h)) }
+orthant_begins n others k h l = record { index = k; inside = h; is = get_or_append_left (unit_vectors n) others [] k (omega (arith, units_long n, h)) }
 
 pub parts_of_orthants_stay_within_limits : PartsOfOrthantsStayWithinLimits
 parts_of_orthants_stay_within_limits n b others hn hb w u room ends =

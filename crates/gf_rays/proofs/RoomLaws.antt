@@ -19,7 +19,7 @@ use Rattle.gf_duality_theory.specs.Rays.{IsRays, IsZeroOn}
 use Rattle.gf_duality_theory.specs.Elimination.{IsEliminated, IsNormalised, IsNullSpace, IsNullStep, eliminating, reducing, with_values, columns}
 use Rattle.gf_duality_theory.specs.Straightening.{IsLeveled, IsStraightened, done as straight_done, next as straight_next, IsOrthogonalized, start, added}
 use Rattle.gf_duality_theory.specs.Straightening.{gone, IsStraightening, IsOrthogonalizing}
-use Rattle.gf_duality_theory.proofs.ListLaws.{none_in, first_in, zip_from, place, less, at, more}
+use Rattle.gf_duality_theory.proofs.ListLaws.{none_in, first_in, zip_from, index, less, at, more}
 use Rattle.gf_duality_theory.proofs.Orthogonal.{basis as orthogonal_basis, straightened, head_in}
 use Rattle.gf_fans_theory.proofs.PartNumbers.{of_map}
 use Rattle.gf_rays.specs.declared.ray.Ray.{Ray}
@@ -325,7 +325,7 @@ start_at n b k (suc p) c h l g =
     ]
   where
     nearer : (n c p : ℕ) → c ≤ n → n ≤ c + suc p → (c ≡ n - suc p) ⊎ (n ≤ c + p)
-    nearer n c p l g = elim (place n (suc (c + p))) [ less a ↦ absurd (omega (arith, a, g)) | at e ↦ inl (omega (arith, e)) | more a ↦ inr (omega (arith, a)) ]
+    nearer n c p l g = elim (index n (suc (c + p))) [ less a ↦ absurd (omega (arith, a, g)) | at e ↦ inl (omega (arith, e)) | more a ↦ inr (omega (arith, a)) ]
 
 started : (n b count : ℕ) (es basis : List (List ℤ)) → 1 ≤ b → AreWide n b es → starts_fit n b count n ≡ true → IsNullSpace n es basis →
     HasRoom n b count [] basis []

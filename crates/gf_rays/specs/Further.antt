@@ -57,7 +57,7 @@ pub record AreMarkedRays (c : RowsAndRays) (start : List Ray) : Type 0 where
   pub marked : (r : Ray) → Contains start r → IsMarkedRay c.inequalities r
 
 -- an operation of finding the rays of the part of a cone on which more inequalities aren't negative, which begins with the lineality basis and
--- the rays of the cone: of one of these inequalities, whose row is its place behind those of the cone, or at the end
+-- the rays of the cone: of one of these inequalities, whose row is its index behind those of the cone, or at the end
 pub data IsFurtherStep (c : RowsAndRays) (more : List (List ℤ)) (s : ConeOverflow) : Type 0 where
   taking : (start : List Ray) → AreMarkedRays c start → IsFurtherRowStep (length c.inequalities) c.lineality start more s → IsFurtherStep c more s
   ending : (start rays : List Ray) (lin : List (List ℤ)) → AreMarkedRays c start → IsFurtherState (length c.inequalities) c.lineality start more lin rays →

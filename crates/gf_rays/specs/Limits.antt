@@ -97,9 +97,9 @@ IsPointed n rows = (x : List ℤ) → length x ≡ n → ((h : List ℤ) → Con
 
 -- one of the unit vectors
 pub record IsUnitRow (n : ℕ) (h : List ℤ) : Type 0 where
-  pub place : ℕ
-  pub inside : place < n
-  pub is : h ≡ slice_index_or (unit_vectors n) place []
+  pub index : ℕ
+  pub inside : index < n
+  pub is : h ≡ slice_index_or (unit_vectors n) index []
 
 -- the first so many rows are such
 abbrev pub BeginWithUnits : ℕ → ℕ → List (List ℤ) → Type 0

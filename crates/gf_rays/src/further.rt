@@ -20,7 +20,7 @@ pub(crate) fn further(
     rows: &[IntVec],
     start: Generators,
 ) -> Result<Generators, GordanError>
-    requires place { from ≤ length rows.now }
+    requires index { from ≤ length rows.now }
     requires state { (n : ℕ) × (es : List (List ℤ)) × (AreRows n rows.now × IsConeState n (take from rows.now) es start.lineality.items start.rays.items) }
     ensures ok { IfOk result (λ g. (n : ℕ) (es : List (List ℤ)) → AreRows n rows.now →
         IsConeState n (take from rows.now) es start.lineality.items start.rays.items → IsConeState n rows.now es g.lineality.items g.rays.items) }

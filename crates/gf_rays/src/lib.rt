@@ -38,5 +38,5 @@ pub use laws::{
     further_rows_stay_within_limits, small_systems_stay_within_limits,
     systems_with_room_stay_within_limits,
 };
-pub use numbers::Numbers;
+pub use numbers::RayNumbers;
 pub use rays::Rays;

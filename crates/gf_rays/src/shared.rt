@@ -1,4 +1,4 @@
-//! Vectors that a cone and its parts have in one place.
+//! Vectors that a cone and its parts have in one index.
 ghost use Rattle.std.specs.Prelude.{◌≡◌, IfOk, IfErr, length};
 ghost use Rattle.gf_gordan.specs.declared.error.GordanError.TheVariants.{Memory};
 

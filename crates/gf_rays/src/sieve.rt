@@ -10,17 +10,17 @@ pub(crate) struct Sieve {
     alloc: Global,
     count: usize,
     blocks: Vec<Vec<u64>>,
-    places: Vec<usize>,
+    indices: Vec<usize>,
 }
 
-/// The bits of a block's words at these places that all of them have, of those at the start.
-fn narrowed(start: u64, block: &[u64], places: &[usize]) -> u64 {
+/// The bits of a block's words at these indices that all of them have, of those at the start.
+fn narrowed(start: u64, block: &[u64], indices: &[usize]) -> u64 {
     let mut left = start;
-    for place in places {
+    for index in indices {
         if left == 0 {
             return 0;
         }
-        if let Some(word) = block.get(*place) {
+        if let Some(word) = block.get(*index) {
             left &= *word;
         }
     }
@@ -34,7 +34,7 @@ impl Sieve {
             alloc,
             count: 0,
             blocks: Vec::new(alloc),
-            places: Vec::new(alloc),
+            indices: Vec::new(alloc),
         }
     }
 
@@ -47,8 +47,8 @@ impl Sieve {
         Ok(sieve)
     }
 
-    /// Takes the places of the flags that both have, behind those taken.
-    fn take_places(&mut self, p: &Flags, q: &Flags) -> Result<(), AllocError> {
+    /// Takes the indices of the flags that both have, behind those taken.
+    fn take_indices(&mut self, p: &Flags, q: &Flags) -> Result<(), AllocError> {
         let others = q.words();
         for (k, x) in p.words().iter().enumerate() {
             let mut word = match others.get(k) {
@@ -57,7 +57,7 @@ impl Sieve {
             };
             for _i in 0..word.count_ones() {
                 let bit = word.trailing_zeros() as usize;
-                self.places.push(k.wrapping_mul(64).wrapping_add(bit))?;
+                self.indices.push(k.wrapping_mul(64).wrapping_add(bit))?;
                 word &= word.wrapping_sub(1);
             }
         }
@@ -71,11 +71,11 @@ impl Sieve {
             let width = zero.words().len().saturating_mul(64);
             self.blocks.push(vec![in self.alloc; 0u64; width]?)?;
         }
-        self.places.clear();
-        self.take_places(zero, zero)?;
+        self.indices.clear();
+        self.take_indices(zero, zero)?;
         if let Some(block) = self.blocks.last_mut() {
-            for place in &self.places {
-                if let Some(word) = block.get_mut(*place) {
+            for index in &self.indices {
+                if let Some(word) = block.get_mut(*index) {
                     *word |= 1u64 << bit;
                 }
             }
@@ -94,7 +94,7 @@ impl Sieve {
                 u64::MAX
             };
             let left = match self.blocks.get(b) {
-                Some(block) => narrowed(start, block.as_slice(), self.places.as_slice()),
+                Some(block) => narrowed(start, block.as_slice(), self.indices.as_slice()),
                 None => 0,
             };
             if left != 0 {
@@ -108,22 +108,22 @@ impl Sieve {
 
     /// The number of a ray that has the flags that both have, and the one behind them; the greatest number where there is none.
     pub(crate) fn shared(&mut self, p: &Flags, q: &Flags) -> Result<usize, AllocError> {
-        self.places.clear();
-        self.places.push(p.len())?;
-        self.take_places(p, q)?;
+        self.indices.clear();
+        self.indices.push(p.len())?;
+        self.take_indices(p, q)?;
         Ok(self.first_from(0))
     }
 
-    /// The number, behind `i`, of a ray that has the flags of the one at `place`; the greatest number where there is none.
+    /// The number, behind `i`, of a ray that has the flags of the one at `index`; the greatest number where there is none.
     pub(crate) fn later(
         &mut self,
         rays: &[Ray],
-        place: usize,
+        index: usize,
         i: usize,
     ) -> Result<usize, AllocError> {
-        if let Some(ray) = rays.get(place) {
-            self.places.clear();
-            self.take_places(&ray.zero, &ray.zero)?;
+        if let Some(ray) = rays.get(index) {
+            self.indices.clear();
+            self.take_indices(&ray.zero, &ray.zero)?;
             return Ok(self.first_from(i.wrapping_add(1)));
         }
         Ok(usize::MAX)

@@ -70,7 +70,7 @@ excused_divided bs i j b c x y m p q e f g d = record {
 
 pub divided_before : (bs : List MarkedPolynomial) (i k : ℕ) (b : MarkedPolynomial) (h x : Exponents) → IsAt bs k b → k < i → h ≡ b.head → Divides h x →
     IsDividedBefore bs i x
-divided_before bs i k b h x p l e d = record { place = k; before = l; member = b; at = p; divides = subst (λ (z : Exponents). Divides z x) e d }
+divided_before bs i k b h x p l e d = record { index = k; before = l; member = b; at = p; divides = subst (λ (z : Exponents). Divides z x) e d }
 
 -- where an earlier mark divides that of the member at i, each pair of it with a later member is excused
 pub redundant_passed : (bs : List MarkedPolynomial) (i : ℕ) (b : MarkedPolynomial) (x : Exponents) → IsAt bs i b → x ≡ b.head → IsDividedBefore bs i x →
@@ -84,7 +84,7 @@ redundant_passed bs i b x p e d j l h =
       at_first = p;
       at_second = record { within = h; is = get_or_default bs j c b h };
       criterion = inr (record {
-        place = d.place;
+        index = d.index;
         before = d.before;
         member = d.member;
         at = d.at;
@@ -149,11 +149,11 @@ module _ (n : ℕ) (w : List ℕ) (bs : List MarkedPolynomial) (v : AreInVariabl
       at : AreCoprime e.first.head e.second.head ⊎ IsDividedBefore bs i (join e.first.head e.second.head) → IsSettledPair n bs (lighter w) e.first e.second
       at (inl k) = pair_by_product n bs (lighter w) e.first e.second v (lighter-strict w) m one two k
       at (inr d) =
-          let third : Contains bs d.member = member_contained bs d.place d.member d.at in
+          let third : Contains bs d.member = member_contained bs d.index d.member d.at in
           pair_by_chain n bs (lighter w) e.first e.second d.member d.divides.rest v (lighter-strict w) m one two d.divides.product
           (pair_turned n bs (lighter w) d.member e.first v (lighter-strict w) m third one
-          (earlier d.place i d.before d.before d.member e.first d.at e.at_first))
-          (earlier d.place j d.before (omega (arith, d.before, l)) d.member e.second d.at e.at_second)
+          (earlier d.index i d.before d.before d.member e.first d.at e.at_first))
+          (earlier d.index j d.before (omega (arith, d.before, l)) d.member e.second d.at e.at_second)
 
   -- the pairs of the member at k, where those of earlier members are settled
   next_settled : (i j : ℕ) → i < j → ((k l : ℕ) → k < i → k < l → Settled k l) → Settled i j

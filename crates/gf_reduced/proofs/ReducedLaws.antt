@@ -32,20 +32,20 @@ at_first b bs = record { within = omega arith; is = refl }
 at_later : (b c : MarkedPolynomial) (bs : List MarkedPolynomial) (i : ℕ) → IsAt bs i c → IsAt (b ∷ bs) (suc i) c
 at_later b c bs i h = record { within = omega (arith, h.within); is = h.is }
 
-apart_by_places : (bs : List MarkedPolynomial) → ((i j : ℕ) (b c : MarkedPolynomial) → i ≢ j → IsAt bs i b → IsAt bs j c → NoMultiple b.head c.head) →
+apart_by_indices : (bs : List MarkedPolynomial) → ((i j : ℕ) (b c : MarkedPolynomial) → i ≢ j → IsAt bs i b → IsAt bs j c → NoMultiple b.head c.head) →
     AreApart bs
-apart_by_places [] h = tt
-apart_by_places (b ∷ bs) h = (
+apart_by_indices [] h = tt
+apart_by_indices (b ∷ bs) h = (
   each_contained (λ (c : MarkedPolynomial). NoMultiple b.head c.head × NoMultiple c.head b.head) bs (λ c k. (
     h 0 (suc k.0) b c (λ e. omega (arith, e)) (at_first b bs) (at_later b c bs k.0 (record { within = k.1; is = k.2 })),
     h (suc k.0) 0 c b (λ e. omega (arith, e)) (at_later b c bs k.0 (record { within = k.1; is = k.2 })) (at_first b bs),
   )),
-  apart_by_places bs (λ i j c d n p q. h (suc i) (suc j) c d (λ e. n (omega (arith, e))) (at_later b c bs i p) (at_later b d bs j q)),
+  apart_by_indices bs (λ i j c d n p q. h (suc i) (suc j) c d (λ e. n (omega (arith, e))) (at_later b c bs i p) (at_later b d bs j q)),
 )
 
 reduced-apart : (bs : List MarkedPolynomial) → AreReduced bs → AreApart bs
-reduced-apart bs h = apart_by_places bs (λ i j b c n p q. no_multiple b.head c.head
-    (λ d. (h j c q).0 (record { place = i; member = b; at = p; divides = d; other = inl n })))
+reduced-apart bs h = apart_by_indices bs (λ i j b c n p q. no_multiple b.head c.head
+    (λ d. (h j c q).0 (record { index = i; member = b; at = p; divides = d; other = inl n })))
 
 -- ---- tails are reduced
 
@@ -62,7 +62,7 @@ reduced-tails bs h b k = by_terms (IsFree bs b) b.poly along (each b.poly (h k.0
 
     offending : (x : Exponents) → same x b.head ≡ false → IsDivisible (Contains bs) x → IsOffending bs k.0 b x
     offending x e d = record {
-      place = d.contained.0;
+      index = d.contained.0;
       member = d.member;
       at = record { within = d.contained.1; is = d.contained.2 };
       divides = record { rest = d.rest; product = d.divides };

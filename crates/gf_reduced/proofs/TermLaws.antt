@@ -24,7 +24,7 @@ not_false false n = absurd (n refl)
 
 -- ---- whether a mark divides a monomial
 
--- no mark before the place j that counts divides x
+-- no mark before the index j that counts divides x
 pub record NoneDivided (bs : List MarkedPolynomial) (i : ℕ) (x : Exponents) (m : Bool) (j : ℕ) : Type 0 where
   pub none : (k : ℕ) (c : MarkedPolynomial) → k < j → IsAt bs k c → Divides c.head x → (k ≢ i) ⊎ (m ≡ false) → ⊥
 
@@ -33,37 +33,37 @@ pub record NoneDivided (bs : List MarkedPolynomial) (i : ℕ) (x : Exponents) (m
 -- the marked monomial offends where the mark of another member divides it
 head_offends : (bs : List MarkedPolynomial) (i : ℕ) (b : MarkedPolynomial) (x : Exponents) → x ≡ b.head → IsDividedAt bs i x true → IsOffending bs i b b.head
 head_offends bs i b x e d = record {
-  place = d.place;
+  index = d.index;
   member = d.member;
   at = d.at;
   divides = subst (λ (z : Exponents). Divides d.member.head z) e d.divides;
   other = at d.other;
 }
   where
-    at : (d.place ≢ i) ⊎ (true ≡ false) → (d.place ≢ i) ⊎ (same b.head b.head ≡ false)
+    at : (d.index ≢ i) ⊎ (true ≡ false) → (d.index ≢ i) ⊎ (same b.head b.head ≡ false)
     at (inl n) = inl n
     at (inr f) = absurd (cc)
 
 head_divided : (bs : List MarkedPolynomial) (i : ℕ) (b : MarkedPolynomial) (x : Exponents) → x ≡ b.head → IsOffending bs i b b.head → IsDividedAt bs i x true
 head_divided bs i b x e o = record {
-  place = o.place;
+  index = o.index;
   member = o.member;
   at = o.at;
   divides = subst (λ (z : Exponents). Divides o.member.head z) (sym e) o.divides;
   other = at o.other;
 }
   where
-    at : (o.place ≢ i) ⊎ (same b.head b.head ≡ false) → (o.place ≢ i) ⊎ (true ≡ false)
+    at : (o.index ≢ i) ⊎ (same b.head b.head ≡ false) → (o.index ≢ i) ⊎ (true ≡ false)
     at (inl n) = inl n
     at (inr f) = let t : same b.head b.head ≡ true = same-refl b.head in absurd (cc)
 
 -- another one where any mark divides it
 term_offends : (bs : List MarkedPolynomial) (i : ℕ) (b : MarkedPolynomial) (x : Exponents) → same x b.head ≡ false → IsDividedAt bs i x false →
     IsOffending bs i b x
-term_offends bs i b x f d = record { place = d.place; member = d.member; at = d.at; divides = d.divides; other = inr f }
+term_offends bs i b x f d = record { index = d.index; member = d.member; at = d.at; divides = d.divides; other = inr f }
 
 term_divided : (bs : List MarkedPolynomial) (i : ℕ) (b : MarkedPolynomial) (x : Exponents) → IsOffending bs i b x → IsDividedAt bs i x false
-term_divided bs i b x o = record { place = o.place; member = o.member; at = o.at; divides = o.divides; other = inr refl }
+term_divided bs i b x o = record { index = o.index; member = o.member; at = o.at; divides = o.divides; other = inr refl }
 
 -- ---- lists of monomials
 

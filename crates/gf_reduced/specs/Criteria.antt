@@ -10,10 +10,10 @@ use Rattle.gf_reduced.specs.Pairs.{IsRemainderAt, Vanishes}
 
 -- the mark of a member with an index below i divides x
 pub record IsDividedBefore (bs : List MarkedPolynomial) (i : ℕ) (x : Exponents) : Type 0 where
-  pub place : ℕ
-  pub before : place < i
+  pub index : ℕ
+  pub before : index < i
   pub member : MarkedPolynomial
-  pub at : IsAt bs place member
+  pub at : IsAt bs index member
   pub divides : Divides member.head x
 
 -- the marks of the members at i and j are coprime, or the mark of a member before i divides the least common multiple of theirs

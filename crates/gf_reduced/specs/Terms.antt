@@ -18,11 +18,11 @@ printed_monomials b = b.head ∷ all_but b.head b.poly
 -- a mark divides the monomial x of the member b, whose index is i: the mark of another member; or its own mark, if x isn't the marked
 -- monomial
 pub record IsOffending (bs : List MarkedPolynomial) (i : ℕ) (b : MarkedPolynomial) (x : Exponents) : Type 0 where
-  pub place : ℕ
+  pub index : ℕ
   pub member : MarkedPolynomial
-  pub at : IsAt bs place member
+  pub at : IsAt bs index member
   pub divides : Divides member.head x
-  pub other : (place ≢ i) ⊎ (same x b.head ≡ false)
+  pub other : (index ≢ i) ⊎ (same x b.head ≡ false)
 
 -- none of these monomials of b is divisible in this way
 abbrev pub NoneOffends : List MarkedPolynomial → ℕ → MarkedPolynomial → List Exponents → Type 0
@@ -55,11 +55,11 @@ AreReduced bs = (i : ℕ) → HasNoOffence bs i
 
 -- the mark of a member of bs divides x; if x is the marked monomial of the member at i, the mark is that of another member
 pub record IsDividedAt (bs : List MarkedPolynomial) (i : ℕ) (x : Exponents) (is_marked : Bool) : Type 0 where
-  pub place : ℕ
+  pub index : ℕ
   pub member : MarkedPolynomial
-  pub at : IsAt bs place member
+  pub at : IsAt bs index member
   pub divides : Divides member.head x
-  pub other : (place ≢ i) ⊎ (is_marked ≡ false)
+  pub other : (index ≢ i) ⊎ (is_marked ≡ false)
 
 -- the mark of the member at j doesn't divide x, or x is the marked monomial of that same member
 abbrev pub IsNotDividedBy : List MarkedPolynomial → ℕ → ℕ → Exponents → Bool → Type 0

@@ -8,12 +8,12 @@ use Rattle.std.proofs.lemmas.List.Elements.{Contains-push}
 use Rattle.std.proofs.lemmas.Nat.{div-mul-add, mod-mul-add}
 use Rattle.gf_int_theory.proofs.ListLaws.{Contains-last}
 use Rattle.gf_duality_theory.specs.Faces.{Rows}
-use Rattle.gf_duality_theory.proofs.ListLaws.{none_in, first_in, place, less, at, more}
+use Rattle.gf_duality_theory.proofs.ListLaws.{none_in, first_in, index, less, at, more}
 use Rattle.gf_fan.specs.declared.cones.FanCone.{FanCone}
 use Rattle.gf_fans_theory.specs.Fans.{meet}
 use Rattle.gf_refine.specs.Inside.{LiesInside, cone_at, meet_at, IsHolder, AreHolders, IsMet, AreMetPairs}
 use Rattle.gf_refine.proofs.InsideLaws.{first_wider, second_wider}
-use Rattle.gf_refine.proofs.MeetLaws.{pair_below, pair_places}
+use Rattle.gf_refine.proofs.MeetLaws.{pair_below, pair_indices}
 
 -- of the first so many numbers those of the pairs that are met
 pub record MetSoFar (held others : List (Option ℕ)) (width k : ℕ) (out : List ℕ) : Type 0 where
@@ -28,7 +28,7 @@ pub met_taken : (held others : List (Option ℕ)) (width k : ℕ) (out new : Lis
     MetSoFar held others width (k + 1) new
 met_taken held others width k out new e m = subst (MetSoFar held others width (k + 1)) (sym e) (record {
   each = λ x c. elim (Contains-last out k x c) [ inl i ↦ (let h = m.each x i in omega (arith, h)) | inr q ↦ omega (arith, q) ];
-  every = λ x h t. elim (place x k) [
+  every = λ x h t. elim (index x k) [
     | more l ↦ first_in out k x (m.every x l t)
     | at q ↦ subst (Contains (out ++ k ∷ [])) (sym q) (Contains-push out k)
     | less l ↦ absurd (omega (arith, h, l))
@@ -40,7 +40,7 @@ pub met_left : (held others : List (Option ℕ)) (width k : ℕ) (out : List ℕ
     MetSoFar held others width k out → MetSoFar held others width (k + 1) out
 met_left held others width k out n m = record {
   each = λ x c. (let h = m.each x c in omega (arith, h));
-  every = λ x h t. elim (place x k) [
+  every = λ x h t. elim (index x k) [
     | more l ↦ m.every x l t
     | at q ↦ absurd (n (subst (λ z. IsMet held others (z / width) (z % width)) q t))
     | less l ↦ absurd (omega (arith, h, l))
@@ -48,7 +48,7 @@ met_left held others width k out n m = record {
   long = let l = m.long in omega (arith, l);
 }
 
--- the pair at two places has the number of these
+-- the pair at two indices has the number of these
 numbered_inside : (n i j a : ℕ) (cs ds : List FanCone) (p : Rows) → a < length ds → i * length ds + a ≡ j →
     LiesInside n p (meet (cone_at cs i) (cone_at ds a)) → LiesInside n p (meet_at cs ds j)
 numbered_inside n i j a cs ds p h e k =
@@ -65,7 +65,7 @@ pub pairs_met : (n count : ℕ) (cs ds : List FanCone) (free held others : List 
     AreHolders n cs ds free held → AreHolders n ds cs held others → MetSoFar held others (length ds) count out → AreMetPairs n cs ds out
 pairs_met n count cs ds free held others out ec hf ho m = record {
   each = λ k c. (let h = m.each k c in omega (arith, h, ec));
-  every = λ k h. by_first k h (pair_places (length cs) (length ds) k h) (get_or held (k / length ds) None) refl;
+  every = λ k h. by_first k h (pair_indices (length cs) (length ds) k h) (get_or held (k / length ds) None) refl;
 }
   where
     Over : ℕ → Type 0
@@ -121,7 +121,7 @@ pub holders_more : (n : ℕ) (cs ds : List FanCone) (held : List (Option ℕ)) (
     new ≡ old ++ o ∷ [] → IfSome o (IsHolder n c ds held) → HoldersSoFar n cs ds held k old → HoldersSoFar n cs ds held (k + 1) new
 holders_more n cs ds held k c o old new ec en h s = subst (HoldersSoFar n cs ds held (k + 1)) (sym en) (record {
   long = omega (arith, length-append old (o ∷ []), s.long);
-  each = λ i b. elim (place i k) [
+  each = λ i b. elim (index i k) [
     | more l ↦ subst (λ z. IfSome z (IsHolder n (cone_at cs i) ds held)) (sym (get_or-append old (o ∷ []) None i (omega (arith, l, s.long)))) (s.each i l)
     | at l ↦ subst (λ j. IfSome (get_or (old ++ o ∷ []) j None) (IsHolder n (cone_at cs j) ds held)) (sym l)
         (subst (λ z. IfSome z (IsHolder n (cone_at cs k) ds held))

@@ -21,7 +21,7 @@ pub record AreZeroOn (rows rays lineality : List (List ℤ)) : Type 0 where
   pub rays_flat : (h x : List ℤ) → Contains rows h → Contains rays x → dot h x ≡ pos 0
   pub flat : (h x : List ℤ) → Contains rows h → Contains lineality x → dot h x ≡ pos 0
 
--- the cone at a place of a list
+-- the cone at an index of a list
 abbrev pub cone_at : List FanCone → ℕ → Rows
 cone_at cs i = rows_of (slice_index_or cs i no_cone).cone
 

@@ -5,7 +5,7 @@ use Rattle.gf_reverse_search.specs.declared.mark.Mark.{Mark}
 use Rattle.gf_reverse_search.specs.declared.mark.Mark.TheVariants.{Before, After, Listed, Finished}
 use Rattle.gf_reverse_search.specs.Path.{IsStrictOrder, IsTree, Leads, IsPath}
 use Rattle.gf_reverse_search.specs.Left.{IsBelowMark, IsOpen}
-use Rattle.gf_reverse_search.specs.Place.{StandsBelow}
+use Rattle.gf_reverse_search.specs.Standing.{StandsBelow}
 use Rattle.gf_reverse_search.specs.Walk.{HasNoChild, IsLeastChild, Finds}
 use Rattle.gf_reverse_search.proofs.StepLaws.{Leads-snoc, up_cases, up_from, finished_open, none_cases, down_cases, down_from}
 

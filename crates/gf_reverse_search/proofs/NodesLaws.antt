@@ -2,7 +2,7 @@
 -- To cite: bounded, bounded-open, bounded-next, fewer-next.
 use Rattle.std.proofs.Common.{◌≡◌, ℕ, suc, ◌+◌, ◌-◌, ◌<◌, List, [], ◌∷◌, length, sym, ap, subst, ◌∙◌, arith, Some, Bool, true, false, cond, ◌⊎◌, inl, inr}
 use Rattle.gf_reverse_search.specs.Path.{IsStrictOrder, IsTree, Leads}
-use Rattle.gf_reverse_search.specs.Place.{Place, IsBelowSomeTop}
+use Rattle.gf_reverse_search.specs.Standing.{Standing, IsBelowSomeTop}
 use Rattle.gf_reverse_search.specs.Walk.{Advances}
 use Rattle.gf_reverse_search.specs.Listing.{Lists, IsLeftAt, IsFirstOf}
 use Rattle.gf_reverse_search.specs.Whole.{IsFinite}
@@ -23,8 +23,8 @@ module _ {N L : Type 0} (up : N → L → N → Type 0) (is_node : N → Type 0)
 module _ {T N L : Type 0} (lt : L → L → Type 0) (up : T → N → L → N → Type 0) (is_node : T → N → Type 0) (count : T → N → ℕ) where
   -- before any item
   pub bounded : (strict : IsStrictOrder lt) (t : T) → IsTree (up t) → ((v : N) (c : L) (u : N) → up t v c u → is_node t v × is_node t u) →
-      ((v : N) (c : L) (u : N) → up t v c u → count t v ≡ count t u) → ((top : N) → is_node t top → IsFinite lt (up t) top (count t top)) → (p : Place T N L) →
-      p.tree ≡ t → IsBelowSomeTop is_node up p → (n : ℕ) → n ≡ 0 → HasFewLeft lt up count p n
+      ((v : N) (c : L) (u : N) → up t v c u → count t v ≡ count t u) → ((top : N) → is_node t top → IsFinite lt (up t) top (count t top)) →
+      (p : Standing T N L) → p.tree ≡ t → IsBelowSomeTop is_node up p → (n : ℕ) → n ≡ 0 → HasFewLeft lt up count p n
   bounded strict t tree nodes level finite p e placed n none =
       let at = subst (λ w. Leads (up w) placed.top placed.path p.here) e placed.at.leads in
       let f = finite placed.top (top_is_node (up t) (is_node t) nodes placed.top placed.path p.here at (subst (λ w. is_node w p.here) e placed.node)) in
@@ -42,7 +42,7 @@ module _ {T N L : Type 0} (lt : L → L → Type 0) (up : T → N → L → N �
       }
 
   -- after an item
-  pub bounded-next : (p q : Place T N L) → ((v : N) (c : L) (u : N) → up p.tree v c u → count p.tree v ≡ count p.tree u) → q.tree ≡ p.tree → (v : N) →
+  pub bounded-next : (p q : Standing T N L) → ((v : N) (c : L) (u : N) → up p.tree v c u → count p.tree v ≡ count p.tree u) → q.tree ≡ p.tree → (v : N) →
       Advances lt up p q (Some v) → ((nodes : List N) → IsLeftAt lt up p nodes → IsFirstOf (IsLeftAt lt up q) nodes (Some v)) → (n m : ℕ) → m ≡ n + 1 →
       HasFewLeft lt up count p n → HasFewLeft lt up count q m × (n < count p.tree p.here) × (count q.tree q.here ≡ count p.tree p.here)
   bounded-next p q level e v steps gives n m more b =

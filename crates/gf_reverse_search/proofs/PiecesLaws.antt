@@ -9,7 +9,7 @@ use Rattle.gf_reverse_search.specs.declared.expand.Piece.{Piece}
 use Rattle.gf_reverse_search.specs.declared.expand.Piece.TheVariants.{Ready, Under, Refused}
 use Rattle.gf_reverse_search.specs.Path.{IsStrictOrder, IsTree, Leads, IsPath}
 use Rattle.gf_reverse_search.specs.Left.{IsBelowMark, IsOpen}
-use Rattle.gf_reverse_search.specs.Place.{Place, IsBelowSomeTop}
+use Rattle.gf_reverse_search.specs.Standing.{Standing, IsBelowSomeTop}
 use Rattle.gf_reverse_search.specs.Tree.{RisesBy}
 use Rattle.gf_reverse_search.specs.Walk.{HasNoChild, IsLeastChild, Steps}
 use Rattle.gf_reverse_search.specs.Listing.{Among, LeadTo, Leaves, IsLeftAt}
@@ -69,7 +69,7 @@ module _ {L : Type 0} (lt : L → L → Type 0) where
 
 -- one more child
 pub below_more : {T N L E : Type 0} (lt : L → L → Type 0) (up : T → N → L → N → Type 0) (t : T) (u : N) (m m1 : Mark L) (ps : List (Piece T N L E))
-    (w : Place T N L) (c : L) → ArePiecesBelow lt up t u m ps m1 → w ≡ subtree t w.here → (h : IsLeastChild lt (up t) u m1 w.here) → h.label ≡ c →
+    (w : Standing T N L) (c : L) → ArePiecesBelow lt up t u m ps m1 → w ≡ subtree t w.here → (h : IsLeastChild lt (up t) u m1 w.here) → h.label ≡ c →
     ArePiecesBelow lt up t u m (ps ++ Under w ∷ []) (After c)
 below_more lt up t u m m1 [] w c b is h e = (let p = subst (λ k. (j : IsLeastChild lt (up t) u k w.here) × (After j.label ≡ After c)) (sym b) (h, ap After e) in
     (is, p.0, p.1))
@@ -184,7 +184,7 @@ module _ {T N L E : Type 0} (lt : L → L → Type 0) (up : T → N → L → N 
       (k.0, k.1, k.2, subst (λ x. IsLeftAt lt up x k.0) (sym b.0) k.3, below_leave t u d (After b.1.label) m1 ps rest (λ h. h) b.2 later k.1 k.4)
 
   -- what follows them leaves that
-  follows_leave : (refuses : Place T N L → E → Type 0) (Full : Type 0) (w : Place T N L) (rest : List (Piece T N L E)) → (IsBelowMark lt w.mark [] → ⊥) →
+  follows_leave : (refuses : Standing T N L → E → Type 0) (Full : Type 0) (w : Standing T N L) (rest : List (Piece T N L E)) → (IsBelowMark lt w.mark [] → ⊥) →
       Follows lt up refuses w Full rest → (nodes : List N) → IsLeftAt lt up w nodes → PiecesLeave (IsLeftAt lt up) rest nodes
   follows_leave refuses Full w [] past f nodes l = leaves_nothing lt (up w.tree) strict (trees w.tree) w.here w.depth nodes f.1
       (leaves_finished lt (up w.tree) strict (trees w.tree) w.here w.mark w.depth nodes f.0 past l)
@@ -212,7 +212,7 @@ module _ {T N L E : Type 0} (lt : L → L → Type 0) (up : T → N → L → N 
     refl,
   )
 
-  pub down_leaves : (refuses : Place T N L → E → Type 0) (most : ℕ) (w : Place T N L) (ps : List (Piece T N L E)) → GoesDown lt up refuses most w ps →
+  pub down_leaves : (refuses : Standing T N L → E → Type 0) (most : ℕ) (w : Standing T N L) (ps : List (Piece T N L E)) → GoesDown lt up refuses most w ps →
       (nodes : List N) → IsLeftAt lt up w nodes → PiecesLeave (IsLeftAt lt up) ps nodes
   down_leaves refuses most w ps g nodes l =
       subst (λ k. PiecesLeave (IsLeftAt lt up) k nodes) (sym g.whole)
@@ -221,7 +221,7 @@ module _ {T N L E : Type 0} (lt : L → L → Type 0) (up : T → N → L → N 
       g.rest past g.follows back k) nodes l)
 
   -- an expansion leaves what the walker leaves
-  pub expansion_leaves : (refuses : Place T N L → E → Type 0) (most : ℕ) (w : Place T N L) (ps : List (Piece T N L E)) → Expands lt up refuses most w ps →
+  pub expansion_leaves : (refuses : Standing T N L → E → Type 0) (most : ℕ) (w : Standing T N L) (ps : List (Piece T N L E)) → Expands lt up refuses most w ps →
       (nodes : List N) → IsLeftAt lt up w nodes → PiecesLeave (IsLeftAt lt up) ps nodes
   expansion_leaves refuses most w ps (inl g) nodes l = down_leaves refuses most w ps g nodes l
   expansion_leaves refuses most w ps (inr h) nodes l =
@@ -235,7 +235,7 @@ module _ {T N L E : Type 0} (lt : L → L → Type 0) (up : T → N → L → N 
       )
 
 -- a walker a step up stands in its tree
-pub placed_above : {T N L : Type 0} (is_node : T → N → Type 0) (up : T → N → L → N → Type 0) (w x : Place T N L) → IsTree (up w.tree) →
+pub placed_above : {T N L : Type 0} (is_node : T → N → Type 0) (up : T → N → L → N → Type 0) (w x : Standing T N L) → IsTree (up w.tree) →
     ((v : N) (c : L) (u : N) → up w.tree v c u → is_node w.tree v × is_node w.tree u) → IsBelowSomeTop is_node up w → x.tree ≡ w.tree → (c : L) →
     up w.tree w.here c x.here → x.depth + 1 ≡ w.depth → IsBelowSomeTop is_node up x
 placed_above is_node up w x tree nodes p same c step less =
@@ -256,7 +256,8 @@ placed_above is_node up w x tree nodes p same c step less =
     ] refl
 
 -- the children and what follows them, put together
-pub goes_down : {T N L E : Type 0} (lt : L → L → Type 0) (up : T → N → L → N → Type 0) (refuses : Place T N L → E → Type 0) (most count : ℕ) (w : Place T N L)
+pub goes_down : {T N L E : Type 0} (lt : L → L → Type 0) (up : T → N → L → N → Type 0) (refuses : Standing T N L → E →
+    Type 0) (most count : ℕ) (w : Standing T N L)
     (mark : Mark L) (below rest pieces : List (Piece T N L E)) → pieces ≡ below ++ rest → (IsBelowMark lt w.mark [] → ⊥) →
     ArePiecesBelow lt up w.tree w.here w.mark below mark → length below ≤ most → count ≡ length below →
     Follows lt up refuses (record { tree = w.tree; here = w.here; mark = mark; depth = w.depth }) (most ≤ count) rest → GoesDown lt up refuses most w pieces

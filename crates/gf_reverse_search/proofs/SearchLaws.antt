@@ -4,7 +4,7 @@ use Rattle.std.proofs.Common.{◌≡◌, ℕ, List, refl, inl, inr, Some, None, 
 use Rattle.gf_reverse_search.specs.declared.mark.Mark.{Mark}
 use Rattle.gf_reverse_search.specs.declared.mark.Mark.TheVariants.{Before, Listed, Finished}
 use Rattle.gf_reverse_search.specs.Path.{IsStrictOrder}
-use Rattle.gf_reverse_search.specs.Place.{StandsBelow}
+use Rattle.gf_reverse_search.specs.Standing.{StandsBelow}
 use Rattle.gf_reverse_search.specs.Walk.{Finds, IsNext, IsDone}
 use Rattle.gf_reverse_search.proofs.LeftLaws.{open_from_left, left_from_open}
 use Rattle.gf_reverse_search.proofs.StepLaws.{finished_open}

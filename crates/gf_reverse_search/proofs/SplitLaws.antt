@@ -4,7 +4,7 @@ use Rattle.std.proofs.Common.{◌≡◌, ℕ, List, [], ◌∷◌, refl, sym, ap
 use Rattle.gf_reverse_search.specs.declared.mark.Mark.{Mark}
 use Rattle.gf_reverse_search.specs.declared.mark.Mark.TheVariants.{Before, Listed, Finished}
 use Rattle.gf_reverse_search.specs.Path.{IsStrictOrder, IsTree}
-use Rattle.gf_reverse_search.specs.Place.{Place}
+use Rattle.gf_reverse_search.specs.Standing.{Standing}
 use Rattle.gf_reverse_search.specs.Walk.{Steps, Advances}
 use Rattle.gf_reverse_search.specs.Listing.{Leaves, Lists, IsLeftAt}
 use Rattle.gf_reverse_search.specs.Split.{AreSplitParts}
@@ -40,8 +40,8 @@ module _ {T N L : Type 0} (lt : L → L → Type 0) (up : T → N → L → N �
       (subst (λ w. AreSplitParts {T = T} {N = N} {L = L} lt up nodes (record { tree = t; here = w; mark = Before; depth = 0 })
       (record { tree = t; here = here; mark = Finished; depth = d })) (sym n.node) whole))
 
--- a step from one place to the next: the node answered with its subtree, and the next place with that subtree done
-pub split_parts : {T N L : Type 0} (lt : L → L → Type 0) (up : T → N → L → N → Type 0) (strict : IsStrictOrder lt) (old new : Place T N L) →
+-- a step from one standing to the next: the node answered with its subtree, and the next standing with that subtree done
+pub split_parts : {T N L : Type 0} (lt : L → L → Type 0) (up : T → N → L → N → Type 0) (strict : IsStrictOrder lt) (old new : Standing T N L) →
     IsTree (up old.tree) → (v : N) (t : T) → t ≡ old.tree → new.tree ≡ old.tree → Advances lt up old new (Some v) → (nodes : List N) →
     IsLeftAt lt up old nodes → AreSplitParts lt up nodes (record { tree = t; here = v; mark = Before; depth = 0 })
     (record { tree = new.tree; here = new.here; mark = Finished; depth = new.depth })

@@ -3,7 +3,7 @@
 use Rattle.std.proofs.Common.{◌≡◌, ℕ, suc, zero, ◌+◌, ◌≤◌, List, [], ◌∷◌, ◌++◌, sym, ap, inl, inr, subst, ◌∙◌, length, length-append, arith}
 use Rattle.gf_reverse_search.specs.declared.mark.Mark.TheVariants.{Before, Listed}
 use Rattle.gf_reverse_search.specs.Path.{IsStrictOrder, IsTree, Leads, Precedes, IsRoot}
-use Rattle.gf_reverse_search.specs.Place.{StandsBelow}
+use Rattle.gf_reverse_search.specs.Standing.{StandsBelow}
 use Rattle.gf_reverse_search.specs.Listing.{Among, Rises, LeadTo, Lists}
 use Rattle.gf_reverse_search.specs.Whole.{IsRootOf, IsRootAt, StandsAfter}
 use Rattle.gf_reverse_search.proofs.LeftLaws.{left_from_open}

@@ -4,7 +4,7 @@ use Rattle.std.specs.Prelude.{◌≡◌, ℕ, List, [], ◌∷◌, ◌⊎◌, Op
 use Rattle.gf_reverse_search.specs.declared.mark.Mark.{Mark}
 use Rattle.gf_reverse_search.specs.Path.{Leads, IsPath, Precedes}
 use Rattle.gf_reverse_search.specs.Left.{IsLeft}
-use Rattle.gf_reverse_search.specs.Place.{Place, StandsBelow}
+use Rattle.gf_reverse_search.specs.Standing.{Standing, StandsBelow}
 
 -- x is an element of the list
 abbrev pub Among : {X : Type 0} → List X → X → Type 0
@@ -39,7 +39,7 @@ pub record Leaves {N L : Type 0} (lt : L → L → Type 0) (up : N → L → N �
   pub lists : Lists lt up top m path nodes
 
 -- what a walker has left
-abbrev pub IsLeftAt : {T N L : Type 0} → (L → L → Type 0) → (T → N → L → N → Type 0) → Place T N L → List N → Type 0
+abbrev pub IsLeftAt : {T N L : Type 0} → (L → L → Type 0) → (T → N → L → N → Type 0) → Standing T N L → List N → Type 0
 IsLeftAt lt up p nodes = Leaves lt (up p.tree) p.mark p.here p.depth nodes
 
 -- the answer is the first of what was left, and the rest is left; or nothing was

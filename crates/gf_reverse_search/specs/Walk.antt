@@ -7,7 +7,7 @@ use Rattle.gf_reverse_search.specs.declared.search.Turn.{Turn}
 use Rattle.gf_reverse_search.specs.declared.search.Turn.TheVariants.{Child, Up, End}
 use Rattle.gf_reverse_search.specs.Path.{Leads, IsPath, Precedes}
 use Rattle.gf_reverse_search.specs.Left.{IsLeft, IsBelowMark, IsOpen}
-use Rattle.gf_reverse_search.specs.Place.{Place, StandsBelow}
+use Rattle.gf_reverse_search.specs.Standing.{Standing, StandsBelow}
 
 -- ---- the children of one node
 
@@ -79,16 +79,16 @@ abbrev pub Answers : {N L : Type 0} → (L → L → Type 0) → (N → L → N 
 Answers lt up top old r (Some v) new here depth = IsNext lt up top old r v new here depth
 Answers lt up top old r None new here depth = IsDone lt up top old r new here depth
 
--- below whatever top: from one place to the next
+-- below whatever top: from one standing to the next
 abbrev pub Steps : {N L : Type 0} → (L → L → Type 0) → (N → L → N → Type 0) → Mark L → N → ℕ → Mark L → N → ℕ → Option N → Type 0
 Steps {N} {L} lt up m0 here0 d0 m1 here1 d1 o = (top : N) (r : List L) → StandsBelow up top r here0 d0 → Answers lt up top m0 r o m1 here1 d1
 
 -- a walker answers the first of what is left, and leaves the rest
-abbrev pub Advances : {T N L : Type 0} → (L → L → Type 0) → (T → N → L → N → Type 0) → Place T N L → Place T N L → Option N → Type 0
+abbrev pub Advances : {T N L : Type 0} → (L → L → Type 0) → (T → N → L → N → Type 0) → Standing T N L → Standing T N L → Option N → Type 0
 Advances lt up old new o = Steps lt (up old.tree) old.mark old.here old.depth new.mark new.here new.depth o
 
 -- nothing is left for a walker, below whatever top
-abbrev pub IsOver : {T N L : Type 0} → (L → L → Type 0) → (T → N → L → N → Type 0) → Place T N L → Type 0
+abbrev pub IsOver : {T N L : Type 0} → (L → L → Type 0) → (T → N → L → N → Type 0) → Standing T N L → Type 0
 IsOver {N = N} {L = L} lt up p = (top : N) (r : List L) → StandsBelow (up p.tree) top r p.here p.depth → IsEmpty lt (up p.tree) top p.mark r
 
 -- ---- refusals

@@ -3,7 +3,7 @@
 use Rattle.std.specs.Prelude.{◌≡◌, ℕ, List, [], ◌∷◌, ◌++◌, length, ◌≤◌}
 use Rattle.gf_reverse_search.specs.Path.{Leads, IsRoot}
 use Rattle.gf_reverse_search.specs.declared.mark.Mark.TheVariants.{Before}
-use Rattle.gf_reverse_search.specs.Place.{Place, StandsBelow}
+use Rattle.gf_reverse_search.specs.Standing.{Standing, StandsBelow}
 use Rattle.gf_reverse_search.specs.Listing.{Among, Rises, LeadTo, Leaves, IsLeftAt}
 
 -- no element of the list comes twice
@@ -38,14 +38,14 @@ pub record IsRootOf {N L : Type 0} (up : N → L → N → Type 0) (node root : 
   pub leads : Leads up root path node
 
 -- the whole list has the node, and what follows it there is what the walker has left
-pub record GoesOn {T N L : Type 0} (lt : L → L → Type 0) (up : T → N → L → N → Type 0) (nodes : List N) (node : N) (p : Place T N L) : Type 0 where
+pub record GoesOn {T N L : Type 0} (lt : L → L → Type 0) (up : T → N → L → N → Type 0) (nodes : List N) (node : N) (p : Standing T N L) : Type 0 where
   pub front : List N
   pub rest : List N
   pub whole : nodes ≡ front ++ node ∷ rest
   pub left : IsLeftAt lt up p rest
 
 -- the walker's depth is that below the root, and in the root's list it goes on after the node
-pub record StandsAfter {T N L : Type 0} (lt : L → L → Type 0) (up : T → N → L → N → Type 0) (node root : N) (p : Place T N L) : Type 0 where
+pub record StandsAfter {T N L : Type 0} (lt : L → L → Type 0) (up : T → N → L → N → Type 0) (node root : N) (p : Standing T N L) : Type 0 where
   pub path : List L
   pub at : StandsBelow (up p.tree) root path node p.depth
   pub goes_on : (nodes : List N) → Leaves lt (up p.tree) Before root 0 nodes → GoesOn lt up nodes node p

@@ -21,7 +21,7 @@ impl<T: FiniteTree> Model for Nodes<T> {
 
     ghost Value = { Progress T T.Node T.Label };
 
-    ghost view = { λ s. record { place = s.walker; given = s.given; ended = s.ended } };
+    ghost view = { λ s. record { standing = s.walker; given = s.given; ended = s.ended } };
 
     ghost invariant = { λ s. (s.ended ≡ true) ⊎ HasFewLeft T.before T.up T.count s.walker s.given };
 }
@@ -29,7 +29,7 @@ impl<T: FiniteTree> Model for Nodes<T> {
 impl<T: FiniteTree> Nodes<T> {
     /// The nodes that a walker has left.
     pub fn new(alloc: Global, walker: Walker<T>) -> Nodes<T>
-        ensures { result ≡ record { place = walker; given = 0; ended = false } }
+        ensures { result ≡ record { standing = walker; given = 0; ended = false } }
     {
         let _here = &walker.here;
         Nodes {
@@ -41,7 +41,7 @@ impl<T: FiniteTree> Nodes<T> {
 
     /// The walker, at the node that was given last.
     pub fn into_walker(self) -> Walker<T>
-        ensures { result ≡ self.place }
+        ensures { result ≡ self.standing }
     {
         self.walker
     }

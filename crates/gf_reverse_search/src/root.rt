@@ -50,7 +50,7 @@ impl<T: FiniteTree> Walker<T> {
     /// What a call of the tree was refused by, at the node or above it.
     pub fn after(alloc: Global, tree: T, node: T::Node) -> Result<Walker<T>, T::Error>
         requires { T.is_node tree node }
-        ensures place { IfOk result (λ w. (w.tree ≡ tree) × (w.here ≡ node) × (w.mark ≡ Listed)) }
+        ensures standing { IfOk result (λ w. (w.tree ≡ tree) × (w.here ≡ node) × (w.mark ≡ Listed)) }
         ensures root { IfOk result (λ w. (root : T.Node) × IsRootOf (T.up tree) node root) }
         ensures list { IfOk result (λ w. (root : T.Node) → IsRootOf (T.up tree) node root → StandsAfter T.before T.up node root w) }
         ensures refused { IfErr result (IsRefusedAbove (T.up tree) (T.refuses tree) node) }

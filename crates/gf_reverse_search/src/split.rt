@@ -24,7 +24,7 @@ impl<T: Tree> Walker<T> {
     #[tactic(auto, using(crate::proofs::RefusalLaws::refused_here))]
     pub fn split(self) -> Result<Split<T>, (Walker<T>, T::Error)>
         ensures parts { IfOk result (λ s. (nodes : List T.Node) → IsLeftAt T.before T.up self nodes → Splits T.before T.up nodes s) }
-        ensures places { IfOk result (IsCutAt T.before T.up self) }
+        ensures standings { IfOk result (IsCutAt T.before T.up self) }
         ensures trees { IfOk result (HaveTree self.tree) }
         ensures unchanged { IfErr result (λ p. p.0 ≡ self) }
         ensures refused { IfErr result (λ p. IsRefused (T.up self.tree) (T.refuses self.tree) self.here self.depth p.1) }

@@ -21,9 +21,9 @@ pub struct Walker<T: Tree> {
 }
 
 impl<T: Tree> Model for Walker<T> {
-    ghost use Rattle.gf_reverse_search.specs.Place.{Place, IsBelowSomeTop};
+    ghost use Rattle.gf_reverse_search.specs.Standing.{Standing, IsBelowSomeTop};
 
-    ghost Value = { Place T T.Node T.Label };
+    ghost Value = { Standing T T.Node T.Label };
 
     ghost view = { λ w. record { tree = w.tree; here = w.here; mark = w.mark; depth = w.depth } };
 

@@ -7,7 +7,7 @@ use Rattle.gf_reverse_search.specs.declared.mark.Mark.{Mark}
 use Rattle.gf_reverse_search.specs.declared.mark.Mark.TheVariants.{Listed}
 use Rattle.gf_reverse_search.specs.Path.{Leads, IsRoot}
 use Rattle.gf_reverse_search.specs.Left.{IsLeft}
-use Rattle.gf_reverse_search.specs.Place.{StandsBelow}
+use Rattle.gf_reverse_search.specs.Standing.{StandsBelow}
 use Rattle.gf_reverse_search.specs.Listing.{Among, Rises, LeadTo}
 use Rattle.gf_reverse_search.specs.Whole.{EachOnce}
 use Rattle.gf_facets_theory.specs.Regions.{Region}

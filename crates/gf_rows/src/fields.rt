@@ -182,8 +182,8 @@ pub fn polynomials(alloc: Global, n: u32, text: &str) -> Option<Vec<Poly>>
     Some(found)
 }
 
-/// The place of a monomial among terms.
-fn place_of(terms: &[Term], mono: &Mono) -> Option<usize>
+/// The index of a monomial among terms.
+fn index_of(terms: &[Term], mono: &Mono) -> Option<usize>
     ensures { IfSome result (λ i. i < length terms.now) }
 {
     terms
@@ -197,8 +197,8 @@ fn member(alloc: Global, n: u32, text: &str) -> Option<Marked>
 {
     let first = term(alloc, n, text.split_whitespace().next()?)?;
     let f = polynomial(alloc, n, text)?;
-    let place = place_of(f.terms(), &first.mono)?;
-    Some(Marked::mark(f, place))
+    let index = index_of(f.terms(), &first.mono)?;
+    Some(Marked::mark(f, index))
 }
 
 /// The marked set.

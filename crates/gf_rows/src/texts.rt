@@ -176,10 +176,10 @@ pub fn outcome(alloc: Global, found: Result<Poly, PolyError>) -> Option<String> 
 /// A marked polynomial, the marked term first.
 pub fn member(alloc: Global, b: &Marked) -> Option<String> {
     let mut text = String::new(alloc);
-    let place = b.index();
-    add(&mut text, b.poly().terms().get(place)?)?;
+    let index = b.index();
+    add(&mut text, b.poly().terms().get(index)?)?;
     for (i, term) in b.poly().terms().iter().enumerate() {
-        if i != place {
+        if i != index {
             add(&mut text, term)?;
         }
     }

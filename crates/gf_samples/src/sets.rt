@@ -43,19 +43,19 @@ pub fn marked<const N: usize>(alloc: Global, rows: &[(i128, [u32; N])]) -> Resul
     }
     let (_, head) = rows[0];
     let terms = f.terms();
-    let mut place = 0;
+    let mut index = 0;
     'terms: for i in 0..terms.len() {
         let t = &terms[i];
         if t.mono.exponents() == head.as_slice() {
-            place = i;
+            index = i;
             break;
         }
-        place = i + 1;
+        index = i + 1;
     }
-    if place >= f.terms().len() {
+    if index >= f.terms().len() {
         return Err(PolyError::Memory);
     }
-    Ok(Marked::mark(f, place))
+    Ok(Marked::mark(f, index))
 }
 
 /// The set of polynomials in `n` variables that are marked so.
@@ -80,7 +80,7 @@ pub fn marked_set<const N: usize>(
     Ok(MarkedSet::new(n, items))
 }
 
-/// Whether the members of the set are these: of each the place of the marked term and the terms, as `lists` takes them.
+/// Whether the members of the set are these: of each the index of the marked term and the terms, as `lists` takes them.
 pub fn lists_members<const N: usize>(
     set: &MarkedSet,
     members: &[(usize, &[(i128, i128, [u32; N])])],
@@ -90,8 +90,8 @@ pub fn lists_members<const N: usize>(
         return false;
     }
     for i in 0..items.len() {
-        let (place, rows) = members[i];
-        if items[i].index() != place || !lists(items[i].poly(), rows) {
+        let (index, rows) = members[i];
+        if items[i].index() != index || !lists(items[i].poly(), rows) {
             return false;
         }
     }

@@ -23,8 +23,8 @@ use Rattle.gf_ideal_theory.proofs.MembershipLaws.{variables-equal, variables_of_
 use Rattle.gf_ideal_theory.proofs.PieceLaws.{spans_value}
 use Rattle.gf_ideal_theory.proofs.StepLaws.{IsClosed, IsPieceIn}
 use Rattle.gf_ideal_theory.proofs.BasisLaws.{member_pieces}
-use Rattle.gf_buchberger.specs.Jobs.{HaveRingVariables}
-use Rattle.gf_buchberger.proofs.JobLaws.{ring_variables}
+use Rattle.gf_buchberger.specs.Tasks.{HaveRingVariables}
+use Rattle.gf_buchberger.proofs.TaskLaws.{ring_variables}
 use Rattle.gf_saturation_theory.specs.Saturations.{product_power, IsSaturatedBy, next_variable}
 use Rattle.gf_saturation_theory.proofs.SubstitutionLaws.{entry-product_power, ring-product_power, ring-next}
 use Rattle.gf_saturation_theory.proofs.SaturationLaws.{one_more, extended_variables, saturated_same}
@@ -34,7 +34,7 @@ use Rattle.gf_quotients_theory.proofs.LawsHold.{ways_are_kept}
 use Rattle.gf_saturate.specs.Widening.{widened_term, narrowed_term, left_over, variable_at}
 use Rattle.gf_saturate.specs.Saturating.{AddsNothing, step_list}
 use Rattle.gf_saturate.specs.Graded.{IsWeightedBasis, GenerateSaturation}
-use Rattle.gf_saturate.specs.Chains.{AreWide, AreSplit, AreFreeMembers, AreSaturated, IsTaken, IsChainPlace}
+use Rattle.gf_saturate.specs.Chains.{AreWide, AreSplit, AreFreeMembers, AreSaturated, IsTaken, IsChainIndex}
 use Rattle.gf_saturate.proofs.WideningLaws.{length-variable, same-widened, variables-narrowed}
 use Rattle.gf_saturate.proofs.StepLaws.{extended, extended-ring, left_over-ring, not_equal}
 use Rattle.gf_saturate.proofs.StageLaws.{variable-same, by_no_power}
@@ -211,7 +211,7 @@ free_saturated n k fs hs s l r w a = record { ring = ring; members = λ f. (into
 pub unit_saturated : (n k : ℕ) (gs : List Terms) → HaveRingVariables n gs → AddsNothing n k gs → AreSaturated n k gs gs
 unit_saturated n k gs r a = record { ring = r; members = λ f. (λ m. by_no_power n (next_variable k) gs f m, λ s. a f s) }
 
-pub chain_start : (n : ℕ) (fs : List Terms) (v : Exponents) → HaveRingVariables n fs → length v ≡ n → ((k : ℕ) → k < n → entry v k ≡ 1) → IsChainPlace n fs fs v
+pub chain_start : (n : ℕ) (fs : List Terms) (v : Exponents) → HaveRingVariables n fs → length v ≡ n → ((k : ℕ) → k < n → entry v k ≡ 1) → IsChainIndex n fs fs v
 chain_start n fs v r l o = record {
   ring = r;
   long = l;
@@ -237,8 +237,8 @@ taken_one n k v u w l e p i =
       entries_same (variable_at n k) (next_variable k) (variable-same n k l) i,
     )
 
-pub chain_taken : (n k : ℕ) (fs gs hs : List Terms) (v w : Exponents) → k < n → HaveRingVariables n fs → IsChainPlace n fs gs v → AreSaturated n k gs hs →
-    length w ≡ n → IsTaken k v w → IsChainPlace n fs hs w
+pub chain_taken : (n k : ℕ) (fs gs hs : List Terms) (v w : Exponents) → k < n → HaveRingVariables n fs → IsChainIndex n fs gs v → AreSaturated n k gs hs →
+    length w ≡ n → IsTaken k v w → IsChainIndex n fs hs w
 chain_taken n k fs gs hs v w l r p s q t = record {
   ring = s.ring;
   long = q;
@@ -255,7 +255,7 @@ chain_taken n k fs gs hs v w l r p s q t = record {
       left = λ f m. more_enough n gs v (plus w (next_variable k)) (ring_variables n gs p.ring) more t f (p.way.left f m);
     }
 
-pub chain_ended : (n : ℕ) (fs gs : List Terms) (v : Exponents) → IsChainPlace n fs gs v → degree v ≡ 0 → GenerateSaturation n fs gs
+pub chain_ended : (n : ℕ) (fs gs : List Terms) (v : Exponents) → IsChainIndex n fs gs v → degree v ≡ 0 → GenerateSaturation n fs gs
 chain_ended n fs gs v p z = record {
   ring = p.ring;
   members = λ f. ways_are_kept.ended n fs gs f (way_same n fs gs v [] (same_by_entries v [] (λ i. omega (arith, entry-degree v i, z))) p.way);

@@ -21,19 +21,19 @@ use Rattle.gf_ideal_theory.proofs.RingLaws.{in_ring_of, entry-degree}
 use Rattle.gf_ideal_theory.proofs.SettledLaws.{twice}
 use Rattle.gf_ideal_theory.proofs.SpanLaws.{Spans-equal, Spans-zero, Spans-generator, Spans-++, Spans-times, Spans-difference}
 use Rattle.gf_ideal_theory.proofs.MembershipLaws.{variables-times, spans_of_member, member_of_spans}
-use Rattle.gf_buchberger.specs.Jobs.{HaveRingVariables}
-use Rattle.gf_buchberger.proofs.JobLaws.{ring_variables}
+use Rattle.gf_buchberger.specs.Tasks.{HaveRingVariables}
+use Rattle.gf_buchberger.proofs.TaskLaws.{ring_variables}
 use Rattle.gf_saturation_theory.specs.Saturations.{powered, product_power, IsSaturatedBy}
 use Rattle.gf_saturation_theory.proofs.SubstitutionLaws.{entry-product_power, ring-product_power, ring-powered}
 use Rattle.gf_saturation_theory.proofs.SaturationLaws.{variables_of_saturated, powered-plus, saturated_same, saturated_product}
 use Rattle.gf_quotients_theory.proofs.TakenLaws.{powered-sum, powered-up, powered-none, powered-least, spans_more}
 use Rattle.gf_saturate.specs.Graded.{AreInside, IsFollowed, IsEnoughFor, IsChoice}
 
--- ---- variables, place by place
+-- ---- variables, index by index
 
 pub inside_more : (x y : Exponents) (i m : ℕ) → m ≡ min (get_or x i 0) 1 → m ≤ get_or y i 0 → ((k : ℕ) → k < i → entry y k ≡ 0 → entry x k ≡ 0) →
     (k : ℕ) → k < i + 1 → entry y k ≡ 0 → entry x k ≡ 0
-inside_more x y i m e l h k b z = place (cases_lt k i)
+inside_more x y i m e l h k b z = index (cases_lt k i)
   where
     here : entry y i ≡ 0 → entry x i ≡ 0
     here q = at (cases_lt (entry x i) 1)
@@ -42,17 +42,17 @@ inside_more x y i m e l h k b z = place (cases_lt k i)
         at (inl a) = omega (arith, a)
         at (inr a) = absurd (omega (arith, a, e, l, q, entry-get_or x i, entry-get_or y i))
 
-    place : (k < i) ⊎ (i ≤ k) → entry x k ≡ 0
-    place (inl a) = h k a z
-    place (inr a) =
+    index : (k < i) ⊎ (i ≤ k) → entry x k ≡ 0
+    index (inl a) = h k a z
+    index (inr a) =
         let q : k ≡ i = omega (arith, a, b) in ap (entry x) q ∙ here (sym (ap (entry y) q) ∙ z)
 
 pub inside_all : (x y : Exponents) (i : ℕ) → length x ≤ i → ((k : ℕ) → k < i → entry y k ≡ 0 → entry x k ≡ 0) → AreInside x y
-inside_all x y i l h k z = place (cases_lt k i)
+inside_all x y i l h k z = index (cases_lt k i)
   where
-    place : (k < i) ⊎ (i ≤ k) → entry x k ≡ 0
-    place (inl a) = h k a z
-    place (inr a) = entry-past x k (omega (arith, a, l))
+    index : (k < i) ⊎ (i ≤ k) → entry x k ≡ 0
+    index (inl a) = h k a z
+    index (inr a) = entry-past x k (omega (arith, a, l))
 
 pub inside_along : (x y a b : Exponents) → x ≡ a → y ≡ b → AreInside x y → AreInside a b
 inside_along x y a b e q h = subst (λ (z : Exponents). AreInside z b) e (subst (λ (z : Exponents). AreInside x z) q h)

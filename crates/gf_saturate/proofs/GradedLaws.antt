@@ -32,9 +32,9 @@ use Rattle.gf_ideal_theory.proofs.RingLaws.{in_ring_of}
 use Rattle.gf_ideal_theory.proofs.BasisLaws.{basis_of_groebner_for}
 use Rattle.gf_ideal_theory.proofs.LawsHold.{marks_have_weights}
 use Rattle.gf_ideal_theory.proofs.MembershipLaws.{variables_of_member}
-use Rattle.gf_buchberger.specs.Jobs.{HaveRingVariables, IsSuited}
+use Rattle.gf_buchberger.specs.Tasks.{HaveRingVariables, IsSuited}
 use Rattle.gf_buchberger.specs.Bases.{IsArrangedBasis}
-use Rattle.gf_buchberger.proofs.JobLaws.{ring_variables, orders_that_suit}
+use Rattle.gf_buchberger.proofs.TaskLaws.{ring_variables, orders_that_suit}
 use Rattle.gf_saturation_theory.specs.Saturations.{product_power, next_variable}
 use Rattle.gf_saturation_theory.proofs.SubstitutionLaws.{entry-product_power, ring-product_power, next-here, next-below, ring-next}
 use Rattle.gf_saturation_theory.proofs.SaturationLaws.{saturated_same}
@@ -205,7 +205,7 @@ cut_all n k v q l o = same_by_entries (cut k v) [] (λ i. at i (cases_lt i k))
     at i (inl m) = cut-below k i v m (o i)
     at i (inr m) = cut-from k i v m ∙ in_ring_of n v l i (omega (arith, q, m))
 
--- at one place
+-- at one index
 cases_from : (k i : ℕ) → (i < k) ⊎ (k ≤ i) → (k < i) ⊎ (i ≤ k) → ((i < k) ⊎ (i ≡ k)) ⊎ (k < i)
 cases_from k i (inl l) m = inl (inl l)
 cases_from k i (inr l) (inl m) = inr m
@@ -264,7 +264,7 @@ way_same n fs gs v w e r = record { ring = r.ring; inside = r.inside; left = λ 
 -- ---- along the loop
 
 -- hs stand after the first k variables: it is left to saturate by v without them
-pub record IsGradedPlace (n : ℕ) (fs : List Terms) (v : Exponents) (k : ℕ) (hs : List Terms) : Type 0 where
+pub record IsGradedIndex (n : ℕ) (fs : List Terms) (v : Exponents) (k : ℕ) (hs : List Terms) : Type 0 where
   pub ring : HaveRingVariables n hs
   pub way : IsOnTheWay n fs hs (cut k v)
 
@@ -276,16 +276,16 @@ way_chosen n fs v r c = record {
   left = c.enough;
 }
 
-pub at_start : (n : ℕ) (fs hs : List Terms) (v : Exponents) → HaveRingVariables n fs → IsChoice n fs v → hs ≡ fs → IsGradedPlace n fs v 0 hs
+pub at_start : (n : ℕ) (fs hs : List Terms) (v : Exponents) → HaveRingVariables n fs → IsChoice n fs v → hs ≡ fs → IsGradedIndex n fs v 0 hs
 at_start n fs hs v r c e =
-    subst (IsGradedPlace n fs v 0) (sym e) (record { ring = r; way = way_same n fs fs v (cut 0 v) (cut_none v) (way_chosen n fs v r c) })
+    subst (IsGradedIndex n fs v 0) (sym e) (record { ring = r; way = way_same n fs fs v (cut 0 v) (cut_none v) (way_chosen n fs v r c) })
 
-pub skipped : (n : ℕ) (fs hs : List Terms) (v : Exponents) (k : ℕ) → IsChoice n fs v → entry v k ≡ 0 → IsGradedPlace n fs v k hs →
-    IsGradedPlace n fs v (k + 1) hs
+pub skipped : (n : ℕ) (fs hs : List Terms) (v : Exponents) (k : ℕ) → IsChoice n fs v → entry v k ≡ 0 → IsGradedIndex n fs v k hs →
+    IsGradedIndex n fs v (k + 1) hs
 skipped n fs hs v k c z p = record { ring = p.ring; way = way_same n fs hs (cut k v) (cut (k + 1) v) (cut_skip k v c.once z) p.way }
 
 pub stepped : (n k : ℕ) (fs gs hs : List Terms) (v : Exponents) → k < n → HaveRingVariables n fs → IsChoice n fs v → 1 ≤ entry v k →
-    IsGradedPlace n fs v k gs → IsDividedStep n k gs hs → IsGradedPlace n fs v (k + 1) hs
+    IsGradedIndex n fs v k gs → IsDividedStep n k gs hs → IsGradedIndex n fs v (k + 1) hs
 stepped n k fs gs hs v l r c o p s = record {
   ring = step_ring n k gs hs s;
   way = steps_saturate n k fs gs hs s.basis.items (cut (k + 1) v) l (cut_ring n (k + 1) v c.long) (ring_variables n fs r)
@@ -293,7 +293,7 @@ stepped n k fs gs hs v l r c o p s = record {
       (step_basis n gs s.basis p.ring s.weighted) (are_stripped n k s.basis.items hs s.divided);
 }
 
-pub finished : (n k : ℕ) (fs hs : List Terms) (v : Exponents) → n ≤ k → IsChoice n fs v → IsGradedPlace n fs v k hs → GenerateSaturation n fs hs
+pub finished : (n k : ℕ) (fs hs : List Terms) (v : Exponents) → n ≤ k → IsChoice n fs v → IsGradedIndex n fs v k hs → GenerateSaturation n fs hs
 finished n k fs hs v q c p = record {
   ring = p.ring;
   members = λ f. ways_are_kept.ended n fs hs f (way_same n fs hs (cut k v) [] (cut_all n k v q c.long c.once) p.way);

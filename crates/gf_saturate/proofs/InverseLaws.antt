@@ -17,8 +17,8 @@ use Rattle.gf_ideal_theory.proofs.ListLaws.{Each-++}
 use Rattle.gf_ideal_theory.proofs.ListedTerms.{variables_by_terms}
 use Rattle.gf_ideal_theory.proofs.RingLaws.{in_ring_of}
 use Rattle.gf_ideal_theory.proofs.MembershipLaws.{member-equal, member-generator, member-trans}
-use Rattle.gf_buchberger.specs.Jobs.{HaveRingVariables}
-use Rattle.gf_buchberger.proofs.JobLaws.{ring_variables}
+use Rattle.gf_buchberger.specs.Tasks.{HaveRingVariables}
+use Rattle.gf_buchberger.proofs.TaskLaws.{ring_variables}
 use Rattle.gf_saturation_theory.specs.Saturations.{product_power, IsSaturatedBy, IsSaturated}
 use Rattle.gf_saturation_theory.proofs.SubstitutionLaws.{entry-product_power, ring-product_power}
 use Rattle.gf_saturation_theory.proofs.SaturationLaws.{saturated_of_extended, saturated_product}

@@ -10,7 +10,7 @@ use Rattle.gf_int_theory.proofs.ListLaws.{Contains-last}
 use Rattle.gf_poly.specs.Marking.{MarkedPolynomial}
 use Rattle.gf_saturate.specs.Marks.{CoverHeads, CoverFreeHeads}
 
--- what the list to the next place has
+-- what the list to the next index has
 so_far : (bs : List MarkedPolynomial) (i : ℕ) (b c : MarkedPolynomial) → i < length bs → b ≡ get_or bs i b → Contains (take (i + 1) bs) c →
     Contains (take i bs) c ⊎ (c ≡ b)
 so_far bs i b c l e m = Contains-last (take i bs) b c (subst (λ (zs : List MarkedPolynomial). Contains zs c)

@@ -14,8 +14,8 @@ use Rattle.gf_ideal_theory.proofs.Identities.{one_not_zero}
 use Rattle.gf_ideal_theory.proofs.ListLaws.{Contains-cases}
 use Rattle.gf_ideal_theory.proofs.SpanLaws.{Spans-zero, Spans-equal, Spans-generator, Spans-++, Spans-times}
 use Rattle.gf_ideal_theory.proofs.MembershipLaws.{member_of_spans, variables_of_member}
-use Rattle.gf_buchberger.specs.Jobs.{HaveRingVariables}
-use Rattle.gf_buchberger.proofs.JobLaws.{ring_variables}
+use Rattle.gf_buchberger.specs.Tasks.{HaveRingVariables}
+use Rattle.gf_buchberger.proofs.TaskLaws.{ring_variables}
 use Rattle.gf_saturation_theory.specs.Saturations.{product_power, IsSaturated, HasOneTermMember, one_polynomial}
 use Rattle.gf_saturation_theory.proofs.SubstitutionLaws.{ring-product_power}
 use Rattle.gf_saturation_theory.proofs.SaturationLaws.{saturated_product}

@@ -14,8 +14,8 @@ use Rattle.gf_ideal_theory.proofs.KeptForms.{term_there}
 use Rattle.gf_ideal_theory.proofs.ListedTerms.{by_terms, variables_by_terms}
 use Rattle.gf_ideal_theory.proofs.MembershipLaws.{member-generator}
 use Rattle.gf_ideal_theory.proofs.PieceLaws.{Contains-marked}
-use Rattle.gf_buchberger.specs.Jobs.{HaveRingVariables}
-use Rattle.gf_buchberger.proofs.JobLaws.{ring_variables}
+use Rattle.gf_buchberger.specs.Tasks.{HaveRingVariables}
+use Rattle.gf_buchberger.proofs.TaskLaws.{ring_variables}
 use Rattle.gf_saturation_theory.specs.Saturations.{IsOfOneTerm, HasOneTermMember, one_polynomial}
 use Rattle.gf_saturation_theory.proofs.LawsHold.{monomials_are_told}
 use Rattle.gf_saturate.specs.Saturating.{IsSaturation}

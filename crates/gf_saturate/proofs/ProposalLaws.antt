@@ -16,8 +16,8 @@ use Rattle.gf_ideal_theory.specs.Membership.{IsInVariables, AreInVariables}
 use Rattle.gf_ideal_theory.proofs.ListLaws.{Contains-cases}
 use Rattle.gf_ideal_theory.proofs.RingLaws.{in_ring_of}
 use Rattle.gf_ideal_theory.proofs.MembershipLaws.{member-equal, member-times, member-generator, member-trans}
-use Rattle.gf_buchberger.specs.Jobs.{HaveRingVariables}
-use Rattle.gf_buchberger.proofs.JobLaws.{ring_variables}
+use Rattle.gf_buchberger.specs.Tasks.{HaveRingVariables}
+use Rattle.gf_buchberger.proofs.TaskLaws.{ring_variables}
 use Rattle.gf_saturation_theory.specs.Saturations.{product_power, IsSaturated}
 use Rattle.gf_saturation_theory.proofs.SubstitutionLaws.{ring-product_power}
 use Rattle.gf_quotients_theory.specs.Ways.{difference}

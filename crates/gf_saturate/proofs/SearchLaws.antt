@@ -1,4 +1,4 @@
--- A list that is searched place by place. To cite: found_here, not_yet, nowhere.
+-- A list that is searched index by index. To cite: found_here, not_yet, nowhere.
 use Rattle.std.proofs.Common.{◌≡◌, ◌⊎◌, ℕ, ◌+◌, ◌<◌, ◌≤◌, List, [], ◌∷◌, ◌++◌, Contains, length, take, get_or, sym, ap, ◌∙◌, subst, inl, inr}
 use Rattle.std.proofs.lemmas.List.{take_more, take_all}
 use Rattle.gf_int_theory.proofs.ListLaws.{Contains-last}

@@ -97,7 +97,7 @@ zero-powered : (p : ℕ) (v : Exponents) (i : ℕ) → entry v i ≡ 0 → entry
 zero-powered zero v i z = refl
 zero-powered (suc p) v i z = omega (arith, entry-plus v (powered p v) i, z, zero-powered p v i z)
 
--- what has nothing of the variable at place k divides y where it divides y times a monomial of this variable alone
+-- what has nothing of the variable at index k divides y where it divides y times a monomial of this variable alone
 divides_still : (k : ℕ) (c u w y : Exponents) → ((i : ℕ) → i < k → entry u i ≡ 0) → ((i : ℕ) → k < i → entry u i ≡ 0) → entry c k ≡ 0 →
     same (plus u y) (plus w c) ≡ true → same y (plus (minus y c) c) ≡ true
 divides_still k c u w y below above none s = same_by_entries y (plus (minus y c) c) (λ i. at i (cases_lt i k))

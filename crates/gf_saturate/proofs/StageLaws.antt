@@ -18,10 +18,10 @@ use Rattle.gf_ideal_theory.specs.Bases.{IsBasis, IsReducedBasisFor}
 use Rattle.gf_ideal_theory.proofs.MembershipLaws.{member-equal, member-generator}
 use Rattle.gf_ideal_theory.proofs.PieceLaws.{Contains-marked, Contains-polys}
 use Rattle.gf_ideal_theory.proofs.RingLaws.{in_ring_of}
-use Rattle.gf_buchberger.specs.Jobs.{HaveRingVariables}
+use Rattle.gf_buchberger.specs.Tasks.{HaveRingVariables}
 use Rattle.gf_buchberger.specs.declared.bases.BasisError.{BasisError}
 use Rattle.gf_buchberger.specs.Bases.{IsArrangedBasis, IsWantOfMemory}
-use Rattle.gf_buchberger.proofs.JobLaws.{ring_variables}
+use Rattle.gf_buchberger.proofs.TaskLaws.{ring_variables}
 use Rattle.gf_saturation_theory.specs.Saturations.{product_power, next_variable, IsSaturatedBy, AreLeftOver}
 use Rattle.gf_saturation_theory.proofs.SaturationLaws.{extended_variables, saturated_same, saturated_product}
 use Rattle.gf_saturation_theory.proofs.OneByOneLaws.{saturated_none, saturated_next}

@@ -23,7 +23,7 @@ use Rattle.gf_ideal_theory.proofs.ListLaws.{Contains-there, Contains-cases, each
 use Rattle.gf_ideal_theory.proofs.ListedTerms.{variables_by_terms}
 use Rattle.gf_ideal_theory.proofs.KeptForms.{term_there}
 use Rattle.gf_order.specs.Weights.{AreBounded}
-use Rattle.gf_buchberger.specs.Jobs.{HaveRingVariables}
+use Rattle.gf_buchberger.specs.Tasks.{HaveRingVariables}
 use Rattle.gf_buchberger.specs.declared.queue.Strategy.TheVariants.{Degree}
 use Rattle.gf_buchberger.specs.Ruled.{AreRuledRunsWithinLimits}
 use Rattle.gf_buchberger.specs.Bases.{IsArrangedBasis, IsBasisRefusal, IsWantOfMemory}

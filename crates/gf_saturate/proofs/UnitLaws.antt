@@ -19,9 +19,9 @@ use Rattle.gf_ideal_theory.proofs.ProductLaws.{poly_product, poly_product-turned
 use Rattle.gf_ideal_theory.proofs.SettledLaws.{twice}
 use Rattle.gf_ideal_theory.proofs.SpanLaws.{Spans-equal, Spans-zero, Spans-++, Spans-times, Spans-difference}
 use Rattle.gf_ideal_theory.proofs.MembershipLaws.{spans_of_member, member_of_spans}
-use Rattle.gf_buchberger.specs.Jobs.{HaveRingVariables}
+use Rattle.gf_buchberger.specs.Tasks.{HaveRingVariables}
 use Rattle.gf_buchberger.specs.Bases.{IsArrangedBasis}
-use Rattle.gf_buchberger.proofs.JobLaws.{ring_variables}
+use Rattle.gf_buchberger.proofs.TaskLaws.{ring_variables}
 use Rattle.gf_saturation_theory.specs.Saturations.{powered, next_variable, one_polynomial}
 use Rattle.gf_saturation_theory.proofs.SaturationLaws.{variables_of_saturated, saturated_same}
 use Rattle.gf_saturation_theory.proofs.LawsHold.{monomials_are_told}

@@ -4,7 +4,7 @@ use Rattle.gf_exponents_theory.specs.Exponents.{Exponents, entry, plus}
 use Rattle.gf_poly.specs.Polynomial.{Terms, HasVariables}
 use Rattle.gf_poly.specs.Marking.{MarkedPolynomial}
 use Rattle.gf_ideal_theory.specs.Membership.{IsMember}
-use Rattle.gf_buchberger.specs.Jobs.{HaveRingVariables}
+use Rattle.gf_buchberger.specs.Tasks.{HaveRingVariables}
 use Rattle.gf_saturation_theory.specs.Saturations.{IsSaturatedBy, next_variable}
 use Rattle.gf_quotients_theory.specs.Ways as ways
 use Rattle.gf_saturate.specs.Widening.{widened_term, narrowed_term, left_over}
@@ -22,17 +22,17 @@ pub record AreFreeMembers (n : ℕ) (bs : List MarkedPolynomial) (hs : List Term
   pub is : hs ≡ left_over n bs
   pub split : AreSplit n bs
 
--- hs are in n variables, and generate the saturation of the ideal of gs by the variable at place k
+-- hs are in n variables, and generate the saturation of the ideal of gs by the variable at index k
 pub record AreSaturated (n k : ℕ) (gs hs : List Terms) : Type 0 where
   pub ring : HaveRingVariables n hs
   pub members : (f : Terms) → IsMember n hs f ↔ IsSaturatedBy n gs (next_variable k) f
 
--- w has what v has, but for one of the variable at place k at most
+-- w has what v has, but for one of the variable at index k at most
 abbrev pub IsTaken : ℕ → Exponents → Exponents → Type 0
 IsTaken k v w = (i : ℕ) → entry v i ≤ entry (plus w (next_variable k)) i
 
 -- gs are on the way to the saturation of the ideal of fs by n variables: it is only left to saturate by v
-pub record IsChainPlace (n : ℕ) (fs gs : List Terms) (v : Exponents) : Type 0 where
+pub record IsChainIndex (n : ℕ) (fs gs : List Terms) (v : Exponents) : Type 0 where
   pub ring : HaveRingVariables n gs
   pub long : length v ≡ n
   pub way : ways.IsOnTheWay n fs gs v

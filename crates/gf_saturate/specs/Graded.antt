@@ -9,7 +9,7 @@ use Rattle.gf_poly.specs.declared.Term.{Term}
 use Rattle.gf_poly.specs.Polynomial.{Terms, HasVariables}
 use Rattle.gf_poly.specs.Marking.{MarkedPolynomial, MarkedPolynomials}
 use Rattle.gf_ideal_theory.specs.Membership.{IsMember}
-use Rattle.gf_buchberger.specs.Jobs.{HaveRingVariables}
+use Rattle.gf_buchberger.specs.Tasks.{HaveRingVariables}
 use Rattle.gf_buchberger.specs.Bases.{IsArrangedBasis}
 use Rattle.gf_saturation_theory.specs.Saturations.{IsSaturatedBy, IsSaturated}
 use Rattle.gf_dividing.specs.declared.Factors.{Factors}
@@ -52,7 +52,7 @@ pub record IsWeightedBasis (n : ℕ) (fs : List Terms) (s : MarkedPolynomials) :
   pub weighted : IsByWeights n order
   pub basis : IsArrangedBasis order n fs s
 
--- h is b without all that its terms share, which is at least as much of the variable at place k as the mark has
+-- h is b without all that its terms share, which is at least as much of the variable at index k as the mark has
 pub record IsDividedMember (n k : ℕ) (b : MarkedPolynomial) (h : Terms) : Type 0 where
   pub factors : Factors
   pub stripped : IsStripped n b.poly factors

@@ -6,3 +6,5 @@ pub mod OneTerm  -- polynomials of one term as they are kept, and marks that are
 pub mod Proposals  -- vectors that are proposed, and what runs start from
 pub mod Chains  -- saturations by one variable after another
 pub mod Saturating  -- what a saturation is answered with, the sets on the way, refusals
+pub use Rattle.gf_buchberger.specs.Tasks
+pub use Rattle.gf_buchberger.specs.Bases

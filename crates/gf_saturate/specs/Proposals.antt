@@ -4,7 +4,7 @@ use Rattle.std.specs.Prelude.{◌≡◌, ℕ, List, [], ◌∷◌, Contains, len
 use Rattle.gf_frac.specs.Fraction.{neg_ℚ, one_ℚ}
 use Rattle.gf_exponents_theory.specs.Exponents.{Exponents, plus}
 use Rattle.gf_poly.specs.Polynomial.{Terms, KeepsVariables, SamePolynomial}
-use Rattle.gf_buchberger.specs.Jobs.{HaveRingVariables}
+use Rattle.gf_buchberger.specs.Tasks.{HaveRingVariables}
 use Rattle.gf_saturation_theory.specs.Saturations.{IsSaturated}
 use Rattle.gf_quotients_theory.specs.Ways.{difference}
 use Rattle.gf_saturate.specs.declared.vectors.Vector.{Vector}

@@ -9,7 +9,7 @@ use Rattle.gf_poly.specs.Marking.{MarkedPolynomial, MarkedPolynomials, polys}
 use Rattle.gf_ideal_theory.specs.Marks.{AreMarked}
 use Rattle.gf_ideal_theory.specs.Membership.{IsMember}
 use Rattle.gf_ideal_theory.specs.Bases.{IsReducedBasisFor, AreArranged}
-use Rattle.gf_buchberger.specs.Jobs.{HaveRingVariables}
+use Rattle.gf_buchberger.specs.Tasks.{HaveRingVariables}
 use Rattle.gf_buchberger.specs.declared.bases.BasisError.{BasisError}
 use Rattle.gf_buchberger.specs.declared.queue.Strategy.TheVariants.{Degree}
 use Rattle.gf_buchberger.specs.Ruled.{AreRuledRunsWithinLimits}
@@ -33,11 +33,11 @@ pub record IsSaturation (n : ℕ) (fs : List Terms) (s : MarkedPolynomials) : Ty
 abbrev pub step_order : ℕ → MonomialOrder
 step_order n = MonomialOrder.weighted (last_weight n)
 
--- what a step works on: fs, and the inverse of the variable at place k
+-- what a step works on: fs, and the inverse of the variable at index k
 abbrev pub step_list : ℕ → ℕ → List Terms → List Terms
 step_list n k fs = extended_list (variable_at n k) fs
 
--- saturating the ideal of fs by the variable at place k adds nothing
+-- saturating the ideal of fs by the variable at index k adds nothing
 abbrev pub AddsNothing : ℕ → ℕ → List Terms → Type 0
 AddsNothing n k fs = (f : Terms) → IsSaturatedBy n fs (next_variable k) f → IsMember n fs f
 

@@ -27,7 +27,7 @@ abbrev pub left_over : ℕ → List MarkedPolynomial → List Terms
 left_over n [] = []
 left_over n (b ∷ bs) = (if entry b.head n == 0 then (map (narrowed_term n) b.poly ∷ []) else []) ++ left_over n bs
 
--- the variable at place k, from 0, of n
+-- the variable at index k, from 0, of n
 abbrev pub variable_at : ℕ → ℕ → Exponents
 variable_at zero k = []
 variable_at (suc n) zero = 1 ∷ replicate n 0

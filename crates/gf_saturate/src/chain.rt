@@ -7,8 +7,8 @@
 //!
 //! Each function answers nothing where a run of Buchberger's algorithm or the allocator refuses: then the saturation is worked out by the weight of t and lex.
 ghost use Rattle.std.specs.Prelude.{◌≡◌, ◌<◌, ◌+◌, IfOk, IfErr, IfSome, length};
-ghost use Rattle.gf_buchberger.specs.Jobs.{HaveRingVariables};
-ghost use Rattle.gf_saturate.specs.Chains.{AreWide, AreFreeMembers, AreSaturated, IsTaken, IsChainPlace};
+ghost use Rattle.gf_buchberger.specs.Tasks.{HaveRingVariables};
+ghost use Rattle.gf_saturate.specs.Chains.{AreWide, AreFreeMembers, AreSaturated, IsTaken, IsChainIndex};
 ghost use Rattle.gf_saturate.specs.Graded.{GenerateSaturation};
 ghost use Rattle.gf_saturate.specs.Saturating.{IsSaturation};
 
@@ -51,7 +51,7 @@ fn free_members(alloc: Global, n: u32, found: &MarkedSet) -> Result<Option<Vec<P
     Ok(Some(all))
 }
 
-/// What generates the saturation by the variable at place `k`.
+/// What generates the saturation by the variable at index `k`.
 fn eliminated(alloc: Global, n: u32, k: u32, set: &[Poly], pairs: u64) -> Option<Vec<Poly>>
     requires room { n < ROOM }
     requires inside { k < n }
@@ -71,7 +71,7 @@ fn eliminated(alloc: Global, n: u32, k: u32, set: &[Poly], pairs: u64) -> Option
     }
 }
 
-/// The monomial without one of the variable at place `k`, where it has one.
+/// The monomial without one of the variable at index `k`, where it has one.
 fn taken(alloc: Global, n: u32, k: u32, left: &Mono) -> Mono
     requires room { n < ROOM }
     requires inside { k < n }
@@ -90,7 +90,7 @@ fn taken(alloc: Global, n: u32, k: u32, left: &Mono) -> Mono
 fn without_units(alloc: Global, n: u32, set: &[Poly], pairs: u64) -> Mono
     requires room { n < ROOM }
     requires variables { HaveRingVariables n set.now }
-    ensures { IsChainPlace n set.now set.now result }
+    ensures { IsChainIndex n set.now set.now result }
 {
     let mut left = product(alloc, n);
     if vanish_at_zero(set) {
@@ -105,8 +105,8 @@ fn without_units(alloc: Global, n: u32, set: &[Poly], pairs: u64) -> Mono
     left
 }
 
-/// The variable at place `first`, if that occurs; else the first one that does.
-fn next_place(n: u32, first: u32, left: &Mono) -> Option<u32>
+/// The variable at index `first`, if that occurs; else the first one that does.
+fn next_index(n: u32, first: u32, left: &Mono) -> Option<u32>
     requires inside { first < n }
     requires long { length left.now ≡ n }
     ensures { IfSome result (λ k. k < n) }
@@ -117,7 +117,7 @@ fn next_place(n: u32, first: u32, left: &Mono) -> Option<u32>
     first_variable(n, left)
 }
 
-/// What generates the saturation, by the variables of `left` one after another, the one at place `first` before the others; or the variable whose run is
+/// What generates the saturation, by the variables of `left` one after another, the one at index `first` before the others; or the variable whose run is
 /// refused.
 fn along(
     alloc: Global,
@@ -130,7 +130,7 @@ fn along(
     requires room { n < ROOM }
     requires inside { first < n }
     requires variables { HaveRingVariables n set.now }
-    requires place { IsChainPlace n set.now set.now left.now }
+    requires index { IsChainIndex n set.now set.now left.now }
     ensures ok { IfOk result (λ all. GenerateSaturation n set.now all.items) }
     ensures err { IfErr result (λ k. k < n) }
 {
@@ -140,7 +140,7 @@ fn along(
     let mut polys = given;
     let mut rest = left.copy();
     'variables: for _ in 0..n {
-        let Some(k) = next_place(n, first, &rest) else {
+        let Some(k) = next_index(n, first, &rest) else {
             continue;
         };
         let Some(next) = eliminated(alloc, n, k, &polys, pairs) else {

@@ -4,7 +4,7 @@
 //! variables of the other: a power of the one may be put for a power of the other.
 ghost use Rattle.std.specs.Prelude.{◌≡◌, ◌<◌, ◌≤◌, IsTrue, length};
 ghost use Rattle.gf_poly.specs.Polynomial.{HasVariables, IsDescending};
-ghost use Rattle.gf_buchberger.specs.Jobs.{HaveRingVariables};
+ghost use Rattle.gf_buchberger.specs.Tasks.{HaveRingVariables};
 ghost use Rattle.gf_saturation_theory.specs.Saturations.{product_power};
 ghost use Rattle.gf_saturate.specs.Graded.{AreInside, IsFollowed, IsEnoughFor, IsChoice};
 
@@ -96,7 +96,7 @@ fn is_enough(alloc: Global, n: u32, some: &Mono, set: &[Poly]) -> bool
     are_inside(&whole, &all)
 }
 
-/// The choice without the variable at place `k`, if that is enough too.
+/// The choice without the variable at index `k`, if that is enough too.
 fn without(alloc: Global, n: u32, k: u32, choice: &Mono, set: &[Poly]) -> Mono
     requires room { n ≤ ROOM }
     requires inside { k < n }
@@ -131,14 +131,14 @@ pub(crate) fn trials(alloc: Global, n: u32, grade: &[i128], set: &[Poly], pairs:
     numbers
 }
 
-/// The place of the greatest of the first `n` numbers, the first such one.
+/// The index of the greatest of the first `n` numbers, the first such one.
 fn greatest(n: u32, numbers: &[u64]) -> u32
     requires some { 0 < n }
     requires room { n ≤ length numbers.now }
     ensures { result < n }
 {
     let mut best = 0;
-    'places: for k in 1..n {
+    'indices: for k in 1..n {
         if numbers[k as usize] <= numbers[best as usize] {
             continue;
         }

@@ -4,7 +4,7 @@ ghost use Rattle.gf_exponents_theory.specs.Exponents.{entry};
 ghost use Rattle.gf_exponents_theory.specs.Orders.{gains};
 ghost use Rattle.gf_exponents_theory.specs.SixOrders.{MonomialOrder};
 ghost use Rattle.gf_order.specs.Weights.{AreBounded};
-ghost use Rattle.gf_buchberger.specs.Jobs.{HaveRingVariables};
+ghost use Rattle.gf_buchberger.specs.Tasks.{HaveRingVariables};
 ghost use Rattle.gf_saturation_theory.specs.Saturations.{last_weight};
 ghost use Rattle.gf_saturate.specs.Widening.{extended_list, left_over};
 ghost use Rattle.gf_saturate.specs.Saturating.{IsToEliminate};

@@ -6,7 +6,7 @@ ghost use Rattle.std.specs.Prelude.{◌≡◌, ◌<◌, ◌≤◌, ◌^◌, unsi
 ghost use Rattle.gf_exponents_theory.specs.Exponents.{entry};
 ghost use Rattle.gf_poly.specs.Polynomial.{HasVariables};
 ghost use Rattle.gf_order.specs.Weights.{AreBounded};
-ghost use Rattle.gf_buchberger.specs.Jobs.{HaveRingVariables};
+ghost use Rattle.gf_buchberger.specs.Tasks.{HaveRingVariables};
 ghost use Rattle.gf_saturate.specs.Graded.{IsByWeights, IsWeightedBasis, IsDividedMember, AreToDivide, AreDividedMembers};
 ghost use Rattle.gf_saturate.specs.Graded.{IsDividedStep, IsChoice, one_list, GenerateSaturation};
 ghost use Rattle.gf_saturate.specs.Saturating.{IsSaturation};
@@ -45,7 +45,7 @@ fn lowered_entry(entry: i128, less: bool) -> i128
     }
 }
 
-/// Twice each entry, and 1 less at place `k`.
+/// Twice each entry, and 1 less at index `k`.
 fn lowered(alloc: Global, k: u32, grade: &[i128]) -> Result<IntVec, AllocError>
     ensures { IfOk result AreBounded }
 {
@@ -56,7 +56,7 @@ fn lowered(alloc: Global, k: u32, grade: &[i128]) -> Result<IntVec, AllocError>
     Ok(IntVec::from_vec(all))
 }
 
-/// The order by twice the grade, less 1 at place `k`, then revlex: of monomials of one grade that with less of this variable is greater.
+/// The order by twice the grade, less 1 at index `k`, then revlex: of monomials of one grade that with less of this variable is greater.
 pub(crate) fn lowered_order(alloc: Global, n: u32, k: u32, grade: &[i128]) -> Option<Order>
     ensures { IfSome result (IsByWeights n) }
 {
@@ -120,7 +120,7 @@ pub(crate) fn members_after(
     }
 }
 
-/// The exponent of the variable at place `k`.
+/// The exponent of the variable at index `k`.
 pub(crate) fn exponent(x: &Mono, k: u32) -> u32
     requires { k < length x.now }
     ensures { result ≡ entry x.now k }
@@ -128,7 +128,7 @@ pub(crate) fn exponent(x: &Mono, k: u32) -> u32
     x.exponents()[k as usize]
 }
 
-/// The member without all that its terms share, where that has as much of the variable at place `k` as the mark.
+/// The member without all that its terms share, where that has as much of the variable at index `k` as the mark.
 fn divided_member(alloc: Global, n: u32, k: u32, b: &Marked) -> Option<Poly>
     requires inside { k < n }
     requires some { 0 < length b.now.poly }
@@ -255,12 +255,12 @@ fn divided_by(
     Some(polys)
 }
 
-/// The place of the first variable that occurs.
+/// The index of the first variable that occurs.
 pub(crate) fn first_variable(n: u32, x: &Mono) -> Option<u32>
     requires { n ≤ length x.now }
     ensures { IfSome result (λ k. k < n) }
 {
-    'places: for k in 0..n {
+    'indices: for k in 0..n {
         if exponent(x, k) != 0 {
             return Some(k);
         }

@@ -5,7 +5,7 @@
 //! keeps numbers narrow.
 ghost use Rattle.std.specs.Prelude.{◌≡◌, ◌<◌, ◌+◌, IfOk, IfSome, IsTrue, map};
 ghost use Rattle.gf_poly.specs.Polynomial.{HasVariables};
-ghost use Rattle.gf_buchberger.specs.Jobs.{HaveRingVariables};
+ghost use Rattle.gf_buchberger.specs.Tasks.{HaveRingVariables};
 ghost use Rattle.gf_saturate.specs.Graded.{IsWeightedBasis};
 ghost use Rattle.gf_saturate.specs.Proposals.{IsStart};
 ghost use Rattle.gf_saturate.specs.Saturating.{IsSaturation, step_list};
@@ -93,7 +93,7 @@ fn with_members_without(
     Ok(all)
 }
 
-/// The polynomials, and more in the saturation by the variable at place `k`.
+/// The polynomials, and more in the saturation by the variable at index `k`.
 fn with_inverse(alloc: Global, n: u32, k: u32, set: &[Poly], pairs: u64) -> Option<Vec<Poly>>
     requires room { n < ROOM }
     requires inside { k < n }

@@ -24,5 +24,6 @@ mod units;
 mod vectors;
 mod widening;
 
+pub use gf_buchberger::BasisError;
 pub use monomials::has_monomial;
 pub use saturation::saturate;

@@ -2,7 +2,7 @@
 ghost use Rattle.std.specs.Prelude.{◌≡◌, ◌<◌, ◌↔◌, ◌==◌, true, IfOk, IfErr, IsTrue, Ok, length};
 ghost use Rattle.gf_poly.specs.Polynomial.{IsDescending};
 ghost use Rattle.gf_buchberger.specs.Bases.{IsWantOfMemory};
-ghost use Rattle.gf_buchberger.specs.Jobs.{HaveRingVariables};
+ghost use Rattle.gf_buchberger.specs.Tasks.{HaveRingVariables};
 ghost use Rattle.gf_saturation_theory.specs.Saturations.{HasOneTermMember};
 ghost use Rattle.gf_saturate.specs.Saturating.{IsSaturateRefusal, AreStepsWithinLimits};
 ghost use Rattle.gf_saturate.specs.OneTerm.{HasOneTerm, HasUnitMark};

@@ -4,7 +4,7 @@
 //! Each proposal is in the saturation; which ones are found isn't said.
 ghost use Rattle.std.specs.Prelude.{◌≡◌, ◌<◌, ◌≤◌, OnOk, IfOk, IfSome, length};
 ghost use Rattle.gf_order.specs.Comparisons.{HasEntries};
-ghost use Rattle.gf_buchberger.specs.Jobs.{HaveRingVariables};
+ghost use Rattle.gf_buchberger.specs.Tasks.{HaveRingVariables};
 ghost use Rattle.gf_saturate.specs.Proposals.{IsProposal, AreProposals, IsStart};
 
 use crate::stages::copies;
@@ -22,7 +22,7 @@ const PAIRS: u64 = 100_000;
 /// The most steps of one reduction.
 const STEPS: u32 = 1000;
 
-/// A pair of members by their places, or a given vector by its place twice; what is of the least level is taken first.
+/// A pair of members by their indices, or a given vector by its index twice; what is of the least level is taken first.
 #[derive(Clone, Copy, Debug, PartialEq, Eq, PartialOrd, Ord)]
 pub struct Waiting {
     pub level: i128,
@@ -38,7 +38,7 @@ pub struct Work {
     pub queue: BinaryHeap<Reverse<Waiting>>,
 }
 
-/// Whether the member at place `k` is redundant.
+/// Whether the member at index `k` is redundant.
 fn is_redundant(redundant: &[bool], k: usize) -> bool {
     match redundant.get(k) {
         Some(yes) => *yes,
@@ -67,7 +67,7 @@ fn oriented(n: u32, set: &[Poly], order: &Order, v: Vector) -> Option<Vector>
     }
 }
 
-/// The place of a member that isn't redundant and whose first monomial divides `x`.
+/// The index of a member that isn't redundant and whose first monomial divides `x`.
 fn divisor(n: u32, set: &[Poly], members: &[Vector], redundant: &[bool], x: &Mono) -> Option<usize>
     requires members { AreProposals n set.now members.now }
     requires long { length x.now ≡ n }
@@ -147,7 +147,7 @@ fn covers(z: &Mono, head: &Mono, multiple: &Mono, before: bool) -> bool
     before || z.lcm(head).degree() < multiple.degree() || are_coprime(z, head)
 }
 
-/// Whether a member covers the pair of the one at place `i` with a new one.
+/// Whether a member covers the pair of the one at index `i` with a new one.
 fn is_covered(
     n: u32,
     set: &[Poly],

@@ -6,7 +6,7 @@ use gf_frac::constants;
 use gf_poly::{Mono, Poly, ROOM, Term, filled};
 use std::alloc::{AllocError, Global};
 
-/// The variable at place `k`, from 0, of `n`.
+/// The variable at index `k`, from 0, of `n`.
 pub(crate) fn variable(alloc: Global, n: u32, k: u32) -> Mono
     requires room { n ≤ ROOM }
     requires inside { k < n }

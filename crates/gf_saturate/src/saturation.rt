@@ -1,7 +1,7 @@
 //! Saturations by the product of the variables.
 ghost use Rattle.std.specs.Prelude.{◌<◌, IfOk, IfErr};
 ghost use Rattle.gf_buchberger.specs.Bases.{IsWantOfMemory};
-ghost use Rattle.gf_buchberger.specs.Jobs.{HaveRingVariables};
+ghost use Rattle.gf_buchberger.specs.Tasks.{HaveRingVariables};
 ghost use Rattle.gf_saturate.specs.Saturating.{IsOnTheWay, IsStage, IsSaturation, IsSaturateRefusal, AreStepsWithinLimits};
 
 use crate::chain::by_chain;

@@ -4,7 +4,7 @@ ghost use Rattle.gf_poly.specs.Marking.{polys};
 ghost use Rattle.gf_exponents_theory.specs.Exponents.{entry};
 ghost use Rattle.gf_exponents_theory.specs.SixOrders.{MonomialOrder};
 ghost use Rattle.gf_buchberger.specs.Bases.{IsArrangedBasis};
-ghost use Rattle.gf_buchberger.specs.Jobs.{HaveRingVariables};
+ghost use Rattle.gf_buchberger.specs.Tasks.{HaveRingVariables};
 ghost use Rattle.gf_saturation_theory.specs.Saturations.{last_weight};
 ghost use Rattle.gf_saturate.specs.Widening.{extended_list, variable_at};
 ghost use Rattle.gf_saturate.specs.Saturating.{IsVariableStep, IsVariableStepRefusal, IsOnTheWay, IsStage};
@@ -115,7 +115,7 @@ pub(crate) fn first_stage(
     }
 }
 
-/// The basis of the polynomials and of the inverse of the variable at place `k`, by the weight of the inverse before lex.
+/// The basis of the polynomials and of the inverse of the variable at index `k`, by the weight of the inverse before lex.
 fn step_basis(
     alloc: Global,
     n: u32,
@@ -156,7 +156,7 @@ fn left(alloc: Global, n: u32, k: u32, set: &[Poly], found: &MarkedSet) -> Resul
     })
 }
 
-/// One step: what generates the saturation by the variable at place `k`.
+/// One step: what generates the saturation by the variable at index `k`.
 pub(crate) fn step(
     alloc: Global,
     n: u32,

@@ -7,7 +7,7 @@
 ghost use Rattle.std.specs.Prelude.{◌≡◌, ◌∷◌, ◌<◌, ◌≤◌, ℕ, IfOk, IfSome, IsTrue};
 ghost use Rattle.gf_order.specs.Comparisons.{HasEntries};
 ghost use Rattle.gf_buchberger.specs.Bases.{IsArrangedBasis, IsBasisRefusal};
-ghost use Rattle.gf_buchberger.specs.Jobs.{HaveRingVariables, IsSuited};
+ghost use Rattle.gf_buchberger.specs.Tasks.{HaveRingVariables, IsSuited};
 ghost use Rattle.gf_saturate.specs.Saturating.{AddsNothing, IsSaturation};
 ghost use Rattle.gf_saturate.specs.Units.{variable_terms};
 
@@ -86,7 +86,7 @@ pub(crate) fn by_runs(
     }
 }
 
-/// The variable at place `k` as a polynomial.
+/// The variable at index `k` as a polynomial.
 fn variable_polynomial(alloc: Global, n: u32, k: u32) -> Result<Poly, AllocError>
     requires room { n ≤ ROOM }
     requires inside { k < n }
@@ -102,7 +102,7 @@ fn variable_polynomial(alloc: Global, n: u32, k: u32) -> Result<Poly, AllocError
     Ok(Poly::from_descending(terms))
 }
 
-/// The variable at place `k`, then the polynomials. In this order each of these enters a run without its terms that have the variable.
+/// The variable at index `k`, then the polynomials. In this order each of these enters a run without its terms that have the variable.
 fn with_variable(alloc: Global, n: u32, k: u32, set: &[Poly]) -> Result<Vec<Poly>, AllocError>
     requires room { n ≤ ROOM }
     requires inside { k < n }
@@ -118,7 +118,7 @@ fn with_variable(alloc: Global, n: u32, k: u32, set: &[Poly]) -> Result<Vec<Poly
     Ok(all)
 }
 
-/// Whether the variable at place `k` is found to be a unit modulo the ideal, by a basis of at most 1000 pairs.
+/// Whether the variable at index `k` is found to be a unit modulo the ideal, by a basis of at most 1000 pairs.
 pub(crate) fn is_unit(alloc: Global, n: u32, k: u32, set: &[Poly], pairs: u64) -> bool
     requires room { n ≤ ROOM }
     requires inside { k < n }

@@ -1,7 +1,7 @@
 //! Differences of two monomials as vectors: their sums, divided by what both monomials share.
 ghost use Rattle.std.specs.Prelude.{◌≡◌, IsTrue, IfOk, IfSome, Contains, length};
 ghost use Rattle.gf_frac.specs.Fraction.{neg_ℚ, one_ℚ};
-ghost use Rattle.gf_buchberger.specs.Jobs.{HaveRingVariables};
+ghost use Rattle.gf_buchberger.specs.Tasks.{HaveRingVariables};
 ghost use Rattle.gf_saturate.specs.Proposals.{IsDivided, IsVectorOf, IsWritten, IsProposed, IsProposal};
 
 use gf_frac::{Frac, constants};

@@ -17,11 +17,11 @@ use Rattle.gf_rays.specs.Reached.{IsRaysStep}
 use Rattle.gf_sections.specs.ConeRows.{AreAscending}
 use Rattle.gf_sections.specs.Flagged.{AreFlagsOf, flagged}
 use Rattle.gf_sections.specs.Errors.{of_system}
-use Rattle.gf_sections.specs.Certificates.{AreRowsTold, AreRowsWith, IsRedundant, AreVanishing, IsCombinationOf, IsZeroCombination, value_columns}
+use Rattle.gf_sections.specs.ConeCertificates.{AreRowsTold, AreRowsWith, IsRedundant, AreVanishing, IsCombinationOf, IsZeroCombination, value_columns}
 use Rattle.gf_sections.specs.ConeText.{AreCertificates, IsCertificateCause, IsCombiningStep, combining, vanishing, IsSectionsCause, finding, certifying}
 use Rattle.gf_sections.specs.ConeText.{AreSections, certificate_sections}
 use Rattle.gf_sections.specs.SectionText.{cone_sections}
-use Rattle.gf_sections.specs.declared.certificates.Certificates.{Certificates}
+use Rattle.gf_sections.specs.declared.certificates.ConeCertificates.{ConeCertificates}
 use Rattle.gf_sections.specs.declared.error.SectionsError.{SectionsError}
 use Rattle.gf_sections.proofs.FlaggedLaws.{flagged_with}
 
@@ -135,7 +135,7 @@ facets_read n m rows read es facets em er ee f =
     subst (λ (k : ℕ). AreFacetRows k (cone_of rows) facets) em (subst (λ (l : List (List ℤ)). AreFacetRows m (cone_of l) facets) er
     (subst (λ (l : List (List ℤ)). AreFacetRows m (record { inequalities = read; equations = l }) facets) ee f))
 
-pub certificates_read : (n m : ℕ) (rows read rays facets given implied : List (List ℤ)) (c : Certificates) → m ≡ n → read ≡ rows → given ≡ facets →
+pub certificates_read : (n m : ℕ) (rows read rays facets given implied : List (List ℤ)) (c : ConeCertificates) → m ≡ n → read ≡ rows → given ≡ facets →
     AreCertificates m read rays given implied c → AreCertificates n rows rays facets implied c
 certificates_read n m rows read rays facets given implied c em er eg a =
     subst (λ (k : ℕ). AreCertificates k rows rays facets implied c) em (subst (λ (l : List (List ℤ)). AreCertificates m l rays facets implied c) er
@@ -170,7 +170,7 @@ plain_sections n certified rows lin rays facets implied dim text k d t e = subst
   is_text = e ∙ sym (append-nil (cone_sections n dim implied facets));
 })
 
-pub certified_sections : (n : ℕ) (certified : Bool) (rows lin rays facets implied : List (List ℤ)) (dim : ℕ) (text : List ℕ) (c : Certificates) →
+pub certified_sections : (n : ℕ) (certified : Bool) (rows lin rays facets implied : List (List ℤ)) (dim : ℕ) (text : List ℕ) (c : ConeCertificates) →
     IsKnownCone n rows lin rays facets implied → dim + length implied ≡ n → certified ≡ true → AreCertificates n rows rays facets implied c →
     text ≡ cone_sections n dim implied facets ++ certificate_sections c → AreSections n certified rows text
 certified_sections n certified rows lin rays facets implied dim text c k d t a e = subst (λ (b : Bool). AreSections n b rows text) (sym t) (record {

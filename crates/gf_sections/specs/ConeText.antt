@@ -13,9 +13,9 @@ use Rattle.gf_rays.specs.Reached.{IsRaysStep}
 use Rattle.gf_rays.specs.Parts.{zeros_of}
 use Rattle.gf_rays.specs.Sums.{adding_steps}
 use Rattle.gf_sections.specs.ConeRows.{AreConeRows, given_rows}
-use Rattle.gf_sections.specs.Certificates.{AreRowsTold, IsInsideRowFacet, IsRedundant, AreRowsWith, IsCombinationOf, IsZeroCombination, value_columns}
+use Rattle.gf_sections.specs.ConeCertificates.{AreRowsTold, IsInsideRowFacet, IsRedundant, AreRowsWith, IsCombinationOf, IsZeroCombination, value_columns}
 use Rattle.gf_sections.specs.SectionText.{rows_section, cone_sections}
-use Rattle.gf_sections.specs.declared.certificates.Certificates.{Certificates}
+use Rattle.gf_sections.specs.declared.certificates.ConeCertificates.{ConeCertificates}
 use Rattle.gf_sections.specs.declared.error.SectionsError.{SectionsError}
 use Rattle.gf_sections.specs.declared.error.SectionsError.TheVariants as errors
 
@@ -27,7 +27,7 @@ pub record IsFacetSum (n : ℕ) (rows rays : List (List ℤ)) (f v : List ℤ) :
   pub inside_facet : IsInsideRowFacet n rows f v
 
 -- a sum for each facet; the redundant rows, and a combination for each; the rows that are zero on the whole cone, and one for each
-pub record AreCertificates (n : ℕ) (rows rays facets implied : List (List ℤ)) (c : Certificates) : Type 0 where
+pub record AreCertificates (n : ℕ) (rows rays facets implied : List (List ℤ)) (c : ConeCertificates) : Type 0 where
   pub witnesses : AllZip (IsFacetSum n rows rays) facets c.witnesses.items
   pub redundant : AreRowsWith (IsRedundant n rows facets) rows c.redundant.items
   pub combinations : AllZip (IsCombinationOf n facets implied) c.redundant.items c.combinations.items
@@ -35,7 +35,7 @@ pub record AreCertificates (n : ℕ) (rows rays facets implied : List (List ℤ)
   pub zero_combinations : AllZip (IsZeroCombination n rows) c.zero_rows.items c.zero_combinations.items
 
 -- in five sections
-abbrev pub certificate_sections : Certificates → List ℕ
+abbrev pub certificate_sections : ConeCertificates → List ℕ
 certificate_sections c = concat (
     rows_section (codes "FACET_WITNESSES") c.witnesses.items
     ∷ rows_section (codes "REDUNDANT") c.redundant.items
@@ -47,7 +47,7 @@ certificate_sections c = concat (
 -- where they are asked for
 abbrev pub IsCertificateText : Bool → ℕ → List (List ℤ) → List (List ℤ) → List (List ℤ) → List (List ℤ) → List ℕ → Type 0
 IsCertificateText false n rows rays facets implied text = text ≡ []
-IsCertificateText true n rows rays facets implied text = (c : Certificates) × AreCertificates n rows rays facets implied c × (text ≡ certificate_sections c)
+IsCertificateText true n rows rays facets implied text = (c : ConeCertificates) × AreCertificates n rows rays facets implied c × (text ≡ certificate_sections c)
 
 -- ---- the whole text
 

@@ -195,7 +195,7 @@ left-unwritten r joins s here steps left middle leaves given between gives held 
     prefix-behind : (a b c : Option (List ℕ)) (xs ys : List ℕ) → Appends a b xs → AppendsPrefix b c ys → AppendsPrefix a c (xs ++ ys)
     prefix-behind a b c xs ys p q = (length xs + q.0, omega (arith, length-append xs ys, q.1), rw take-append-add (Appends-trans a b c xs (take q.0 ys) p q.2))
 
--- at a place
+-- at a state
 pub left-stuck : {P S E : Type 0} (r : Rules P) (joins : P → S → P → Type 0) (refuses : P → E → Type 0) (s : Trail P) (here : P) (steps : List S)
     (left middle leaves : Option (List ℕ)) (given between gives : ℕ) (held holds gained : Option (List ℕ)) (taken : ℕ) (heard : Heard) (e : E)
     (so : IsTalking r joins s here steps left middle given between held holds taken) (h : IsLineHeard middle leaves between gives taken heard) →
@@ -208,7 +208,7 @@ left-stuck r joins refuses s here steps left middle leaves given between gives h
   pure = h.pure;
   ends = h.ends;
   talk = talk-with r joins s here steps left middle leaves given between gives held holds gained taken (as_taken heard.is_last h.line) so h.took turn.kept;
-  place = turn.place;
+  state = turn.state;
   near = turn.near;
   refused = turn.refused;
 }

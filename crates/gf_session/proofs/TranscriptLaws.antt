@@ -3,26 +3,26 @@
 use Rattle.std.proofs.Common.{◌≡◌, ◌⊎◌, ℕ, List, [], ◌∷◌, ◌++◌, length, refl, sym, ap₂, ◌∙◌, subst, inl, inr}
 use Rattle.gf_session.specs.declared.choice.Choice.{Choice}
 use Rattle.gf_session.specs.declared.choice.Choice.TheVariants as choices
-use Rattle.gf_session.specs.Sessions.{Rules, Trail, IsLineTurn, AreTurns, IsWalkedOn, IsReply, IsUndone, no_such_facet, nothing_to_undo, not_understood}
-use Rattle.gf_session.specs.Transcripts.{AreFunctions, AreDetermined, NoneQuits, HoldsOfPlaces, HoldsOverTrail, AreTotal, HaveTranscripts}
+use Rattle.gf_session.specs.Sessions.{Rules, Trail, IsLineTurn, AreTurns, IsCrossedTo, IsReply, IsUndone, no_such_facet, nothing_to_undo, not_understood}
+use Rattle.gf_session.specs.Transcripts.{AreFunctions, AreDetermined, NoneQuits, HoldsOfStates, HoldsOverTrail, AreTotal, HaveTranscripts}
 
 -- ---- one at most
 
 same_answer : {P : Type 0} (s t u : Trail P) (answer x y : List ℕ) → IsReply s t answer x → IsReply s u answer y → (t ≡ u) × (x ≡ y)
 same_answer s t u answer x y a b = (a.stays ∙ sym b.stays, a.is_answer ∙ sym b.is_answer)
 
-same_crossing : {P : Type 0} (r : Rules P) → AreFunctions r → (s t u : Trail P) (n : ℕ) (x y : List ℕ) → IsWalkedOn r s n t x → IsWalkedOn r s n u y →
+same_crossing : {P : Type 0} (r : Rules P) → AreFunctions r → (s t u : Trail P) (n : ℕ) (x y : List ℕ) → IsCrossedTo r s n t x → IsCrossedTo r s n u y →
     (t ≡ u) × (x ≡ y)
 same_crossing {P} r f s t u n x y a b =
-    let same : t ≡ u = ap₂ (λ (h : P) (ps : List P). record { here = h; before = ps }) (f.one_place s.here t.here u.here n a.across b.across)
+    let same : t ≡ u = ap₂ (λ (h : P) (ps : List P). record { here = h; before = ps }) (f.one_state s.here t.here u.here n a.across b.across)
     (a.before ∙ sym b.before) in
     (same, f.one_text t.here (length t.before) x y a.told (subst (λ (v : Trail P). r.IsTold v.here (length v.before) y) (sym same) b.told))
 
 same_across : {P : Type 0} (r : Rules P) → AreFunctions r → (s t u : Trail P) (n : ℕ) (x y : List ℕ) → IsLineTurn r s (choices.Across n) t x →
     IsLineTurn r s (choices.Across n) u y → (t ≡ u) × (x ≡ y)
 same_across r f s t u n x y (inl a) (inl b) = same_crossing r f s t u n x y a b
-same_across r f s t u n x y (inl a) (inr b) = absurd (f.no_place s.here t.here n a.across b.0)
-same_across r f s t u n x y (inr a) (inl b) = absurd (f.no_place s.here u.here n b.across a.0)
+same_across r f s t u n x y (inl a) (inr b) = absurd (f.no_state s.here t.here n a.across b.0)
+same_across r f s t u n x y (inr a) (inl b) = absurd (f.no_state s.here u.here n b.across a.0)
 same_across r f s t u n x y (inr a) (inr b) = same_answer s t u _ x y a.1 b.1
 
 same_undoing : {P : Type 0} (r : Rules P) → AreFunctions r → (here : P) (before : List P) (t u : Trail P) (x y : List ℕ) → IsUndone r here before t x →
@@ -58,7 +58,7 @@ determined r = record {
 
 -- ---- one at least
 
--- the line leads from the trail to another one of such places, with an answer
+-- the line leads from the trail to another one of such states, with an answer
 record IsLedOn {P : Type 0} (r : Rules P) (Q : P → Type 0) (s : Trail P) (c : Choice) : Type 0 where
   t : Trail P
   piece : List ℕ
@@ -86,7 +86,7 @@ record IsLedBack {P : Type 0} (r : Rules P) (Q : P → Type 0) (here : P) (befor
   undone : IsUndone r here before t piece
   over : HoldsOverTrail Q t
 
-undoing : {P : Type 0} (r : Rules P) (Q : P → Type 0) → AreTotal r Q → (here : P) (before : List P) → Q here → HoldsOfPlaces Q before →
+undoing : {P : Type 0} (r : Rules P) (Q : P → Type 0) → AreTotal r Q → (here : P) (before : List P) → Q here → HoldsOfStates Q before →
     IsLedBack r Q here before
 undoing r Q total here [] h b = record {
   t = record { here = here; before = [] };

@@ -16,7 +16,7 @@ use Rattle.gf_session.specs.Moves.{IsTurnCause}
 
 -- ---- steps
 
--- as many places are before as there are steps
+-- as many states are before as there are steps
 joins-length : {P S : Type 0} (joins : P → S → P → Type 0) (xs : List S) (here : P) (before : List P) → Joins joins xs here before → length before ≡ length xs
 joins-length joins [] here before e = ap length e
 joins-length joins (x ∷ xs) here [] e = absurd e
@@ -101,10 +101,10 @@ led-nowhere r joins here steps k s choices.Quit none on = absurd (cc on.is_choic
 led-nowhere r joins here steps k s choices.Unknown none on = absurd (cc on.is_choice)
 
 -- a number that leads on
-pub led-on : {P S : Type 0} (r : Rules P) (joins : P → S → P → Type 0) (is_place : P → Type 0) (here there : P) (steps more : List S) (k : ℕ) (s : Trail P)
-    (asked : Choice) (text : List ℕ) → IsGone r joins is_place here steps k there more → r.IsTold there (length more) text →
+pub led-on : {P S : Type 0} (r : Rules P) (joins : P → S → P → Type 0) (is_state : P → Type 0) (here there : P) (steps more : List S) (k : ℕ) (s : Trail P)
+    (asked : Choice) (text : List ℕ) → IsGone r joins is_state here steps k there more → r.IsTold there (length more) text →
     IsSessionAt joins here steps (choices.Across k) s asked → IsLed r joins s asked there more text
-led-on r joins is_place here there steps more k s (choices.Across n) text gone told on =
+led-on r joins is_state here there steps more k s (choices.Across n) text gone told on =
     let same : k ≡ n = omega (arith, ap number on.is_choice, gone.fits) in
     let turned : reverse more ≡ gone.step ∷ reverse steps = ap reverse gone.pushed ∙ reverse-append steps (gone.step ∷ []) in
     let are : AreSteps joins more (record { here = there; before = s.here ∷ s.before }) = rw turned (rw on.is_here gone.joined, on.are_steps) in
@@ -122,12 +122,12 @@ led-on r joins is_place here there steps more k s (choices.Across n) text gone t
     number : Choice → ℕ
     number (choices.Across n) = n
     number _ = 0
-led-on r joins is_place here there steps more k s choices.Blank text gone told on = absurd (cc on.is_choice)
-led-on r joins is_place here there steps more k s choices.Undo text gone told on = absurd (cc on.is_choice)
-led-on r joins is_place here there steps more k s choices.Quit text gone told on = absurd (cc on.is_choice)
-led-on r joins is_place here there steps more k s choices.Unknown text gone told on = absurd (cc on.is_choice)
+led-on r joins is_state here there steps more k s choices.Blank text gone told on = absurd (cc on.is_choice)
+led-on r joins is_state here there steps more k s choices.Undo text gone told on = absurd (cc on.is_choice)
+led-on r joins is_state here there steps more k s choices.Quit text gone told on = absurd (cc on.is_choice)
+led-on r joins is_state here there steps more k s choices.Unknown text gone told on = absurd (cc on.is_choice)
 
--- u where there is a place before, and where there is none
+-- u where there is a state before, and where there is none
 undone : {P : Type 0} (r : Rules P) (here : P) (before : List P) (p : P) (ps : List P) (text : List ℕ) → before ≡ p ∷ ps → r.IsTold p (length ps) text →
     IsUndone r here before (record { here = p; before = ps }) text
 undone r here before p ps text e told = rw e (refl, told)
@@ -137,10 +137,10 @@ stays_first : {P : Type 0} (r : Rules P) (here : P) (before : List P) → before
 stays_first r here before e = rw e (record { stays = refl; is_answer = refl })
 
 -- the way back
-pub led-back : {P S : Type 0} (r : Rules P) (joins : P → S → P → Type 0) (is_place : P → Type 0) (here there : P) (steps less : List S) (s : Trail P)
-    (asked : Choice) (text : List ℕ) → IsBack joins is_place here steps there less → r.IsTold there (length less) text →
+pub led-back : {P S : Type 0} (r : Rules P) (joins : P → S → P → Type 0) (is_state : P → Type 0) (here there : P) (steps less : List S) (s : Trail P)
+    (asked : Choice) (text : List ℕ) → IsBack joins is_state here steps there less → r.IsTold there (length less) text →
     IsSessionAt joins here steps choices.Undo s asked → IsLed r joins s asked there less text
-led-back r joins is_place here there steps less s choices.Undo text back told on =
+led-back r joins is_state here there steps less s choices.Undo text back told on =
     let b = back.before s on.is_here on.are_steps in
     record {
       t = record { here = there; before = b.rest };
@@ -148,10 +148,10 @@ led-back r joins is_place here there steps less s choices.Undo text back told on
       are_steps = b.are_steps;
       turn = undone r s.here s.before there b.rest text b.was (rw (steps-length joins less (record { here = there; before = b.rest }) b.are_steps) told);
     }
-led-back r joins is_place here there steps less s choices.Blank text back told on = absurd (cc on.is_choice)
-led-back r joins is_place here there steps less s (choices.Across n) text back told on = absurd (cc on.is_choice)
-led-back r joins is_place here there steps less s choices.Quit text back told on = absurd (cc on.is_choice)
-led-back r joins is_place here there steps less s choices.Unknown text back told on = absurd (cc on.is_choice)
+led-back r joins is_state here there steps less s choices.Blank text back told on = absurd (cc on.is_choice)
+led-back r joins is_state here there steps less s (choices.Across n) text back told on = absurd (cc on.is_choice)
+led-back r joins is_state here there steps less s choices.Quit text back told on = absurd (cc on.is_choice)
+led-back r joins is_state here there steps less s choices.Unknown text back told on = absurd (cc on.is_choice)
 
 -- no way back
 pub led-nowhere_back : {P S : Type 0} (r : Rules P) (joins : P → S → P → Type 0) (here : P) (steps : List S) (s : Trail P) (asked : Choice) → steps ≡ [] →
@@ -210,26 +210,26 @@ pub cause-prompt : {P S E : Type 0} (r : Rules P) (joins : P → S → P → Typ
 cause-prompt r joins refuses here there steps more choice held holds written writes errors.WriteFault led near cause =
     (cause.0, λ s asked on. unwritten r joins s asked there more cause.1.0 held holds (led cause.1.0 cause.1.1 s asked on) cause.1.2)
 cause-prompt r joins refuses here there steps more choice held holds written writes (errors.Refused x) led near cause =
-    λ s asked on. record { kept = cause.0; place = there; near = near s asked on; refused = cause.1 }
+    λ s asked on. record { kept = cause.0; state = there; near = near s asked on; refused = cause.1 }
 cause-prompt r joins refuses here there steps more choice held holds written writes errors.ReadFault led near cause = absurd cause
 cause-prompt r joins refuses here there steps more choice held holds written writes errors.InputTooLong led near cause = absurd cause
 cause-prompt r joins refuses here there steps more choice held holds written writes errors.Memory led near cause = absurd cause
 
--- the place across by the number that a line asks for
-pub near-across : {P S : Type 0} (r : Rules P) (joins : P → S → P → Type 0) (is_place : P → Type 0) (here there : P) (steps more : List S) (k : ℕ) (s : Trail P)
-    (asked : Choice) → IsGone r joins is_place here steps k there more → IsSessionAt joins here steps (choices.Across k) s asked → IsNear r s asked there
-near-across r joins is_place here there steps more k s (choices.Across n) gone on =
+-- the state across by the number that a line asks for
+pub near-across : {P S : Type 0} (r : Rules P) (joins : P → S → P → Type 0) (is_state : P → Type 0) (here there : P) (steps more : List S) (k : ℕ) (s : Trail P)
+    (asked : Choice) → IsGone r joins is_state here steps k there more → IsSessionAt joins here steps (choices.Across k) s asked → IsNear r s asked there
+near-across r joins is_state here there steps more k s (choices.Across n) gone on =
     let same : k ≡ n = omega (arith, ap number on.is_choice, gone.fits) in inr (rw (on.is_here, ← same) gone.across)
   where
     number : Choice → ℕ
     number (choices.Across n) = n
     number _ = 0
-near-across r joins is_place here there steps more k s choices.Blank gone on = absurd (cc on.is_choice)
-near-across r joins is_place here there steps more k s choices.Undo gone on = absurd (cc on.is_choice)
-near-across r joins is_place here there steps more k s choices.Quit gone on = absurd (cc on.is_choice)
-near-across r joins is_place here there steps more k s choices.Unknown gone on = absurd (cc on.is_choice)
+near-across r joins is_state here there steps more k s choices.Blank gone on = absurd (cc on.is_choice)
+near-across r joins is_state here there steps more k s choices.Undo gone on = absurd (cc on.is_choice)
+near-across r joins is_state here there steps more k s choices.Quit gone on = absurd (cc on.is_choice)
+near-across r joins is_state here there steps more k s choices.Unknown gone on = absurd (cc on.is_choice)
 
--- where the walk is, for a line with a number
+-- where the session is, for a line with a number
 pub near-number : {P S : Type 0} (r : Rules P) (joins : P → S → P → Type 0) (here : P) (steps : List S) (k : ℕ) (s : Trail P) (asked : Choice) →
     IsSessionAt joins here steps (choices.Across k) s asked → IsNear r s asked here
 near-number r joins here steps k s (choices.Across n) on = inl (sym on.is_here)
@@ -245,17 +245,17 @@ near-undo-here here (q ∷ qs) some = inl refl
 near-undo-before : {P : Type 0} (here : P) (before : List P) (p : P) (ps : List P) → before ≡ p ∷ ps → IsNearUndo here before p
 near-undo-before here before p ps e = rw e (inr refl)
 
--- the place before
-pub near-before : {P S : Type 0} (r : Rules P) (joins : P → S → P → Type 0) (is_place : P → Type 0) (here there : P) (steps less : List S) (s : Trail P)
-    (asked : Choice) → IsBack joins is_place here steps there less → IsSessionAt joins here steps choices.Undo s asked → IsNear r s asked there
-near-before r joins is_place here there steps less s choices.Undo back on =
+-- the state before
+pub near-before : {P S : Type 0} (r : Rules P) (joins : P → S → P → Type 0) (is_state : P → Type 0) (here there : P) (steps less : List S) (s : Trail P)
+    (asked : Choice) → IsBack joins is_state here steps there less → IsSessionAt joins here steps choices.Undo s asked → IsNear r s asked there
+near-before r joins is_state here there steps less s choices.Undo back on =
     let b = back.before s on.is_here on.are_steps in near-undo-before s.here s.before there b.rest b.was
-near-before r joins is_place here there steps less s choices.Blank back on = absurd (cc on.is_choice)
-near-before r joins is_place here there steps less s (choices.Across n) back on = absurd (cc on.is_choice)
-near-before r joins is_place here there steps less s choices.Quit back on = absurd (cc on.is_choice)
-near-before r joins is_place here there steps less s choices.Unknown back on = absurd (cc on.is_choice)
+near-before r joins is_state here there steps less s choices.Blank back on = absurd (cc on.is_choice)
+near-before r joins is_state here there steps less s (choices.Across n) back on = absurd (cc on.is_choice)
+near-before r joins is_state here there steps less s choices.Quit back on = absurd (cc on.is_choice)
+near-before r joins is_state here there steps less s choices.Unknown back on = absurd (cc on.is_choice)
 
--- where the walk is, for an undo while there is a step
+-- where the session is, for an undo while there is a step
 pub near-undo : {P S : Type 0} (r : Rules P) (joins : P → S → P → Type 0) (here : P) (steps : List S) (s : Trail P) (asked : Choice) → (steps ≡ [] → ⊥) →
     IsSessionAt joins here steps choices.Undo s asked → IsNear r s asked here
 near-undo r joins here steps s choices.Undo some on =
@@ -270,15 +270,15 @@ near-undo r joins here steps s (choices.Across n) some on = absurd (cc on.is_cho
 near-undo r joins here steps s choices.Quit some on = absurd (cc on.is_choice)
 near-undo r joins here steps s choices.Unknown some on = absurd (cc on.is_choice)
 
--- why what is told of the place before isn't written
-pub cause-back : {P S E : Type 0} (r : Rules P) (joins : P → S → P → Type 0) (is_place : P → Type 0) (refuses : P → E →
+-- why what is told of the state before isn't written
+pub cause-back : {P S E : Type 0} (r : Rules P) (joins : P → S → P → Type 0) (is_state : P → Type 0) (refuses : P → E →
     Type 0) (here there : P) (steps less : List S) (choice : Choice)
-    (held holds : Option (List ℕ)) (written writes : ℕ) (e : SessionError E) → choice ≡ choices.Undo → IsBack joins is_place here steps there less →
+    (held holds : Option (List ℕ)) (written writes : ℕ) (e : SessionError E) → choice ≡ choices.Undo → IsBack joins is_state here steps there less →
     IsPromptCause r refuses there (length less) held holds written writes e → IsTurnCause r joins refuses here steps choice held holds written writes e
-cause-back r joins is_place refuses here there steps less choice held holds written writes e is back cause =
+cause-back r joins is_state refuses here there steps less choice held holds written writes e is back cause =
     cause-prompt r joins refuses here there steps less choice held holds written writes e
-    (λ text told s asked on. led-back r joins is_place here there steps less s asked text back told (on-as joins here steps choice choices.Undo s asked is on))
-    (λ s asked on. near-before r joins is_place here there steps less s asked back (on-as joins here steps choice choices.Undo s asked is on))
+    (λ text told s asked on. led-back r joins is_state here there steps less s asked text back told (on-as joins here steps choice choices.Undo s asked is on))
+    (λ s asked on. near-before r joins is_state here there steps less s asked back (on-as joins here steps choice choices.Undo s asked is on))
     cause
 
 -- why there is no way back although there is a step
@@ -290,7 +290,7 @@ cause-no_way_back r joins refuses here steps choice held written writes errors.M
 cause-no_way_back r joins refuses here steps choice held written writes (errors.Refused x) is refusal =
     λ s asked on. record {
       kept = Keeps-refl held;
-      place = here;
+      state = here;
       near = near-undo r joins here steps s asked refusal.some (on-as joins here steps choice choices.Undo s asked is on);
       refused = refusal.refused;
     }
@@ -307,7 +307,7 @@ cause-no_way_on r joins refuses here steps k choice held written writes errors.M
 cause-no_way_on r joins refuses here steps k choice held written writes (errors.Refused x) is refusal =
     λ s asked on. record {
       kept = Keeps-refl held;
-      place = here;
+      state = here;
       near = near-number r joins here steps k s asked (on-as joins here steps choice (choices.Across k) s asked is on);
       refused = refusal;
     }

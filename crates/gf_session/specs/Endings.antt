@@ -8,7 +8,7 @@ use Rattle.gf_session.specs.declared.session.SessionError.TheVariants as errors
 use Rattle.gf_session.specs.Lines.{HasNoFeed, ended, as_taken}
 use Rattle.gf_session.specs.Sessions.{Rules, Trail, AreSteps, IsTalk, IsBrokenOff, IsReplyUnwritten, IsStuck}
 
--- the walk is here by these steps, and each line that was taken was answered
+-- the session is here by these steps, and each line that was taken was answered
 pub record IsTalking {P S : Type 0} (r : Rules P) (joins : P → S → P → Type 0) (s : Trail P) (here : P) (steps : List S) (left leaves : Option (List ℕ))
     (given gives : ℕ) (held holds : Option (List ℕ)) (taken : ℕ) : Type 0 where
   pub lines : List (List ℕ)

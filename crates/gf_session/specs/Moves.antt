@@ -1,4 +1,4 @@
--- What the calls over places answer, and what a turn does. A walk is told by its place and its steps, the latest step last.
+-- What the calls over states answer, and what a turn does. A session is told by its state and its steps, the latest step last.
 -- Laws: proofs/TurnLaws.antt.
 use Rattle.std.specs.Prelude.{◌≡◌, ℕ, ◌-◌, ◌^◌, ◌≤◌, ◌<◌, Bool, true, false, List, [], ◌∷◌, ◌++◌, Option, Some, None}
 use Rattle.std.specs.Io.KnownBytes.{Appends, Keeps}
@@ -12,43 +12,43 @@ use Rattle.gf_session.specs.Sessions.{Rules, Trail, IsLineTurn, IsNear, AreSteps
 
 -- ---- one move
 
--- the step and the place across; or this number and all greater ones lead nowhere
+-- the step and the state across; or this number and all greater ones lead nowhere
 abbrev pub IsAcrossAt : {P S : Type 0} → Rules P → (P → S → P → Type 0) → (P → Type 0) → P → ℕ → Option (S × P) → Type 0
-IsAcrossAt r joins is_place here n (Some across) = (n < 2 ^ 64 - 1) × r.IsAcross here n across.1 × joins here across.0 across.1 × is_place across.1
-IsAcrossAt r joins is_place here n None = (m : ℕ) → n ≤ m → r.IsLacking here m
+IsAcrossAt r joins is_state here n (Some across) = (n < 2 ^ 64 - 1) × r.IsAcross here n across.1 × joins here across.0 across.1 × is_state across.1
+IsAcrossAt r joins is_state here n None = (m : ℕ) → n ≤ m → r.IsLacking here m
 
--- the walk went on from here to there by the choice of this number
-pub record IsGone {P S : Type 0} (r : Rules P) (joins : P → S → P → Type 0) (is_place : P → Type 0) (here : P) (steps : List S) (n : ℕ) (there : P)
+-- the session went on from here to there by the choice of this number
+pub record IsGone {P S : Type 0} (r : Rules P) (joins : P → S → P → Type 0) (is_state : P → Type 0) (here : P) (steps : List S) (n : ℕ) (there : P)
     (more : List S) : Type 0 where
   pub fits : n < 2 ^ 64 - 1
   pub across : r.IsAcross here n there
   pub step : S
   pub joined : joins here step there
   pub pushed : more ≡ steps ++ step ∷ []
-  pub place : is_place there
+  pub state : is_state there
 
 -- it went on; or it stays, and this number and all greater ones lead nowhere
 abbrev pub IsGoing : {P S : Type 0} → Rules P → (P → S → P → Type 0) → (P → Type 0) → P → List S → ℕ → P → List S → Bool → Type 0
-IsGoing r joins is_place here steps n there more true = IsGone r joins is_place here steps n there more
-IsGoing r joins is_place here steps n there more false = (there ≡ here) × (more ≡ steps) × ((m : ℕ) → n ≤ m → r.IsLacking here m)
+IsGoing r joins is_state here steps n there more true = IsGone r joins is_state here steps n there more
+IsGoing r joins is_state here steps n there more false = (there ≡ here) × (more ≡ steps) × ((m : ℕ) → n ≤ m → r.IsLacking here m)
 
--- there is the place before on this trail
-pub record IsPlaceBefore {P S : Type 0} (joins : P → S → P → Type 0) (s : Trail P) (there : P) (less : List S) : Type 0 where
+-- there is the state before on this trail
+pub record IsStateBefore {P S : Type 0} (joins : P → S → P → Type 0) (s : Trail P) (there : P) (less : List S) : Type 0 where
   pub rest : List P
   pub was : s.before ≡ there ∷ rest
   pub are_steps : AreSteps joins less (record { here = there; before = rest })
 
--- the walk went back, on each trail that ends here and has these steps
-pub record IsBack {P S : Type 0} (joins : P → S → P → Type 0) (is_place : P → Type 0) (here : P) (steps : List S) (there : P) (less : List S) : Type 0 where
-  pub place : is_place there
-  pub before : (s : Trail P) → s.here ≡ here → AreSteps joins steps s → IsPlaceBefore joins s there less
+-- the session went back, on each trail that ends here and has these steps
+pub record IsBack {P S : Type 0} (joins : P → S → P → Type 0) (is_state : P → Type 0) (here : P) (steps : List S) (there : P) (less : List S) : Type 0 where
+  pub state : is_state there
+  pub before : (s : Trail P) → s.here ≡ here → AreSteps joins steps s → IsStateBefore joins s there less
 
 -- it went back; or it stays, and there is no step
 abbrev pub IsGoingBack : {P S : Type 0} → (P → S → P → Type 0) → (P → Type 0) → P → List S → P → List S → Bool → Type 0
-IsGoingBack joins is_place here steps there less true = IsBack joins is_place here steps there less
-IsGoingBack joins is_place here steps there less false = (there ≡ here) × (less ≡ steps) × (steps ≡ [])
+IsGoingBack joins is_state here steps there less true = IsBack joins is_state here steps there less
+IsGoingBack joins is_state here steps there less false = (there ≡ here) × (less ≡ steps) × (steps ≡ [])
 
--- a call at a place is refused, or there is no memory
+-- a call at a state is refused, or there is no memory
 abbrev pub IsMoveRefusal : {E : Type 0} → (E → Type 0) → SessionError E → Type 0
 IsMoveRefusal refuses errors.Memory = Unit {0}
 IsMoveRefusal refuses (errors.Refused e) = refuses e
@@ -77,13 +77,13 @@ abbrev pub IsWriteCalm : {E : Type 0} → ℕ → ℕ → SessionError E → Typ
 IsWriteCalm written writes errors.WriteFault = Unit {0}
 IsWriteCalm written writes _ = writes ≡ written
 
--- the output gained what is told of a place behind so many
+-- the output gained what is told of a state behind so many
 pub record IsPrompted {P : Type 0} (r : Rules P) (here : P) (behind : ℕ) (held holds : Option (List ℕ)) : Type 0 where
   pub text : List ℕ
   pub told : r.IsTold here behind text
   pub gained : Appends held holds text
 
--- a prefix of that was written, since a write failed; or nothing, and the call at the place is refused
+-- a prefix of that was written, since a write failed; or nothing, and the call at the state is refused
 abbrev pub IsPromptCause : {P E : Type 0} → Rules P → (P → E → Type 0) → P → ℕ → Option (List ℕ) → Option (List ℕ) → ℕ → ℕ → SessionError E → Type 0
 IsPromptCause r refuses here behind held holds written writes errors.WriteFault =
     Rose written writes × ((text : List ℕ) × r.IsTold here behind text × AppendsPrefix held holds text)
@@ -115,13 +115,13 @@ pub record IsTurnUnwritten {P : Type 0} (r : Rules P) (s : Trail P) (asked : Cho
   pub turn : IsLineTurn r s asked t piece
   pub gained : AppendsPrefix held holds piece
 
--- nothing was written: the line is refused at a place that it looks at
+-- nothing was written: the line is refused at a state that it looks at
 pub record IsTurnRefused {P E : Type 0} (r : Rules P) (refuses : P → E → Type 0) (s : Trail P) (asked : Choice) (held holds : Option (List ℕ)) (e : E) :
     Type 0 where
   pub kept : Keeps held holds
-  pub place : P
-  pub near : IsNear r s asked place
-  pub refused : refuses place e
+  pub state : P
+  pub near : IsNear r s asked state
+  pub refused : refuses state e
 
 -- why a line isn't answered; the faults of the output before and after stand last
 abbrev pub IsTurnCause : {P S E : Type 0} → Rules P → (P → S → P → Type 0) → (P → E → Type 0) → P → List S → Choice → Option (List ℕ) → Option (List ℕ) → ℕ →

@@ -1,6 +1,6 @@
--- Sessions: a walk over places that keeps where it has been, line by line.
--- A trail is where the walk is, and the places before it, the latest first; it is never empty. A choice goes on to another place, u goes
--- back to the place before. The transcript is the text of the answers in turn.
+-- Sessions: a sequence of states that keeps where it has been, line by line.
+-- A trail is where the session is, and the states before it, the latest first; it is never empty. A choice goes on to another state, u goes
+-- back to the state before. The transcript is the text of the answers in turn.
 -- Laws: proofs/SessionLaws.antt.
 use Rattle.std.specs.Prelude.{◌≡◌, ◌⊎◌, ℕ, Bool, true, List, [], ◌∷◌, ◌++◌, length, map, flat_map, reverse, All, Option, codes}
 use Rattle.std.specs.Io.KnownBytes.{Appends, IsAtEnd}
@@ -10,15 +10,15 @@ use Rattle.gf_session.specs.declared.choice.Choice.TheVariants as choices
 use Rattle.gf_session.specs.Choices.{choice_of}
 use Rattle.gf_session.specs.Lines.{HasNoFeed, IsBegun, ended, as_taken}
 
--- ---- places
+-- ---- states
 
--- where the choice of a number leads, which numbers lead nowhere, and what is told of a place behind so many places
+-- where the choice of a number leads, which numbers lead nowhere, and what is told of a state behind so many states
 pub record Rules (P : Type 0) : Type 1 where
   pub IsAcross : P → ℕ → P → Type 0
   pub IsLacking : P → ℕ → Type 0
   pub IsTold : P → ℕ → List ℕ → Type 0
 
--- where a walk is, and where it was, the latest place first
+-- where a session is, and where it was, the latest state first
 pub record Trail (P : Type 0) : Type 0 where
   pub here : P
   pub before : List P
@@ -39,18 +39,18 @@ not_understood = codes "not understood\n"
 
 -- ---- turns
 
--- the walk goes on to where the choice of this number leads, and what is told of the new place is the answer
-pub record IsWalkedOn {P : Type 0} (r : Rules P) (s : Trail P) (n : ℕ) (t : Trail P) (text : List ℕ) : Type 0 where
+-- the session goes on to where the choice of this number leads, and what is told of the new state is the answer
+pub record IsCrossedTo {P : Type 0} (r : Rules P) (s : Trail P) (n : ℕ) (t : Trail P) (text : List ℕ) : Type 0 where
   pub before : t.before ≡ s.here ∷ s.before
   pub across : r.IsAcross s.here n t.here
   pub told : r.IsTold t.here (length t.before) text
 
--- the walk stays, and this is the answer
+-- the session stays, and this is the answer
 pub record IsReply {P : Type 0} (s t : Trail P) (answer text : List ℕ) : Type 0 where
   pub stays : t ≡ s
   pub is_answer : text ≡ answer
 
--- the walk goes back to the place before
+-- the session goes back to the state before
 abbrev pub IsUndone : {P : Type 0} → Rules P → P → List P → Trail P → List ℕ → Type 0
 IsUndone r here [] t text = IsReply (record { here = here; before = [] }) t nothing_to_undo text
 IsUndone r here (p ∷ ps) t text = (t ≡ record { here = p; before = ps }) × r.IsTold p (length ps) text
@@ -58,7 +58,7 @@ IsUndone r here (p ∷ ps) t text = (t ≡ record { here = p; before = ps }) × 
 -- from one trail a line leads to another, and this is its answer; the line that ends the session leads nowhere
 abbrev pub IsLineTurn : {P : Type 0} → Rules P → Trail P → Choice → Trail P → List ℕ → Type 0
 IsLineTurn r s choices.Blank t text = IsReply s t [] text
-IsLineTurn r s (choices.Across n) t text = IsWalkedOn r s n t text ⊎ (r.IsLacking s.here n × IsReply s t no_such_facet text)
+IsLineTurn r s (choices.Across n) t text = IsCrossedTo r s n t text ⊎ (r.IsLacking s.here n × IsReply s t no_such_facet text)
 IsLineTurn r s choices.Undo t text = IsUndone r s.here s.before t text
 IsLineTurn r s choices.Quit t text = ⊥
 IsLineTurn r s choices.Unknown t text = IsReply s t not_understood text
@@ -135,19 +135,19 @@ pub record IsReplyUnwritten {P : Type 0} (r : Rules P) (s : Trail P) (left leave
   pub turns : AreTurns r s (map choice_of (lines ++ last ∷ [])) t text
   pub gained : AppendsPrefix held holds text
 
--- an undo looks at where the walk is and at the place before, if there is one
+-- an undo looks at where the session is and at the state before, if there is one
 abbrev pub IsNearUndo : {P : Type 0} → P → List P → P → Type 0
 IsNearUndo here [] p = ⊥
 IsNearUndo here (q ∷ qs) p = (p ≡ here) ⊎ (p ≡ q)
 
--- a place at which a line looks that asks for this: a number, at where the walk is and at the place across by that number alone; any line but a number or an
+-- a state at which a line looks that asks for this: a number, at where the session is and at the state across by that number alone; any line but a number or an
 -- undo looks at none
 abbrev pub IsNear : {P : Type 0} → Rules P → Trail P → Choice → P → Type 0
 IsNear r s (choices.Across n) p = (p ≡ s.here) ⊎ r.IsAcross s.here n p
 IsNear r s choices.Undo p = IsNearUndo s.here s.before p
 IsNear r s _ p = ⊥
 
--- a session that is refused at a place that the last line looks at; each line before it was answered
+-- a session that is refused at a state that the last line looks at; each line before it was answered
 pub record IsStuck {P E : Type 0} (r : Rules P) (refuses : P → E → Type 0) (s : Trail P) (left leaves : Option (List ℕ)) (given gives : ℕ)
     (held holds : Option (List ℕ)) (e : E) : Type 0 where
   pub lines : List (List ℕ)
@@ -157,13 +157,13 @@ pub record IsStuck {P E : Type 0} (r : Rules P) (refuses : P → E → Type 0) (
   pub pure : HasNoFeed last
   pub ends : is_last ≡ true → IsAtEnd leaves
   pub talk : IsTalk r s t left leaves given gives held holds lines (as_taken is_last last)
-  pub place : P
-  pub near : IsNear r t (choice_of last) place
-  pub refused : refuses place e
+  pub state : P
+  pub near : IsNear r t (choice_of last) state
+  pub refused : refuses state e
 
 -- ---- what is kept of a trail
 
--- each step leads from one place of the trail to the one after it; the latest step first
+-- each step leads from one state of the trail to the one after it; the latest step first
 abbrev pub Joins : {P S : Type 0} → (P → S → P → Type 0) → List S → P → List P → Type 0
 Joins joins [] here before = before ≡ []
 Joins joins (x ∷ xs) here [] = ⊥

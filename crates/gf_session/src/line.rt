@@ -15,12 +15,12 @@ const KEPT: usize = 81;
 
 /// A line, as much of it as is kept.
 #[derive(Drop)]
-struct Line {
+struct InputLine {
     bytes: [u8; KEPT],
     count: usize,
 }
 
-impl Model for Line {
+impl Model for InputLine {
     ghost use Rattle.std.specs.Prelude.{◌≤◌, List, ℕ, take};
 
     ghost Value = { List ℕ };
@@ -30,12 +30,12 @@ impl Model for Line {
     ghost invariant = { λ s. s.count ≤ 81 };
 }
 
-impl Line {
+impl InputLine {
     /// Nothing.
-    fn new() -> Line
+    fn new() -> InputLine
         ensures { result ≡ [] }
     {
-        Line {
+        InputLine {
             bytes: [0; KEPT],
             count: 0,
         }
@@ -96,7 +96,7 @@ pub(crate) fn next_line<S: Source>(source: &mut S, before: usize) -> Result<Hear
         × IsCut (S.left source.old) (S.left source.new) (S.given source.old) (S.given source.new) n }
     ensures calm { (IsErrOf result HearingError.ReadFault → ⊥) → S.faults source.new ≡ S.faults source.old }
 {
-    let mut line = Line::new();
+    let mut line = InputLine::new();
     let mut taken = before;
     let mut byte = [0u8; 1];
     loop {

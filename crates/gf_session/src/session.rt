@@ -24,7 +24,7 @@ pub enum SessionError<E> {
     WriteFault,
     /// There is no memory for the steps.
     Memory,
-    /// A call at a place is refused.
+    /// A call at a state is refused.
     Refused(E),
 }
 
@@ -41,15 +41,15 @@ fn offer<E, K: Sink>(output: &mut K, piece: &[u8]) -> Result<(), SessionError<E>
     }
 }
 
-/// Goes on by the choice of a number; whether there is a place across.
+/// Goes on by the choice of a number; whether there is a state across.
 fn go_on<M: Moves>(
     moves: &M,
-    here: &mut M::Place,
+    here: &mut M::State,
     crossed: &mut Vec<M::Step>,
     number: u64,
 ) -> Result<bool, SessionError<M::Error>>
-    requires { M.is_place moves.now here.old }
-    ensures ok { IfOk result (IsGoing (M.rules moves.now) (M.joins moves.now) (M.is_place moves.now) here.old crossed.old.items
+    requires { M.is_state moves.now here.old }
+    ensures ok { IfOk result (IsGoing (M.rules moves.now) (M.joins moves.now) (M.is_state moves.now) here.old crossed.old.items
         number here.new crossed.new.items) }
     ensures err { IfErr result (IsMoveRefusal (M.refuses moves.now here.old)) }
 {
@@ -69,12 +69,12 @@ fn go_on<M: Moves>(
 /// Goes back by the latest step; whether there is one.
 fn go_back<M: Moves>(
     moves: &M,
-    here: &mut M::Place,
+    here: &mut M::State,
     crossed: &mut Vec<M::Step>,
 ) -> Result<bool, SessionError<M::Error>>
-    requires place { M.is_place moves.now here.old }
+    requires state { M.is_state moves.now here.old }
     requires trail { IsSomeTrail (M.joins moves.now) here.old crossed.old.items }
-    ensures ok { IfOk result (IsGoingBack (M.joins moves.now) (M.is_place moves.now) here.old crossed.old.items here.new
+    ensures ok { IfOk result (IsGoingBack (M.joins moves.now) (M.is_state moves.now) here.old crossed.old.items here.new
         crossed.new.items) }
     ensures err { IfErr result (IsBackRefusal crossed.old.items (M.refuses moves.now here.old)) }
 {
@@ -90,14 +90,14 @@ fn go_back<M: Moves>(
     }
 }
 
-/// Writes what is told of a place, in one piece.
+/// Writes what is told of a state, in one piece.
 fn prompt<M: Moves, K: Sink>(
     moves: &M,
-    here: &M::Place,
+    here: &M::State,
     behind: usize,
     output: &mut K,
 ) -> Result<(), SessionError<M::Error>>
-    requires { M.is_place moves.now here.now }
+    requires { M.is_state moves.now here.now }
     ensures ok { OnOk result (IsPrompted (M.rules moves.now) here.now behind (K.held output.old) (K.held output.new)) }
     ensures err { IfErr result (IsPromptCause (M.rules moves.now) (M.refuses moves.now) here.now behind (K.held output.old)
         (K.held output.new) (K.faults output.old) (K.faults output.new)) }
@@ -114,16 +114,16 @@ fn prompt<M: Moves, K: Sink>(
 /// Answers a line, and goes on or back.
 fn turn<M: Moves, K: Sink>(
     moves: &M,
-    here: &mut M::Place,
+    here: &mut M::State,
     crossed: &mut Vec<M::Step>,
     choice: Choice,
     output: &mut K,
 ) -> Result<(), SessionError<M::Error>>
-    requires place { M.is_place moves.now here.old }
+    requires state { M.is_state moves.now here.old }
     requires trail { IsSomeTrail (M.joins moves.now) here.old crossed.old.items }
     requires goes_on { choice ≡ Choice.Quit → ⊥ }
-    ensures place { OnOk result (M.is_place moves.now here.new) }
-    ensures taken { OnOk result ((s : Trail M.Place) (asked : Choice) → IsSessionAt (M.joins moves.now) here.old crossed.old.items choice s asked
+    ensures state { OnOk result (M.is_state moves.now here.new) }
+    ensures taken { OnOk result ((s : Trail M.State) (asked : Choice) → IsSessionAt (M.joins moves.now) here.old crossed.old.items choice s asked
         → IsTurnTaken (M.rules moves.now) (M.joins moves.now) s asked here.new crossed.new.items (K.held output.old)
         (K.held output.new)) }
     ensures cause { IfErr result (IsTurnCause (M.rules moves.now) (M.joins moves.now) (M.refuses moves.now) here.old crossed.old.items
@@ -152,10 +152,10 @@ fn turn<M: Moves, K: Sink>(
     }
 }
 
-/// Holds a session that begins at a place: takes a line, one byte a call, and answers it before the next one is taken, until `q` or the end
+/// Holds a session that begins at a state: takes a line, one byte a call, and answers it before the next one is taken, until `q` or the end
 /// of the input.
 ///
-/// A number goes on and tells of the new place, `u` goes back by the latest step and tells of the place before; each answer is offered to
+/// A number goes on and tells of the new state, `u` goes back by the latest step and tells of the state before; each answer is offered to
 /// the output as one piece. Where a number leads nowhere the answer is `no such facet`, where there is no step to go back by `nothing to
 /// undo`, to any other line `not understood`; to an empty line there is none. What is told of `start` is the caller's to write before.
 /// After `q` no more is taken than its line feed.
@@ -165,16 +165,16 @@ fn turn<M: Moves, K: Sink>(
 /// - `ReadFault` only where a read failed, after at most `MAX_INPUT` bytes; each line before has its answer.
 /// - `InputTooLong` exactly where one byte more than `MAX_INPUT` was taken; each line before has its answer.
 /// - `WriteFault` only where a write failed or took nothing; a prefix of the answers to all lines that were taken stands.
-/// - `Refused` where a call is refused at a place that the last line looks at, and `Memory` where there is none for a step; each line
+/// - `Refused` where a call is refused at a state that the last line looks at, and `Memory` where there is none for a step; each line
 ///   before has its answer, and nothing of the last one stands.
 pub fn converse<M: Moves, S: Source, K: Sink>(
     alloc: Global,
     moves: &M,
-    start: M::Place,
+    start: M::State,
     source: &mut S,
     output: &mut K,
 ) -> Result<(), SessionError<M::Error>>
-    requires { M.is_place moves.now start }
+    requires { M.is_state moves.now start }
     // It ends at `q` or at the end of the input alone, and each line that was taken before has its answer.
     ensures ended { OnOk result (IsEnded (M.rules moves.now) (record { here = start; before = [] }) (S.left source.old)
         (S.left source.new) (S.given source.old) (S.given source.new) (K.held output.old) (K.held output.new)) }

@@ -171,7 +171,7 @@ filled-length n d b v m = omega (
       v m.term,
 )
 
--- the term at the place of the mark, filled
+-- the term at the index of the mark, filled
 pub filled-mark : (d : ℕ) (f g : Terms) (i : ℕ) (t : Term) → g ≡ map (filled_term d) f → i < length f → t ≡ get_or g i t → t.mono ≡ filled d (head_of f i)
 filled-mark d [] g i t e l q = absurd (omega arith)
 filled-mark d (s ∷ f) g zero t e l q = ap (λ (z : Term). z.mono) (q ∙ ap (λ (z : Terms). get_or z 0 t) e)
@@ -215,7 +215,7 @@ done-past n fs gs i f o l e p k = record {
 
 -- ---- a marked polynomial
 
--- what the code knows: the terms, their filled ones, and the one at the place of the mark
+-- what the code knows: the terms, their filled ones, and the one at the index of the mark
 pub record Filling (b : MarkedPolynomial) (terms all : Terms) (d i : ℕ) (t : Term) (head : Exponents) : Type 0 where
   pub terms_are : terms ≡ b.poly
   pub descending : IsDescending b.poly
@@ -289,17 +289,17 @@ filling-there n b terms all d i t head poly found v s e h z =
     (λ x. s x ∙ ap (λ (g : Terms). coefficient g x) (filling_items b terms all d i t head h))
     (ap (coefficient poly) (sym (filling_head b terms all d i t head h)) ∙ ap (λ (g : Terms). coefficient g head) (sym e) ∙ z)
 
-pub filling-value : (b c : MarkedPolynomial) (terms all : Terms) (d i : ℕ) (t : Term) (head : Exponents) (poly found : Terms) (place : ℕ) →
-    SamePolynomial poly all → IsDescending poly → KeepsVariables all poly → found ≡ poly → head_of found place ≡ head →
-    c ≡ record { poly = poly; head = head_of poly place } → Filling b terms all d i t head → IsMarkedHomogenization b c
-filling-value b c terms all d i t head poly found place s desc k e at is h =
+pub filling-value : (b c : MarkedPolynomial) (terms all : Terms) (d i : ℕ) (t : Term) (head : Exponents) (poly found : Terms) (index : ℕ) →
+    SamePolynomial poly all → IsDescending poly → KeepsVariables all poly → found ≡ poly → head_of found index ≡ head →
+    c ≡ record { poly = poly; head = head_of poly index } → Filling b terms all d i t head → IsMarkedHomogenization b c
+filling-value b c terms all d i t head poly found index s desc k e at is h =
     let degree_is : d ≡ total_degree b.poly = filling_degree b terms all d i t head h in
     let items : all ≡ map (filled_term d) b.poly = filling_items b terms all d i t head h in
     subst (IsMarkedHomogenization b) (sym is) (record {
       polynomial = λ x. s x ∙ ap (λ (g : Terms). coefficient g x) (items ∙ ap (λ (m : ℕ). map (filled_term m) b.poly) degree_is);
       descending = desc;
       variables = λ n v. k.at (n + 1) (subst (HasVariables (n + 1)) (sym items) (filled-variables n d b.poly v));
-      head = ap (λ (g : Terms). head_of g place) (sym e) ∙ at ∙ filling_head b terms all d i t head h ∙ ap (λ (m : ℕ). filled m b.head) degree_is;
+      head = ap (λ (g : Terms). head_of g index) (sym e) ∙ at ∙ filling_head b terms all d i t head h ∙ ap (λ (m : ℕ). filled m b.head) degree_is;
     })
 
 -- ---- refusals

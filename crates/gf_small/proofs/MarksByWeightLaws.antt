@@ -40,28 +40,28 @@ IsBelowBy-trans w x y z (inl a) (inr b) = inl (omega (arith, ints, a, b.0))
 IsBelowBy-trans w x y z (inr a) (inl b) = inl (omega (arith, ints, a.0, b))
 IsBelowBy-trans w x y z (inr a) (inr b) = inr (a.0 ∙ b.0, lex-strict.transitive x y z a.1 b.1)
 
--- ---- the term at a place
+-- ---- the term at an index
 
--- each of the first i terms is at the place or below the term there, which has the weight m
-pub record Greatest (w : List ℤ) (f : Terms) (place : ℕ) (m : ℤ) (i : ℕ) : Type 0 where
-  pub inside : place < length f
-  pub weight : m ≡ whole_weight w (head_of f place)
-  pub others : (t : Term) → Contains (take i f) t → (t.mono ≡ head_of f place) ⊎ IsBelowBy w t.mono (head_of f place)
+-- each of the first i terms is at the index or below the term there, which has the weight m
+pub record Greatest (w : List ℤ) (f : Terms) (index : ℕ) (m : ℤ) (i : ℕ) : Type 0 where
+  pub inside : index < length f
+  pub weight : m ≡ whole_weight w (head_of f index)
+  pub others : (t : Term) → Contains (take i f) t → (t.mono ≡ head_of f index) ⊎ IsBelowBy w t.mono (head_of f index)
 
 -- a term of the first i + 1 is one of the first i, or that at i
 split_at : (f : Terms) (i : ℕ) (t s : Term) → i < length f → t ≡ get_or f i t → Contains (take (i + 1) f) s → Contains (take i f) s ⊎ (t ≡ s)
 split_at f i t s h is k =
     Contains-push_cases (take i f) t s (subst (λ (g : Terms). Contains g s) (take_more f i t h ∙ ap (λ (z : Term). take i f ++ z ∷ []) (sym is)) k)
 
-pub Greatest-start : (w : List ℤ) (f : Terms) (place : ℕ) (t : Term) (m : ℤ) → place < length f → t ≡ get_or f place t → m ≡ whole_weight w t.mono →
-    Greatest w f place m 0
-Greatest-start w f place t m h is e = record {
+pub Greatest-start : (w : List ℤ) (f : Terms) (index : ℕ) (t : Term) (m : ℤ) → index < length f → t ≡ get_or f index t → m ≡ whole_weight w t.mono →
+    Greatest w f index m 0
+Greatest-start w f index t m h is e = record {
   inside = h;
-  weight = e ∙ ap (whole_weight w) (sym (head_at f place t h is));
+  weight = e ∙ ap (whole_weight w) (sym (head_at f index t h is));
   others = λ s k. absurd (omega (arith, k.1));
 }
 
--- the exponents of the term at a place
+-- the exponents of the term at an index
 pub exponents_at : (f : Terms) (i : ℕ) (t : Term) (x : Exponents) → t ≡ get_or f i t → x ≡ (get_or f i t).mono → x ≡ t.mono
 exponents_at f i t x is e = e ∙ ap (λ (z : Term). z.mono) (sym is)
 
@@ -70,15 +70,15 @@ pub width_at : (n : ℕ) (f : Terms) (i : ℕ) (t : Term) (x : Exponents) → i 
 width_at n f i t x l is e v = ap length (exponents_at f i t x is e) ∙ term_length n f t v (i, l, sym is)
 
 -- the term at i is above
-pub Greatest-new : (w : List ℤ) (f : Terms) (place i : ℕ) (m k : ℤ) (t : Term) → i < length f → t ≡ get_or f i t → k ≡ whole_weight w t.mono →
-    (x y : Exponents) → x ≡ t.mono → y ≡ head_of f place → ((m <ℤ k) ⊎ ((m ≡ k) × IsLexBelow y x)) → Greatest w f place m i → Greatest w f i k (i + 1)
-Greatest-new w f place i m k t h is e x y ex ey above g = record {
+pub Greatest-new : (w : List ℤ) (f : Terms) (index i : ℕ) (m k : ℤ) (t : Term) → i < length f → t ≡ get_or f i t → k ≡ whole_weight w t.mono →
+    (x y : Exponents) → x ≡ t.mono → y ≡ head_of f index → ((m <ℤ k) ⊎ ((m ≡ k) × IsLexBelow y x)) → Greatest w f index m i → Greatest w f i k (i + 1)
+Greatest-new w f index i m k t h is e x y ex ey above g = record {
   inside = h;
   weight = e ∙ ap (whole_weight w) (sym at);
   others = λ s c. elim (split_at f i t s h is c) [
     | inl n ↦ inr (subst (IsBelowBy w s.mono) (sym at) (elim (g.others s n) [
       | inl q ↦ subst (λ (x : Exponents). IsBelowBy w x t.mono) (sym q) old
-      | inr b ↦ IsBelowBy-trans w s.mono (head_of f place) t.mono b old
+      | inr b ↦ IsBelowBy-trans w s.mono (head_of f index) t.mono b old
     ]))
     | inr q ↦ inl (ap (λ (z : Term). z.mono) (sym q) ∙ sym at)
   ];
@@ -87,42 +87,42 @@ Greatest-new w f place i m k t h is e x y ex ey above g = record {
     at : head_of f i ≡ t.mono
     at = head_at f i t h is
 
-    old : IsBelowBy w (head_of f place) t.mono
+    old : IsBelowBy w (head_of f index) t.mono
     old = elim above [
       | inl l ↦ inl (omega (arith, ints, l, g.weight, e))
       | inr b ↦ inr (sym g.weight ∙ b.0 ∙ e, subst (λ (z : Exponents). IsLexBelow z t.mono) ey (subst (IsLexBelow y) ex b.1))
     ]
 
 -- it isn't
-pub Greatest-kept : (w : List ℤ) (f : Terms) (place i : ℕ) (m k : ℤ) (t : Term) → i < length f → t ≡ get_or f i t → k ≡ whole_weight w t.mono →
-    (x y : Exponents) → x ≡ t.mono → y ≡ head_of f place → ((x ≡ y) ⊎ (k <ℤ m) ⊎ ((k ≡ m) × IsLexBelow x y)) → Greatest w f place m i →
-    Greatest w f place m (i + 1)
-Greatest-kept w f place i m k t h is e x y ex ey below g = record {
+pub Greatest-kept : (w : List ℤ) (f : Terms) (index i : ℕ) (m k : ℤ) (t : Term) → i < length f → t ≡ get_or f i t → k ≡ whole_weight w t.mono →
+    (x y : Exponents) → x ≡ t.mono → y ≡ head_of f index → ((x ≡ y) ⊎ (k <ℤ m) ⊎ ((k ≡ m) × IsLexBelow x y)) → Greatest w f index m i →
+    Greatest w f index m (i + 1)
+Greatest-kept w f index i m k t h is e x y ex ey below g = record {
   inside = g.inside;
   weight = g.weight;
   others = λ s c. elim (split_at f i t s h is c) [
     | inl n ↦ g.others s n
-    | inr q ↦ subst (λ (z : Term). (z.mono ≡ head_of f place) ⊎ IsBelowBy w z.mono (head_of f place)) q new
+    | inr q ↦ subst (λ (z : Term). (z.mono ≡ head_of f index) ⊎ IsBelowBy w z.mono (head_of f index)) q new
   ];
 }
   where
-    by : (k <ℤ m) ⊎ ((k ≡ m) × IsLexBelow x y) → IsBelowBy w t.mono (head_of f place)
+    by : (k <ℤ m) ⊎ ((k ≡ m) × IsLexBelow x y) → IsBelowBy w t.mono (head_of f index)
     by (inl l) = inl (omega (arith, ints, l, g.weight, e))
-    by (inr b) = inr (sym e ∙ b.0 ∙ g.weight, subst (λ (z : Exponents). IsLexBelow z (head_of f place)) ex (subst (IsLexBelow x) ey b.1))
+    by (inr b) = inr (sym e ∙ b.0 ∙ g.weight, subst (λ (z : Exponents). IsLexBelow z (head_of f index)) ex (subst (IsLexBelow x) ey b.1))
 
-    new : (t.mono ≡ head_of f place) ⊎ IsBelowBy w t.mono (head_of f place)
+    new : (t.mono ≡ head_of f index) ⊎ IsBelowBy w t.mono (head_of f index)
     new = elim below [ inl q ↦ inl (sym ex ∙ q ∙ ey) | inr b ↦ inr (by b) ]
 
-pub greatest_of : (w : List ℤ) (f : Terms) (place : ℕ) (m : ℤ) (i : ℕ) → length f ≤ i → Greatest w f place m i → (t : Term) → Contains f t →
-    (t.mono ≡ head_of f place) ⊎ IsBelowBy w t.mono (head_of f place)
-greatest_of w f place m i h g t c = g.others t (subst (λ (z : Terms). Contains z t) (sym (take_all i f h)) c)
+pub greatest_of : (w : List ℤ) (f : Terms) (index : ℕ) (m : ℤ) (i : ℕ) → length f ≤ i → Greatest w f index m i → (t : Term) → Contains f t →
+    (t.mono ≡ head_of f index) ⊎ IsBelowBy w t.mono (head_of f index)
+greatest_of w f index m i h g t c = g.others t (subst (λ (z : Terms). Contains z t) (sym (take_all i f h)) c)
 
 -- ---- polynomial by polynomial
 
-pub marked_at : (w : List ℤ) (c : MarkedPolynomial) (f : Terms) (place : ℕ) → c ≡ record { poly = f; head = head_of f place } → IsDescending f →
-    place < length f → ((s : Term) → Contains f s → (s.mono ≡ head_of f place) ⊎ IsBelowBy w s.mono (head_of f place)) → IsMarkedByWeight w c
-marked_at w c f place e d l h = subst (IsMarkedByWeight w) (sym e) (record {
-  marked = record { descending = d; mark = (get_or f place nothing).coef; term = mark_at f place (get_or f place nothing) l (at f place nothing l) };
+pub marked_at : (w : List ℤ) (c : MarkedPolynomial) (f : Terms) (index : ℕ) → c ≡ record { poly = f; head = head_of f index } → IsDescending f →
+    index < length f → ((s : Term) → Contains f s → (s.mono ≡ head_of f index) ⊎ IsBelowBy w s.mono (head_of f index)) → IsMarkedByWeight w c
+marked_at w c f index e d l h = subst (IsMarkedByWeight w) (sym e) (record {
+  marked = record { descending = d; mark = (get_or f index nothing).coef; term = mark_at f index (get_or f index nothing) l (at f index nothing l) };
   others = h;
 })
   where
@@ -134,7 +134,7 @@ marked_at w c f place e d l h = subst (IsMarkedByWeight w) (sym e) (record {
     at (s ∷ f) zero d l = refl
     at (s ∷ f) (suc k) d l = at f k d (omega arith)
 
--- what stands at a place
+-- what stands at an index
 pub some_at : (set : List Terms) (i : ℕ) (f : Terms) → All (λ g. g ≢ []) set → i < length set → f ≡ get_or set i f → 0 < length f
 some_at set i f all l e = some f (subst (λ (g : Terms). g ≢ []) (sym e) (all i f l))
   where

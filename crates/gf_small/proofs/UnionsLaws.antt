@@ -65,9 +65,9 @@ united-more sets kept next s i l e add in_n h = record {
   variables = λ n a. in_n n (h.variables n a) (subst (AreIn n) (sym e) (set_in n sets i s a l));
 }
 
--- ---- sets at their places
+-- ---- sets at their indices
 
--- a set at its place
+-- a set at its index
 pub set_at : (vs : List (Vec Written Global)) (i : ℕ) (v : Vec Written Global) → i < length vs → v ≡ get_or vs i v → v.items ≡ get_or (sets_in vs) i v.items
 set_at [] i v l e = absurd (omega arith)
 set_at (u ∷ vs) zero v l e = ap (λ (z : Vec Written Global). z.items) e

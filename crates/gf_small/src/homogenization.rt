@@ -12,7 +12,7 @@ ghost use Rattle.gf_small.specs.Homogenization.{IsExponentPastLimit, IsFirstPast
 ghost use Rattle.gf_small.specs.Homogenization.{IsWrittenHomogenization, AreHomogenizations, IsHomogenizeCause, HasExponent};
 
 use crate::degrees::total_degree;
-use gf_division::place_of;
+use gf_division::index_of;
 use gf_poly::{ExponentOverflow, Marked, Mono, Poly, PolyError, ROOM, Term, filled};
 use gf_text::{MOST_VARIABLES, Ring, Written};
 use std::alloc::{AllocError, AllocFailed, Global};
@@ -135,8 +135,8 @@ fn marked_homogenization(alloc: Global, b: &Marked) -> Result<Marked, SmallError
     let all = filled_terms(alloc, total_degree(terms), terms)?;
     let head = all[b.index()].mono.copy();
     let poly = sum_of(all)?;
-    let place = place_of(poly.terms(), &head);
-    Ok(Marked::mark(poly, place))
+    let index = index_of(poly.terms(), &head);
+    Ok(Marked::mark(poly, index))
 }
 
 /// The homogenization of a polynomial that may be zero.

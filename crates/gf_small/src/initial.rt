@@ -13,7 +13,7 @@ use std::alloc::{AllocError, Global};
 use std::cmp::Ordering;
 
 /// The index of the term with this monomial, and 0 if there is none.
-fn place_or_first(terms: &[Term], x: &Mono) -> usize
+fn index_or_first(terms: &[Term], x: &Mono) -> usize
     requires some { 0 < length terms.now }
     requires descending { IsDescending terms.now }
     requires same_variables { HasVariables (length x.now) terms.now }
@@ -37,8 +37,8 @@ fn marked_form(b: &Marked, weight: &IntVec) -> Result<Marked, AllocError>
     ensures { IfOk result (IsMarkedInitialForm weight.now b.now) }
 {
     let form = b.poly().initial_form(weight)?;
-    let place = place_or_first(form.terms(), b.head());
-    Ok(Marked::mark(form, place))
+    let index = index_or_first(form.terms(), b.head());
+    Ok(Marked::mark(form, index))
 }
 
 /// The initial form of a polynomial that may be zero.

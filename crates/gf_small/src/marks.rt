@@ -29,24 +29,24 @@ fn is_above(weight: i128, x: &[u32], other: i128, y: &[u32]) -> bool
 }
 
 /// The index of the greatest term by the weight, ties broken by lex. There is at least one term.
-fn greatest_place(terms: &[Term], weight: &[i128]) -> usize
+fn greatest_index(terms: &[Term], weight: &[i128]) -> usize
     requires some { 0 < length terms.now }
     requires bounded { All (λ w. unsigned_abs w ≤ 2 ^ 63) weight.now }
     requires same_variables { HasVariables (length weight.now) terms.now }
     ensures inside { result < length terms.now }
     ensures others { (t : AnyTerm) → Contains terms.now t → (t.mono ≡ head_of terms.now result) ⊎ IsBelowBy weight.now t.mono (head_of terms.now result) }
 {
-    let mut place = 0;
+    let mut index = 0;
     let mut greatest = weight_of(weight, terms[0].mono.exponents());
     'terms: for i in 0..terms.len() {
         let x = terms[i].mono.exponents();
         let own = weight_of(weight, x);
-        if is_above(own, x, greatest, terms[place].mono.exponents()) {
-            place = i;
+        if is_above(own, x, greatest, terms[index].mono.exponents()) {
+            index = i;
             greatest = own;
         }
     }
-    place
+    index
 }
 
 /// The polynomial marked at its greatest term by the weight.
@@ -57,9 +57,9 @@ fn marked_by(f: &Poly, weight: &[i128]) -> Result<Marked, AllocError>
     ensures polynomial { IfOk result (λ c. c.poly ≡ f.now) }
     ensures mark { IfOk result (IsMarkedByWeight weight.now) }
 {
-    let place = greatest_place(f.terms(), weight);
+    let index = greatest_index(f.terms(), weight);
     let copy = f.copy()?;
-    Ok(Marked::mark(copy, place))
+    Ok(Marked::mark(copy, index))
 }
 
 /// The polynomials of a set in their order, each marked at its greatest term by the vector, ties broken by lex. None of them is zero. The

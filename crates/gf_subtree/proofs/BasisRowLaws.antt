@@ -11,7 +11,7 @@ use Rattle.gf_reverse_search.specs.declared.expand.Piece.{Piece}
 use Rattle.gf_reverse_search.specs.declared.expand.Piece.TheVariants.{Ready, Under, Refused}
 use Rattle.gf_reverse_search.specs.Path.{Leads, Precedes}
 use Rattle.gf_reverse_search.specs.Left.{IsLeft}
-use Rattle.gf_reverse_search.specs.Place.{Place}
+use Rattle.gf_reverse_search.specs.Standing.{Standing}
 use Rattle.gf_reverse_search.specs.Listing.{Among, Rises, LeadTo, Leaves, IsLeftAt, IsFirstOf}
 use Rattle.gf_reverse_search.specs.Pieces.{PiecesLeave}
 use Rattle.gf_reverse_search.proofs.FrontLaws.{precedes_on}
@@ -27,8 +27,8 @@ use Rattle.gf_reverse_theory.specs.Lists.{IsPathOf}
 use Rattle.gf_reverse_theory.proofs.TreeLaws.{SameFan, node_moved, count, upward_tree, upward_finite, above_node, down_node, own_fan, back_fan}
 use Rattle.gf_reverse_theory.proofs.ListLaws.{own, path_exists, path_one, path_below, root_above, root_own}
 use Rattle.gf_tree.specs.declared.tree.BasisTree.{BasisTree}
-use Rattle.gf_flip.specs.declared.error.TreeError.{TreeError}
-use Rattle.gf_flip.specs.declared.error.TreeError.TheVariants.{Memory}
+use Rattle.gf_tree.specs.TreeError.{TreeError}
+use Rattle.gf_tree.specs.TreeError.TheVariants.{Memory}
 use Rattle.gf_tree.specs.Refusals.{IsTreeRefusal, IsCallRefusal}
 use Rattle.gf_tree.specs.Walks.{Walk, AreLeft, HasListLeft, walk_at}
 use Rattle.gf_tree.proofs.RefusalLaws.{refusal_moved, call_refused}
@@ -210,20 +210,21 @@ left_at_start alloc root k workers pairs h =
 
 -- ---- going on where a walker stands
 
-module _ (walk : Walk) (p : Place BasisTree MarkedPolynomials (List ℤ)) (workers : ℕ) (here : p.here ≡ walk.here) (mark : p.mark ≡ walk.mark) (depth : p.depth ≡
+module _ (walk : Walk) (p : Standing BasisTree MarkedPolynomials (List ℤ)) (workers : ℕ)
+    (here : p.here ≡ walk.here) (mark : p.mark ≡ walk.mark) (depth : p.depth ≡
     walk.depth) (pairs : p.tree.pairs ≡ walk.pairs) (region : p.tree.region ≡ walk.region) (had : HasListLeft walk) where
-  at_place : (nodes : List MarkedPolynomials) → AreLeft walk nodes → IsLeftAt IsBefore up_in p nodes
-  at_place nodes l =
+  at_standing : (nodes : List MarkedPolynomials) → AreLeft walk nodes → IsLeftAt IsBefore up_in p nodes
+  at_standing nodes l =
       subst (λ (j : ℕ). Leaves IsBefore (IsParent p.tree.region) p.mark p.here j nodes) (sym depth)
       (subst (λ (v : MarkedPolynomials). Leaves IsBefore (IsParent p.tree.region) p.mark v walk.depth nodes) (sym here)
       (subst (λ (m : Mark (List ℤ)). Leaves IsBefore (IsParent p.tree.region) m walk.here walk.depth nodes) (sym mark)
       (subst (λ (k : Region). Leaves IsBefore (IsParent k) walk.mark walk.here walk.depth nodes) (sym region) l)))
 
   leaves : (nodes : List MarkedPolynomials) → AreLeft walk nodes →
-      AreLeftIn (row_of (record { workers = workers; jobs = 0; pieces = Under p ∷ [] }) walk.pairs walk.region walk.here 0) nodes
+      AreLeftIn (row_of (record { workers = workers; batches = 0; pieces = Under p ∷ [] }) walk.pairs walk.region walk.here 0) nodes
   leaves nodes l = (let r = rising_paths walk.region walk.mark walk.here walk.depth nodes had.basis l in
       record {
-        pieces = (nodes, [], sym (append-nil nodes), at_place nodes l, refl);
+        pieces = (nodes, [], sym (append-nil nodes), at_standing nodes l, refl);
         paths = r.paths;
         lead = r.lead;
         rises = r.rises;
@@ -231,14 +232,14 @@ module _ (walk : Walk) (p : Place BasisTree MarkedPolynomials (List ℤ)) (worke
           nodes,
           [],
           sym (append-nil nodes),
-          at_place nodes l,
+          at_standing nodes l,
           (λ x j. subst (λ (v : MarkedPolynomials). IsNotBehind walk.region v x) (sym here)
               (left_early walk.region walk.mark walk.here walk.depth nodes had.basis l x (subst (λ z. Among z x) (append-nil nodes) j))),
           refl,
         );
       })
 
-  pub left_as_resumed : HasRowLeft (row_of (record { workers = workers; jobs = 0; pieces = Under p ∷ [] }) walk.pairs walk.region walk.here 0)
+  pub left_as_resumed : HasRowLeft (row_of (record { workers = workers; batches = 0; pieces = Under p ∷ [] }) walk.pairs walk.region walk.here 0)
   left_as_resumed = record {
     own = had.basis;
     bound = omega arith;
@@ -250,11 +251,11 @@ module _ (walk : Walk) (p : Place BasisTree MarkedPolynomials (List ℤ)) (worke
         omega (arith, w) in g);
   }
 
-  pub resumed_as : IsResumedAs walk workers (row_of (record { workers = workers; jobs = 0; pieces = Under p ∷ [] }) walk.pairs walk.region walk.here 0)
+  pub resumed_as : IsResumedAs walk workers (row_of (record { workers = workers; batches = 0; pieces = Under p ∷ [] }) walk.pairs walk.region walk.here 0)
   resumed_as = record {
     workers = refl;
-    jobs = refl;
-    place = p;
+    batches = refl;
+    standing = p;
     piece = refl;
     here = here;
     mark = mark;
@@ -398,7 +399,7 @@ at_budget : (F : Fan) (pairs : ℕ) (t : BasisTree) (v : MarkedPolynomials) (e :
     IsCallRefusal F.region pairs v e
 at_budget F pairs t v e i r = subst (λ (p : ℕ). IsCallRefusal F.region p v e) i.pairs (subst (λ (k : Region). IsCallRefusal k t.pairs v e) i.region r)
 
-one_refused : (F : Fan) (pairs : ℕ) (w : Place BasisTree MarkedPolynomials (List ℤ)) (e : TreeError) → RefusesWalker w e → IsOfIdeal F pairs w.tree w.here →
+one_refused : (F : Fan) (pairs : ℕ) (w : Standing BasisTree MarkedPolynomials (List ℤ)) (e : TreeError) → RefusesWalker w e → IsOfIdeal F pairs w.tree w.here →
     IsTreeRefusal F pairs e
 one_refused F pairs w e r i =
     let a = above IsBefore up_in RefusesWalker (IsOfIdeal F pairs) (IsNodeIn F) (λ t v j. j.basis) (of_ideal_down F pairs) (of_ideal_rise F pairs)
@@ -453,7 +454,7 @@ among_either (y ∷ xs) ys x (inl e) = inl (inl e)
 among_either (y ∷ xs) ys x (inr j) = elim (among_either xs ys x j) [ inl i ↦ inl (inr i) | inr i ↦ inr i ]
 
 -- what a walker has left are bases of the ideal
-walker_nodes : (F : Fan) (pairs : ℕ) (w : Place BasisTree MarkedPolynomials (List ℤ)) (nodes : List MarkedPolynomials) → IsOfIdeal F pairs w.tree w.here →
+walker_nodes : (F : Fan) (pairs : ℕ) (w : Standing BasisTree MarkedPolynomials (List ℤ)) (nodes : List MarkedPolynomials) → IsOfIdeal F pairs w.tree w.here →
     IsLeftAt IsBefore up_in w nodes → (x : MarkedPolynomials) → Among nodes x → IsNodeIn F x
 walker_nodes F pairs w nodes i l x j = at l.lists.paths nodes l.lists.lead j
   where
@@ -487,7 +488,7 @@ left_nodes F pairs (Refused w e ∷ ps) nodes a l x j = elim (among_either l.0 l
 ]
 
 -- a refusal of a walker that doesn't stand behind what is left
-one_early : (F : Fan) (pairs : ℕ) (w : Place BasisTree MarkedPolynomials (List ℤ)) (e : TreeError) (paths : List (List (List ℤ)))
+one_early : (F : Fan) (pairs : ℕ) (w : Standing BasisTree MarkedPolynomials (List ℤ)) (e : TreeError) (paths : List (List (List ℤ)))
     (nodes : List MarkedPolynomials) → RefusesWalker w e → IsOfIdeal F pairs w.tree w.here → HavePaths F.region paths nodes → Rises IsBefore paths →
     ((x : MarkedPolynomials) → Among nodes x → IsNodeIn F x) → ((x : MarkedPolynomials) → Among (nodes ++ []) x → IsNotBehind F.region w.here x) →
     IsRefusedEarly F pairs nodes e

@@ -9,13 +9,13 @@ use Rattle.gf_reverse_search.specs.declared.mark.Mark.TheVariants.{Before, Liste
 use Rattle.gf_reverse_search.specs.declared.expand.Piece.{Piece}
 use Rattle.gf_reverse_search.specs.declared.expand.Piece.TheVariants.{Ready, Under, Refused}
 use Rattle.gf_reverse_search.specs.Path.{IsStrictOrder, IsTree}
-use Rattle.gf_reverse_search.specs.Place.{Place}
+use Rattle.gf_reverse_search.specs.Standing.{Standing}
 use Rattle.gf_reverse_search.specs.Listing.{Among, Leaves, IsLeftAt}
 use Rattle.gf_reverse_search.specs.Pieces.{ArePiecesBelow, Follows, GoesDown, PiecesLeave}
 use Rattle.gf_reverse_search.proofs.ListLaws.{gives}
 use Rattle.gf_reverse_search.proofs.SearchLaws.{listed_here}
 use Rattle.gf_reverse_search.proofs.PiecesLaws.{expansion_leaves}
-use Rattle.gf_waves.specs.Frontier.{Frontier, due_at, room_at, times_at, first_job, behind_job}
+use Rattle.gf_waves.specs.Frontier.{Frontier, due_at, room_at, times_at, first_batch, behind_batch}
 use Rattle.gf_waves.specs.Wave.{IsWaved, IsExpansion, ExpandsOn, IsAsked, IsGiven, IsReadied, IsCall}
 use Rattle.gf_waves.proofs.WaveLaws.{over_leaves}
 use Rattle.gf_subtree.specs.Rows.{AreAmong, LeaveInOrder}
@@ -38,7 +38,7 @@ first_early early v rest s x (inl e) = subst (early v) e s.0
 first_early early v rest s x (inr j) = s.1 x j
 
 module _ {T N L E : Type 0} (lt : L → L → Type 0) (up : T → N → L → N → Type 0) (strict : IsStrictOrder lt) (trees : (t : T) → IsTree (up t))
-    (refuses : Place T N L → E → Type 0) (early : N → N → Type 0)
+    (refuses : Standing T N L → E → Type 0) (early : N → N → Type 0)
     (In : T → N → Type 0) (Is : N → Type 0) (ready : (t : T) (v : N) → In t v → Is v) (down : (t : T) (v u : N) (c : L) → up t v c u → In t u → In t v)
     (rise : (t : T) (v u : N) (c : L) → up t v c u → In t v → In t u)
     (higher : (t : T) (v u : N) (c : L) (x : N) → up t v c u → In t v → early v x → early u x) where
@@ -47,7 +47,7 @@ module _ {T N L E : Type 0} (lt : L → L → Type 0) (up : T → N → L → N 
 
   -- ---- walkers that don't stand behind any of some nodes, or stand before their own
 
-  abbrev Fine : List N → Place T N L → Type 0
+  abbrev Fine : List N → Standing T N L → Type 0
   Fine nodes w = (w.mark ≡ Before) ⊎ ((x : N) → Among nodes x → early w.here x)
 
   abbrev AreFine : List N → List (Piece T N L E) → Type 0
@@ -56,7 +56,7 @@ module _ {T N L E : Type 0} (lt : L → L → Type 0) (up : T → N → L → N 
   AreFine nodes (Under w ∷ ps) = Fine nodes w × AreFine nodes ps
   AreFine nodes (Refused w e ∷ ps) = Fine nodes w × AreFine nodes ps
 
-  fine_fewer : (all fewer : List N) (w : Place T N L) → ((x : N) → Among fewer x → Among all x) → Fine all w → Fine fewer w
+  fine_fewer : (all fewer : List N) (w : Standing T N L) → ((x : N) → Among fewer x → Among all x) → Fine all w → Fine fewer w
   fine_fewer all fewer w i (inl e) = inl e
   fine_fewer all fewer w i (inr h) = inr (λ x j. h x (i x j))
 
@@ -73,14 +73,14 @@ module _ {T N L E : Type 0} (lt : L → L → Type 0) (up : T → N → L → N 
   fine_both nodes (Refused w e ∷ ps) qs a b = (a.0, fine_both nodes ps qs a.1 b)
 
   -- a walker before its node has it left first
-  first_here : (w : Place T N L) (front : List N) → w.mark ≡ Before → IsLeftAt lt up w front → (rest : List N) × (front ≡ w.here ∷ rest)
+  first_here : (w : Standing T N L) (front : List N) → w.mark ≡ Before → IsLeftAt lt up w front → (rest : List N) × (front ≡ w.here ∷ rest)
   first_here w front e l =
       let g = gives lt (up w.tree) strict (trees w.tree) Before w.here w.depth Listed w.here w.depth (Some w.here)
       (λ top r at. listed_here lt (up w.tree) top r w.here w.here w.depth refl at) front (subst (λ m. Leaves lt (up w.tree) m w.here w.depth front) e l) in
       (g.0, g.1)
 
-  fine_early : (nodes front back : List N) (w : Place T N L) → nodes ≡ front ++ back → IsLeftAt lt up w front → AreSorted early nodes → Fine nodes w → (x : N) →
-      Among nodes x → early w.here x
+  fine_early : (nodes front back : List N) (w : Standing T N L) → nodes ≡ front ++ back → IsLeftAt lt up w front → AreSorted early nodes → Fine nodes w →
+      (x : N) → Among nodes x → early w.here x
   fine_early nodes front back w e l s (inl m) x j =
       let f = first_here w front m l in
       let whole : nodes ≡ w.here ∷ (f.0 ++ back) = e ∙ ap (λ z. z ++ back) f.1 in
@@ -149,42 +149,42 @@ module _ {T N L E : Type 0} (lt : L → L → Type 0) (up : T → N → L → N 
   fine_children : (nodes : List N) (t : T) (u : N) (m m1 : Mark L) (ps : List (Piece T N L E)) → ArePiecesBelow lt up t u m ps m1 → AreFine nodes ps
   fine_children nodes t u m m1 [] b = tt
   fine_children nodes t u m m1 (Ready v ∷ ps) b = absurd b
-  fine_children nodes t u m m1 (Under w ∷ ps) b = (inl (ap (λ (x : Place T N L). x.mark) b.0), fine_children nodes t u (After b.1.label) m1 ps b.2)
+  fine_children nodes t u m m1 (Under w ∷ ps) b = (inl (ap (λ (x : Standing T N L). x.mark) b.0), fine_children nodes t u (After b.1.label) m1 ps b.2)
   fine_children nodes t u m m1 (Refused w e ∷ ps) b = absurd b
 
-  fine_follows : (nodes : List N) (Full : Type 0) (w : Place T N L) (ps : List (Piece T N L E)) → Follows lt up refuses w Full ps → In w.tree w.here →
+  fine_follows : (nodes : List N) (Full : Type 0) (w : Standing T N L) (ps : List (Piece T N L E)) → Follows lt up refuses w Full ps → In w.tree w.here →
       ((x : N) → Among nodes x → early w.here x) → AreFine nodes ps
   fine_follows nodes Full w [] f i h = tt
   fine_follows nodes Full w (Ready v ∷ ps) f i h = absurd f
   fine_follows nodes Full w (Under x ∷ ps) f i h = (
     inr (elim f.1 [
-      | inl q ↦ λ y j. subst (λ (z : Place T N L). early z.here y) (sym q.0) (h y j)
+      | inl q ↦ λ y j. subst (λ (z : Standing T N L). early z.here y) (sym q.0) (h y j)
       | inr q ↦ λ y j. higher w.tree w.here x.here q.1.label y q.1.step i (h y j)
     ]),
     subst (AreFine nodes) (sym f.0) tt,
   )
   fine_follows nodes Full w (Refused x e ∷ ps) f i h = (
-    inr (λ y j. subst (λ (z : Place T N L). early z.here y) (sym f.1) (h y j)),
+    inr (λ y j. subst (λ (z : Standing T N L). early z.here y) (sym f.1) (h y j)),
     subst (AreFine nodes) (sym f.0) tt,
   )
 
-  fine_down : (nodes : List N) (most : ℕ) (w : Place T N L) (ps : List (Piece T N L E)) → GoesDown lt up refuses most w ps → In w.tree w.here →
+  fine_down : (nodes : List N) (most : ℕ) (w : Standing T N L) (ps : List (Piece T N L E)) → GoesDown lt up refuses most w ps → In w.tree w.here →
       ((x : N) → Among nodes x → early w.here x) → AreFine nodes ps
   fine_down nodes most w ps g i h = subst (AreFine nodes) (sym g.whole)
       (fine_both nodes g.below g.rest (fine_children nodes w.tree w.here w.mark g.mark g.below g.children) (fine_follows nodes _ _ g.rest g.follows i h))
 
-  fine_expansion : (nodes : List N) (w : Place T N L) (ps : List (Piece T N L E)) → IsExpansion lt up refuses w ps → In w.tree w.here →
+  fine_expansion : (nodes : List N) (w : Standing T N L) (ps : List (Piece T N L E)) → IsExpansion lt up refuses w ps → In w.tree w.here →
       ((x : N) → Among nodes x → early w.here x) → AreFine nodes ps
   fine_expansion nodes w ps (inl (inl g)) i h = fine_down nodes 1 w ps g i h
   fine_expansion nodes w ps (inl (inr q)) i h = subst (AreFine nodes) (sym q.1.1) (fine_down nodes 1 _ q.1.0 q.1.2 i h)
   fine_expansion nodes w ps (inr q) i h = subst (AreFine nodes) (sym q.1) (inr h, tt)
 
-  leaves_expanded : (w : Place T N L) (ps : List (Piece T N L E)) → IsExpansion lt up refuses w ps → (nodes : List N) → IsLeftAt lt up w nodes →
+  leaves_expanded : (w : Standing T N L) (ps : List (Piece T N L E)) → IsExpansion lt up refuses w ps → (nodes : List N) → IsLeftAt lt up w nodes →
       PiecesLeave (IsLeftAt lt up) ps nodes
   leaves_expanded w ps (inl h) nodes l = expansion_leaves lt up strict trees refuses 1 w ps h nodes l
   leaves_expanded w ps (inr h) nodes l = subst (λ k. PiecesLeave (IsLeftAt lt up) k nodes) (sym h.1) (nodes, [], sym (append-nil nodes), l, refl)
 
-  -- ---- a job
+  -- ---- a batch
 
   on_order : (k n : ℕ) (olds : List (Piece T N L E)) (j i : ℕ) (news : List (Piece T N L E)) → ExpandsOn lt up refuses k n olds j i news →
       (later nodes : List N) → AreAmong In Is olds → AreSorted early (nodes ++ later) → Orders later olds nodes → Orders later news nodes
@@ -210,9 +210,9 @@ module _ {T N L E : Type 0} (lt : L → L → Type 0) (up : T → N → L → N 
 
   -- ---- a wave
 
-  -- the pieces of a job, and then those behind it
+  -- the pieces of a batch, and then those behind it
   cut_order : (c m : ℕ) (ps : List (Piece T N L E)) (later nodes : List N) → Orders later ps nodes →
-      (front : List N) × (back : List N) × (nodes ≡ front ++ back) × Orders (back ++ later) (first_job c m ps) front × Orders later (behind_job c m ps) back
+      (front : List N) × (back : List N) × (nodes ≡ front ++ back) × Orders (back ++ later) (first_batch c m ps) front × Orders later (behind_batch c m ps) back
   cut_order zero m ps later nodes l = ([], nodes, refl, refl, l)
   cut_order (suc c) zero ps later nodes l = ([], nodes, refl, refl, l)
   cut_order (suc c) (suc m) [] later nodes l = ([], nodes, refl, refl, l)
@@ -227,23 +227,23 @@ module _ {T N L E : Type 0} (lt : L → L → Type 0) (up : T → N → L → N 
       let whole : nodes ≡ (l.0 ++ k.0) ++ k.1 = l.2 ∙ ap (λ r. l.0 ++ r) k.2 ∙ sym (append_assoc l.0 k.0 k.1) in
       (l.0 ++ k.0, k.1, whole, (l.0, k.0, refl, l.3, (λ x j. l.4 x (subst (λ z. Among z x) (sym (over_both later nodes (l.0 ++ k.0) k.1 whole)) j)), k.3), k.4)
 
-  waved_order : (m : ℕ) (jobs : List (ℕ × ℕ)) (olds news : List (Piece T N L E)) → IsWaved lt up refuses m jobs olds news → (later nodes : List N) →
+  waved_order : (m : ℕ) (batches : List (ℕ × ℕ)) (olds news : List (Piece T N L E)) → IsWaved lt up refuses m batches olds news → (later nodes : List N) →
       AreAmong In Is olds → AreSorted early (nodes ++ later) → Orders later olds nodes → Orders later news nodes
-  waved_order zero jobs olds news h later nodes a s l = subst (λ r. Orders later r nodes) (sym h) l
+  waved_order zero batches olds news h later nodes a s l = subst (λ r. Orders later r nodes) (sym h) l
   waved_order (suc m) [] olds news h later nodes a s l = absurd h
-  waved_order (suc m) (b ∷ jobs) olds news h later nodes a s l =
+  waved_order (suc m) (b ∷ batches) olds news h later nodes a s l =
       let k = cut_order 8 1 olds later nodes l in
       let among = cut_among lt up refuses In Is ready down rise 8 1 olds a in
       let sorted = subst (AreSorted early) (over_both later nodes k.0 k.1 k.2) s in
       subst (λ r. Orders later r nodes) (sym h.4) (subst (Orders later (h.0 ++ h.1)) (sym k.2) (order_both later h.0 h.1 k.0 k.1
-      (on_order b.0 b.1 (first_job 8 1 olds) h.2 h.3 h.0 h.5 (k.1 ++ later) k.0 among.0 sorted k.3)
-      (waved_order m (jobs ++ (h.2, min h.3 56) ∷ []) (behind_job 8 1 olds) h.1 h.6 later k.1 among.1 (sorted_right early k.0 (k.1 ++ later) sorted) k.4)))
+      (on_order b.0 b.1 (first_batch 8 1 olds) h.2 h.3 h.0 h.5 (k.1 ++ later) k.0 among.0 sorted k.3)
+      (waved_order m (batches ++ (h.2, min h.3 56) ∷ []) (behind_batch 8 1 olds) h.1 h.6 later k.1 among.1 (sorted_right early k.0 (k.1 ++ later) sorted) k.4)))
 
-  readied_order : (workers jobs next : ℕ) (olds worked : List (Piece T N L E)) → IsReadied lt up refuses workers jobs olds next worked → (nodes : List N) →
-      AreAmong In Is olds → AreSorted early (nodes ++ []) → Orders [] olds nodes → Orders [] worked nodes
-  readied_order workers jobs next olds worked (inl h) nodes a s l =
-      waved_order (due_at workers olds * 12) (replicate (due_at workers olds) (times_at jobs, room_at workers olds)) olds worked h.3 [] nodes a s l
-  readied_order workers jobs next olds worked (inr h) nodes a s l = subst (λ r. Orders [] r nodes) (sym h.2) l
+  readied_order : (workers batches next : ℕ) (olds worked : List (Piece T N L E)) → IsReadied lt up refuses workers batches olds next worked →
+      (nodes : List N) → AreAmong In Is olds → AreSorted early (nodes ++ []) → Orders [] olds nodes → Orders [] worked nodes
+  readied_order workers batches next olds worked (inl h) nodes a s l =
+      waved_order (due_at workers olds * 12) (replicate (due_at workers olds) (times_at batches, room_at workers olds)) olds worked h.3 [] nodes a s l
+  readied_order workers batches next olds worked (inr h) nodes a s l = subst (λ r. Orders [] r nodes) (sym h.2) l
 
   -- ---- an answer
 
@@ -253,7 +253,7 @@ module _ {T N L E : Type 0} (lt : L → L → Type 0) (up : T → N → L → N 
   IsInOrderAfter (Ok None) nodes news = Orders [] news []
   IsInOrderAfter (Err e) nodes news = Orders [] news nodes
 
-  asked_order : (w : Place T N L) (ps : List (Piece T N L E)) (answer : Result (Option N) E) (news : List (Piece T N L E)) →
+  asked_order : (w : Standing T N L) (ps : List (Piece T N L E)) (answer : Result (Option N) E) (news : List (Piece T N L E)) →
       IsAsked lt up refuses w ps answer news → (nodes : List N) → AreSorted early nodes → Orders [] (Under w ∷ ps) nodes → IsInOrderAfter answer nodes news
   asked_order w ps (Ok None) news a nodes s l = absurd a
   asked_order w ps (Err e) news a nodes s l = subst (λ r. Orders [] r nodes) (sym a.1) l
@@ -292,7 +292,7 @@ module _ {T N L E : Type 0} (lt : L → L → Type 0) (up : T → N → L → N 
       IsCall lt up refuses is_memory old answer new → (nodes : List N) → AreAmong In Is old.pieces → AreSorted early nodes → Orders [] old.pieces nodes →
       IsInOrderAfter answer nodes new.pieces
   call_order is_memory old answer new (inl h) nodes a s l =
-      given_order h.0 answer new.pieces h.2 nodes s (readied_order old.workers old.jobs new.jobs old.pieces h.0 h.1 nodes a
+      given_order h.0 answer new.pieces h.2 nodes s (readied_order old.workers old.batches new.batches old.pieces h.0 h.1 nodes a
       (subst (AreSorted early) (sym (append-nil nodes)) s) l)
   call_order is_memory old answer new (inr h) nodes a s l =
       subst (λ r. IsInOrderAfter r nodes new.pieces) (sym h.1) (subst (λ (f : Frontier T N L E). Orders [] f.pieces nodes) (sym h.5) l)

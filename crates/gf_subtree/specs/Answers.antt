@@ -4,15 +4,15 @@ use Rattle.std.specs.declared.result.Result.{Result}
 use Rattle.std.specs.declared.result.Result.TheVariants.{Err}
 use Rattle.gf_poly.specs.Marking.{MarkedPolynomials}
 use Rattle.gf_reverse_search.specs.Listing.{Among}
-use Rattle.gf_reverse_search.specs.Place.{Place}
+use Rattle.gf_reverse_search.specs.Standing.{Standing}
 use Rattle.gf_reverse_search.specs.declared.expand.Piece.TheVariants.{Under}
 use Rattle.gf_waves.specs.Frontier.{IsFrontRefused}
 use Rattle.gf_waves.specs.Wave.{IsCall}
 use Rattle.gf_facets_theory.specs.LexPositive.{IsBefore}
 use Rattle.gf_reverse_theory.specs.Upward.{Fan, IsNodeIn, IsNode}
 use Rattle.gf_tree.specs.declared.tree.BasisTree.{BasisTree}
-use Rattle.gf_flip.specs.declared.error.TreeError.{TreeError}
-use Rattle.gf_flip.specs.declared.error.TreeError.TheVariants.{Memory}
+use Rattle.gf_tree.specs.TreeError.{TreeError}
+use Rattle.gf_tree.specs.TreeError.TheVariants.{Memory}
 use Rattle.gf_tree.specs.Refusals.{IsCallRefusal}
 use Rattle.gf_tree.specs.Walks.{Walk, AreLeft}
 use Rattle.gf_subtree.specs.Rows.{Row, up_in, RefusesWalker, ideal_in, row_left_at_most, AreLeftIn}
@@ -81,12 +81,12 @@ pub data IsRefusedEarly (F : Fan) (pairs : ℕ) (nodes : List MarkedPolynomials)
 -- the walker is the row's one piece, and what it has left is what is left
 pub record IsResumedAs (walk : Walk) (number : ℕ) (row : Row) : Type 0 where
   pub workers : row.frontier.workers ≡ number
-  pub jobs : row.frontier.jobs ≡ 0
-  pub place : Place BasisTree MarkedPolynomials (List ℤ)
-  pub piece : row.frontier.pieces ≡ Under place ∷ []
-  pub here : place.here ≡ walk.here
-  pub mark : place.mark ≡ walk.mark
-  pub depth : place.depth ≡ walk.depth
+  pub batches : row.frontier.batches ≡ 0
+  pub standing : Standing BasisTree MarkedPolynomials (List ℤ)
+  pub piece : row.frontier.pieces ≡ Under standing ∷ []
+  pub here : standing.here ≡ walk.here
+  pub mark : standing.mark ≡ walk.mark
+  pub depth : standing.depth ≡ walk.depth
   pub pairs : row.pairs ≡ walk.pairs
   pub region : row.region ≡ walk.region
   pub start : row.start ≡ walk.here

@@ -4,7 +4,7 @@
 use Rattle.std.specs.Prelude.{◌≡◌, ◌⊎◌, ℕ, ◌+◌, ◌-◌, ◌*◌, ◌≤◌, List, [], ◌∷◌, ◌++◌, length, ℤ}
 use Rattle.std.specs.Global.{Global}
 use Rattle.gf_poly.specs.Marking.{MarkedPolynomials}
-use Rattle.gf_reverse_search.specs.Place.{Place}
+use Rattle.gf_reverse_search.specs.Standing.{Standing}
 use Rattle.gf_reverse_search.specs.Path.{Precedes}
 use Rattle.gf_reverse_search.specs.Listing.{Among, IsLeftAt, Rises}
 use Rattle.gf_reverse_search.specs.Pieces.{PiecesLeave, RefusesAt}
@@ -18,7 +18,7 @@ use Rattle.gf_reverse_theory.specs.Upward.{Fan, IsNodeIn, IsParent, fan_of}
 use Rattle.gf_reverse_theory.specs.Lists.{IsPathOf}
 use Rattle.gf_reverse_theory.proofs.TreeLaws.{count}
 use Rattle.gf_tree.specs.declared.tree.BasisTree.{BasisTree}
-use Rattle.gf_flip.specs.declared.error.TreeError.{TreeError}
+use Rattle.gf_tree.specs.TreeError.{TreeError}
 use Rattle.gf_tree.specs.Refusals.{IsCallRefusal}
 
 -- ---- the tree of bases
@@ -28,12 +28,12 @@ abbrev pub up_in : BasisTree → MarkedPolynomials → List ℤ → MarkedPolyno
 up_in t = IsParent t.region
 
 -- why a walker over it is refused: a call of the tree at its basis, or above, is
-abbrev pub RefusesWalker : Place BasisTree MarkedPolynomials (List ℤ) → TreeError → Type 0
+abbrev pub RefusesWalker : Standing BasisTree MarkedPolynomials (List ℤ) → TreeError → Type 0
 RefusesWalker = RefusesAt up_in (λ t v e. IsCallRefusal t.region t.pairs v e)
 
 -- ---- rows
 
--- the row of pieces with the number of workers and that of the next job; how many pairs each flip may settle; the region; the basis of the
+-- the row of pieces with the number of workers and that of the next batch; how many pairs each flip may settle; the region; the basis of the
 -- ideal with which it began; and how many bases were given so far
 pub record Row : Type 0 where
   pub frontier : Frontier BasisTree MarkedPolynomials (List ℤ) TreeError
@@ -61,7 +61,7 @@ HavePaths k (p ∷ ps) (x ∷ xs) = IsPathOf k x p × HavePaths k ps xs
 
 -- piece by piece, as `PiecesLeave` has it, with the nodes `later` behind them: and no walker stands behind a node that it, a later piece or
 -- `later` has; `early v x` says that v doesn't come behind x
-abbrev pub LeaveInOrder : {T N L E : Type 0} → (Place T N L → List N → Type 0) → (N → N → Type 0) → List N → List (Piece T N L E) → List N → Type 0
+abbrev pub LeaveInOrder : {T N L E : Type 0} → (Standing T N L → List N → Type 0) → (N → N → Type 0) → List N → List (Piece T N L E) → List N → Type 0
 LeaveInOrder left early later [] nodes = nodes ≡ []
 LeaveInOrder {N = N} left early later (Ready v ∷ ps) nodes = (rest : List N) × (nodes ≡ v ∷ rest) × LeaveInOrder left early later ps rest
 LeaveInOrder {N = N} left early later (Under w ∷ ps) nodes =
@@ -114,12 +114,12 @@ pub record HasRowLeft (r : Row) : Type 0 where
 
 -- ---- how a row begins
 
--- a basis that is ready without a job, and a walker at it for what is below
+-- a basis that is ready without a batch, and a walker at it for what is below
 abbrev pub first_row : Global → MarkedPolynomials → Region → ℕ → ℕ → Row
 first_row alloc root k workers pairs = record {
   frontier = record {
     workers = workers;
-    jobs = 0;
+    batches = 0;
     pieces = Ready root ∷ Under (record { tree = record { alloc = alloc; region = k; pairs = pairs }; here = root; mark = Listed; depth = 0 }) ∷ [];
   };
   pairs = pairs;

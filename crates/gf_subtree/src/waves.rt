@@ -6,7 +6,7 @@ ghost use Rattle.gf_waves.specs.Frontier.{AreRefusals, is_ready, is_refused};
 ghost use Rattle.gf_waves.specs.Wave.{is_served};
 ghost use Rattle.gf_tree.specs.Refusals.{IsTreeRefusal, IsTreeWithinLimits};
 ghost use Rattle.gf_tree.specs.Walks.{AreLeft, walk_at};
-ghost use Rattle.gf_flip.specs.declared.error.TreeError.TheVariants.{Memory};
+ghost use Rattle.gf_tree.specs.TreeError.TheVariants.{Memory};
 ghost use Rattle.gf_subtree.specs.Rows.{AreLeftIn, HasRowLeft, RefusesWalker, ideal_in, first_row};
 ghost use Rattle.gf_subtree.specs.Answers.{IsResumedAs, IsRowAnswer, IsRowCall, IsRowKept, IsRefusedEarly, IsToldInFront};
 
@@ -41,10 +41,10 @@ impl<'g, G: Gate> Model for Waves<'g, G> {
 }
 
 impl<'g, G: Gate> Waves<'g, G> {
-    /// The list of a basis and of all below it, by so many workers: the basis is ready without a job. Each flip may settle `pairs` pairs.
+    /// The list of a basis and of all below it, by so many workers: the basis is ready without a batch. Each flip may settle `pairs` pairs.
     ///
     /// The set is a marked reduced basis, for some weight of the region, of the ideal that it generates. Where it is the basis by the
-    /// root of the region and then lex, the list is that of all bases of its ideal in the region. Before each job the gate is called.
+    /// root of the region and then lex, the list is that of all bases of its ideal in the region. Before each batch the gate is called.
     ///
     /// # Errors
     ///
@@ -123,7 +123,7 @@ impl<'g, G: Gate> Waves<'g, G> {
         self.inner.workers()
     }
 
-    /// Whether a basis is ready in front, or nothing is left: the next call runs no job.
+    /// Whether a basis is ready in front, or nothing is left: the next call runs no batch.
     pub fn is_served(&self) -> bool
         ensures { result ≡ is_served self.now.frontier.pieces }
     {
@@ -171,9 +171,9 @@ impl<'g, G: Gate> Waves<'g, G> {
         }
     }
 
-    /// The next basis of the list, whichever job came back first; none where nothing is left, and from then on.
+    /// The next basis of the list, whichever batch came back first; none where nothing is left, and from then on.
     ///
-    /// Where no basis is ready in front and there is room, a wave of jobs is run on `rt`, as `gf_waves` says. Where none is ready after
+    /// Where no basis is ready in front and there is room, a wave of batches is run on `rt`, as `gf_waves` says. Where none is ready after
     /// that, the walker in front is asked.
     ///
     /// # Errors

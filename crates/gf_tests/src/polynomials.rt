@@ -90,7 +90,7 @@ pub(crate) fn told(alloc: Global, call: &str, fields: &[&str]) -> Option<String>
     }
 }
 
-/// A marked polynomial made monic: itself, its mark, the place of that, and its coefficient.
+/// A marked polynomial made monic: itself, its mark, the index of that, and its coefficient.
 fn monic(alloc: Global, b: &Marked) -> Option<String> {
     let b = b.monic().ok()?;
     let member = texts::member(alloc, &b)?;

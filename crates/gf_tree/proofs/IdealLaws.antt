@@ -11,15 +11,15 @@ use Rattle.gf_ideal_theory.proofs.BasisLaws.{basis_of_groebner_for}
 use Rattle.gf_ideal_theory.proofs.ListedTerms.{variables_by_terms}
 use Rattle.gf_ideal_theory.proofs.MarkWeights.{marked_positive, mark-there}
 use Rattle.gf_ideal_theory.proofs.OrderWeights.{order-weights}
-use Rattle.gf_buchberger.proofs.JobLaws.{ring_variables}
+use Rattle.gf_flip.proofs.TaskLaws.{ring_variables}
 use Rattle.gf_facets_theory.specs.Facets.{IsInClosedCone}
 use Rattle.gf_facets_theory.specs.MarkedBases.{IsMarkedReducedBasis, IsBasisInRegion}
 use Rattle.gf_bases_theory.proofs.RegionBases.{basis_at}
 use Rattle.gf_bases_theory.proofs.LawsHold.{reduced_bases_exist}
 use Rattle.gf_poly.specs.Polynomial.{Terms}
 use Rattle.gf_poly.specs.Marking.{MarkedPolynomial, MarkedPolynomials}
-use Rattle.gf_buchberger.specs.Bases.{IsArrangedBasis}
-use Rattle.gf_buchberger.specs.Jobs.{HaveRingVariables}
+use Rattle.gf_flip.specs.Bases.{IsArrangedBasis}
+use Rattle.gf_flip.specs.Tasks.{HaveRingVariables}
 use Rattle.gf_facets_theory.specs.Regions.{Region, IsRegion, all_positive}
 use Rattle.gf_facets_theory.proofs.SystemLaws.{all_positive-region}
 use Rattle.gf_flip.proofs.ReachedLaws.{reached_first}

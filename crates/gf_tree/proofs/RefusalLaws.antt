@@ -1,5 +1,5 @@
 -- Refusals of a search: of its steps, seen from another basis of the same ideal, and where it stays within its limits.
--- To cite: flip_refused, cone_refused, flip_at, cone_at, place_at, refusal_moved, limits_moved, refusal_beside, call_refused, refusal_above, refusal_over,
+-- To cite: flip_refused, cone_refused, flip_at, cone_at, index_at, refusal_moved, limits_moved, refusal_beside, call_refused, refusal_above, refusal_over,
 -- refused_on_way,
 -- no_memory_on_way, way_refused, way_only, within_memory, only_memory,
 -- only_memory_back.
@@ -8,7 +8,7 @@ use Rattle.gf_poly.specs.Marking.{MarkedPolynomials}
 use Rattle.gf_gordan.specs.declared.error.GordanError.{GordanError}
 use Rattle.gf_gordan.specs.declared.error.GordanError.TheVariants as cones
 use Rattle.gf_gordan.specs.Steps.{Failed}
-use Rattle.gf_buchberger.specs.declared.bases.BasisError.{BasisError}
+use Rattle.gf_flip.specs.BasisError.{BasisError}
 use Rattle.gf_facets_theory.specs.Regions.{Region}
 use Rattle.gf_facets_theory.specs.Facets.{IsFlippable}
 use Rattle.gf_cone.specs.Cones.{ConeRows, normal_at, other_rows, IsConeOf}
@@ -37,7 +37,7 @@ flip_refused k pairs v a r e h f c q = IsTreeRefusal.flip v a r h f c q
 pub cone_refused : (k : Region) (pairs : ℕ) (v : MarkedPolynomials) (c : ConeRows) (m : ℕ) (r : GordanError) (e : TreeError) → IsNode k v →
     IsConeOf v.variables k v.items c → m ≤ length c.normals → Failed (IsStepBefore c m) r → e ≡ of_cone_error r → IsTreeRefusal (fan_of k v) pairs e
 cone_refused k pairs v c m (cones.Cone s) e h is l f q =
-    IsTreeRefusal.system v s h (record { cone = c; is_cone = is; place = f.0; inside = omega (arith, l, f.1); step = f.2 }) q
+    IsTreeRefusal.system v s h (record { cone = c; is_cone = is; index = f.0; inside = omega (arith, l, f.1); step = f.2 }) q
 cone_refused k pairs v c m cones.Memory e h is l f q = IsTreeRefusal.memory q
 
 -- ---- calls at one basis
@@ -49,13 +49,13 @@ flip_at k pairs v a r e f c q = IsRefusedAtBasis.flip a r f c q
 pub cone_at : (k : Region) (pairs : ℕ) (v : MarkedPolynomials) (c : ConeRows) (m : ℕ) (r : GordanError) (e : TreeError) → IsConeOf v.variables k v.items c →
     m ≤ length c.normals → Failed (IsStepBefore c m) r → e ≡ of_cone_error r → IsRefusedAtBasis k pairs v e
 cone_at k pairs v c m (cones.Cone s) e is l f q =
-    IsRefusedAtBasis.system s (record { cone = c; is_cone = is; place = f.0; inside = omega (arith, l, f.1); step = f.2 }) q
+    IsRefusedAtBasis.system s (record { cone = c; is_cone = is; index = f.0; inside = omega (arith, l, f.1); step = f.2 }) q
 cone_at k pairs v c m cones.Memory e is l f q = IsRefusedAtBasis.memory q
 
-pub place_at : (k : Region) (pairs : ℕ) (v : MarkedPolynomials) (c : ConeRows) (i : ℕ) (r : GordanError) (e : TreeError) → IsConeOf v.variables k v.items c →
+pub index_at : (k : Region) (pairs : ℕ) (v : MarkedPolynomials) (c : ConeRows) (i : ℕ) (r : GordanError) (e : TreeError) → IsConeOf v.variables k v.items c →
     i < length c.normals → Failed (IsNormalStep c.variables (other_rows c i) (normal_at c i)) r → e ≡ of_cone_error r → IsRefusedAtBasis k pairs v e
-place_at k pairs v c i (cones.Cone s) e is l f q = IsRefusedAtBasis.system s (record { cone = c; is_cone = is; place = i; inside = l; step = f }) q
-place_at k pairs v c i cones.Memory e is l f q = IsRefusedAtBasis.memory q
+index_at k pairs v c i (cones.Cone s) e is l f q = IsRefusedAtBasis.system s (record { cone = c; is_cone = is; index = i; inside = l; step = f }) q
+index_at k pairs v c i cones.Memory e is l f q = IsRefusedAtBasis.memory q
 
 -- a refusal at a basis is one of a search over the bases of its ideal
 at_refused : (k : Region) (pairs : ℕ) (v : MarkedPolynomials) (e : TreeError) → IsNode k v → IsRefusedAtBasis k pairs v e → IsTreeRefusal (fan_of k v) pairs e
@@ -72,7 +72,7 @@ refusal_moved F G pairs e s (IsTreeRefusal.system v o h t q) =
     IsTreeRefusal.system v o (node_moved F G v s h) (record {
       cone = t.cone;
       is_cone = subst (λ (k : Region). IsConeOf v.variables k v.items t.cone) s.region t.is_cone;
-      place = t.place;
+      index = t.index;
       inside = t.inside;
       step = t.step;
     }) q
@@ -85,7 +85,7 @@ limits_moved F G pairs s w = record {
       (record {
         cone = t.cone;
         is_cone = subst (λ (k : Region). IsConeOf v.variables k v.items t.cone) (sym s.region) t.is_cone;
-        place = t.place;
+        index = t.index;
         inside = t.inside;
         step = t.step;
       });

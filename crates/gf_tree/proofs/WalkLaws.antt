@@ -6,7 +6,7 @@ use Rattle.gf_poly.specs.Marking.{MarkedPolynomials}
 use Rattle.gf_reverse_search.specs.declared.mark.Mark.{Mark}
 use Rattle.gf_reverse_search.specs.declared.mark.Mark.TheVariants.{Before, Listed, Finished}
 use Rattle.gf_reverse_search.specs.Path.{Leads}
-use Rattle.gf_reverse_search.specs.Place.{Place}
+use Rattle.gf_reverse_search.specs.Standing.{Standing}
 use Rattle.gf_reverse_search.specs.Listing.{Leaves, IsLeftAt, IsFirstOf}
 use Rattle.gf_reverse_search.specs.Walk.{Steps, Advances}
 use Rattle.gf_reverse_search.specs.Split.{AreSplitParts, AreCutAt}
@@ -23,7 +23,7 @@ use Rattle.gf_tree.specs.Walks.{Walk, AreLeft, HasListLeft}
 use Rattle.gf_tree.specs.Steps.{IsStepTo, IsEnd, AreWalkParts, IsResumed}
 
 -- where a walker over the tree stands, and how many bases it gave
-abbrev pub walk_of : Place BasisTree MarkedPolynomials (List ℤ) → ℕ → Walk
+abbrev pub walk_of : Standing BasisTree MarkedPolynomials (List ℤ) → ℕ → Walk
 walk_of p n = record { here = p.here; mark = p.mark; depth = p.depth; pairs = p.tree.pairs; given = n; region = p.tree.region }
 
 -- the parents of the tree
@@ -70,7 +70,7 @@ answers_by_paths k old new here0 here1 d0 d1 v s = λ top p r at h a.
           (top_seen_below k top v n.path h (subst (Leads (IsParent k) top n.path) (sym n.node) n.at.leads)) n,
     )
 
-module _ (p q : Place BasisTree MarkedPolynomials (List ℤ)) (n m : ℕ) (v : MarkedPolynomials) (e : q.tree ≡ p.tree) (steps : Advances IsBefore up_in p q
+module _ (p q : Standing BasisTree MarkedPolynomials (List ℤ)) (n m : ℕ) (v : MarkedPolynomials) (e : q.tree ≡ p.tree) (steps : Advances IsBefore up_in p q
     (Some v))
     (list : (nodes : List MarkedPolynomials) → IsLeftAt IsBefore up_in p nodes → IsFirstOf (IsLeftAt IsBefore up_in q) nodes (Some v))
     (more : m ≡ n + 1) (had : HasListLeft (walk_of p n)) where
@@ -125,7 +125,7 @@ module _ (p q : Place BasisTree MarkedPolynomials (List ℤ)) (n m : ℕ) (v : M
 
 -- ---- the end
 
-module _ (p q : Place BasisTree MarkedPolynomials (List ℤ)) (n m : ℕ) (list : (nodes : List MarkedPolynomials) → IsLeftAt IsBefore up_in p nodes →
+module _ (p q : Standing BasisTree MarkedPolynomials (List ℤ)) (n m : ℕ) (list : (nodes : List MarkedPolynomials) → IsLeftAt IsBefore up_in p nodes →
     IsFirstOf (IsLeftAt IsBefore up_in q) nodes None)
     (stays : q ≡ record p { mark = Finished }) (same : m ≡ n) (had : HasListLeft (walk_of p n)) where
   pub step_end : IsEnd (walk_of p n) (walk_of q m)
@@ -133,7 +133,7 @@ module _ (p q : Place BasisTree MarkedPolynomials (List ℤ)) (n m : ℕ) (list 
     none = λ nodes l. (list nodes l).0;
     nothing = subst (AreLeft (walk_of p n)) (list had.rest had.left).0 had.left;
     over = (list had.rest had.left).1;
-    stays = ap (λ (r : Place BasisTree MarkedPolynomials (List ℤ)). walk_of r m) stays ∙ ap (λ (j : ℕ). record {
+    stays = ap (λ (r : Standing BasisTree MarkedPolynomials (List ℤ)). walk_of r m) stays ∙ ap (λ (j : ℕ). record {
       here = p.here;
       mark = Finished;
       depth = p.depth;
@@ -145,7 +145,7 @@ module _ (p q : Place BasisTree MarkedPolynomials (List ℤ)) (n m : ℕ) (list 
 
 -- ---- two parts
 
-module _ (p f r : Place BasisTree MarkedPolynomials (List ℤ)) (n a b : ℕ) (cut : AreCutAt IsBefore up_in p f r) (ef : f.tree ≡ p.tree) (er : r.tree ≡ p.tree)
+module _ (p f r : Standing BasisTree MarkedPolynomials (List ℤ)) (n a b : ℕ) (cut : AreCutAt IsBefore up_in p f r) (ef : f.tree ≡ p.tree) (er : r.tree ≡ p.tree)
     (list : (nodes : List MarkedPolynomials) → IsLeftAt IsBefore up_in p nodes → AreSplitParts IsBefore up_in nodes f r)
     (za : a ≡ 0) (zb : b ≡ 0) (had : HasListLeft (walk_of p n)) where
   at_is : r.here ≡ f.here
@@ -206,8 +206,8 @@ module _ (p f r : Place BasisTree MarkedPolynomials (List ℤ)) (n a b : ℕ) (c
 
 -- ---- going on after a basis
 
-module _ (t : BasisTree) (v : MarkedPolynomials) (p : Place BasisTree MarkedPolynomials (List ℤ)) (n : ℕ) (node : IsNode t.region v)
-    (place : (p.tree ≡ t) × (p.here ≡ v) × (p.mark ≡ Listed)) (found : (root : MarkedPolynomials) × IsRootOf (up_in t) v root)
+module _ (t : BasisTree) (v : MarkedPolynomials) (p : Standing BasisTree MarkedPolynomials (List ℤ)) (n : ℕ) (node : IsNode t.region v)
+    (index : (p.tree ≡ t) × (p.here ≡ v) × (p.mark ≡ Listed)) (found : (root : MarkedPolynomials) × IsRootOf (up_in t) v root)
     (list : (root : MarkedPolynomials) → IsRootOf (up_in t) v root → StandsAfter IsBefore up_in v root p) (zero : n ≡ 0) where
   below : IsNodeIn (fan_of t.region v) found.0
   below = root_above t.region v found.0 found.1.path node found.1.leads
@@ -219,12 +219,12 @@ module _ (t : BasisTree) (v : MarkedPolynomials) (p : Place BasisTree MarkedPoly
   left_resumed =
       let f = upward_finite t.region found.0 owns in
       let s = list found.0 found.1 in
-      let g = s.goes_on f.nodes (subst (λ (u : BasisTree). Leaves IsBefore (up_in u) Before found.0 0 f.nodes) (sym place.0) f.leaves) in
+      let g = s.goes_on f.nodes (subst (λ (u : BasisTree). Leaves IsBefore (up_in u) Before found.0 0 f.nodes) (sym index.0) f.leaves) in
       let long : length f.nodes ≡ length g.front + suc (length g.rest) = ap length g.whole ∙ length-append g.front (v ∷ g.rest) in
-      let c : count p.tree.region p.here ≡ count t.region found.0 = subst (λ (u : BasisTree). count u.region p.here ≡ count t.region found.0) (sym place.0)
-      (ap (count t.region) place.1 ∙ count_along t.region found.0 found.1.path v found.1.leads) in
+      let c : count p.tree.region p.here ≡ count t.region found.0 = subst (λ (u : BasisTree). count u.region p.here ≡ count t.region found.0) (sym index.0)
+      (ap (count t.region) index.1 ∙ count_along t.region found.0 found.1.path v found.1.leads) in
       record {
-        basis = subst (λ (u : BasisTree). IsNode u.region p.here) (sym place.0) (subst (IsNode t.region) (sym place.1) node);
+        basis = subst (λ (u : BasisTree). IsNode u.region p.here) (sym index.0) (subst (IsNode t.region) (sym index.1) node);
         rest = g.rest;
         left = g.left;
         few = (let w : length f.nodes ≤ count t.region found.0 = f.few in let g0 : length g.rest + n ≤ count p.tree.region p.here =
@@ -233,27 +233,27 @@ module _ (t : BasisTree) (v : MarkedPolynomials) (p : Place BasisTree MarkedPoly
 
   pub resumed : IsResumed t.region v t.pairs (walk_of p n)
   resumed = record {
-    here = place.1;
-    mark = place.2;
-    pairs = ap (λ (u : BasisTree). u.pairs) place.0;
-    region = ap (λ (u : BasisTree). u.region) place.0;
+    here = index.1;
+    mark = index.2;
+    pairs = ap (λ (u : BasisTree). u.pairs) index.0;
+    region = ap (λ (u : BasisTree). u.region) index.0;
     goes_on = λ root r nodes l.
         let e : root ≡ found.0 = same_root (fan_of t.region v) root found.0 r.basis r.is_root below found.1.is_root in
         let s = list found.0 found.1 in
         let a : Leaves IsBefore (IsParent t.region) Before root 0 nodes = l in
-        let g = s.goes_on nodes (subst (λ (u : BasisTree). Leaves IsBefore (up_in u) Before found.0 0 nodes) (sym place.0)
+        let g = s.goes_on nodes (subst (λ (u : BasisTree). Leaves IsBefore (up_in u) Before found.0 0 nodes) (sym index.0)
         (subst (λ (w : MarkedPolynomials). Leaves IsBefore (IsParent t.region) Before w 0 nodes) e a)) in
         (g.front, g.rest, g.whole, g.left);
   }
 
 -- ---- as a program reads the parts
 
-pub left_read : (f g : Place BasisTree MarkedPolynomials (List ℤ)) (a : ℕ) → g ≡ f → HasListLeft (walk_of f a) → HasListLeft (walk_of g a)
-left_read f g a e h = subst (λ (z : Place BasisTree MarkedPolynomials (List ℤ)). HasListLeft (walk_of z a)) (sym e) h
+pub left_read : (f g : Standing BasisTree MarkedPolynomials (List ℤ)) (a : ℕ) → g ≡ f → HasListLeft (walk_of f a) → HasListLeft (walk_of g a)
+left_read f g a e h = subst (λ (z : Standing BasisTree MarkedPolynomials (List ℤ)). HasListLeft (walk_of z a)) (sym e) h
 
-pub parts_read : (v w : Walk) (f g r s : Place BasisTree MarkedPolynomials (List ℤ)) (a b : ℕ) → v ≡ w → g ≡ f → s ≡ r →
+pub parts_read : (v w : Walk) (f g r s : Standing BasisTree MarkedPolynomials (List ℤ)) (a b : ℕ) → v ≡ w → g ≡ f → s ≡ r →
     AreWalkParts v (walk_of f a) (walk_of r b) → AreWalkParts w (walk_of g a) (walk_of s b)
 parts_read v w f g r s a b i e o h =
     subst (λ (x : Walk). AreWalkParts x (walk_of g a) (walk_of s b)) i
-    (subst (λ (z : Place BasisTree MarkedPolynomials (List ℤ)). AreWalkParts v (walk_of g a) (walk_of z b)) (sym o)
-    (subst (λ (z : Place BasisTree MarkedPolynomials (List ℤ)). AreWalkParts v (walk_of z a) (walk_of r b)) (sym e) h))
+    (subst (λ (z : Standing BasisTree MarkedPolynomials (List ℤ)). AreWalkParts v (walk_of g a) (walk_of z b)) (sym o)
+    (subst (λ (z : Standing BasisTree MarkedPolynomials (List ℤ)). AreWalkParts v (walk_of z a) (walk_of r b)) (sym e) h))

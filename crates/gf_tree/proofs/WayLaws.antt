@@ -1,5 +1,5 @@
 -- The way up among the normals that a program keeps: ascending, each once.
--- To cite: place_of_normal, way_found, way_none, least_of_way, no_crossing, no_way, way_read, place_read, missing_read, told_way,
+-- To cite: index_of_normal, way_found, way_none, least_of_way, no_crossing, no_way, way_read, index_read, missing_read, told_way,
 -- not_told, shown_crossing, refuted_crossing, negative_read, wide_at, small_at.
 use Rattle.std.proofs.Common.{◌≡◌, ◌⊎◌, ℕ, ◌<◌, List, [], length, get_or, Contains, All, ℤ, Option, Some, None, Bool, true, false, IsTrue, ◌↔◌, arith, refl}
 use Rattle.std.proofs.Common.{sym, ap, ◌∙◌, subst, inl, inr}
@@ -23,7 +23,7 @@ use Rattle.gf_cone.proofs.CrossingLaws.{negative_told, small_read, width_read}
 use Rattle.gf_cone.proofs.SmallLaws.{small_for_sign}
 use Rattle.gf_known_cone.specs.Ways.{LeadsUpAt, IsLeastUp}
 use Rattle.gf_reverse_theory.specs.Upward.{LeadsUp, IsWayUp}
-use Rattle.gf_tree.specs.Places.{IsVectorPlace}
+use Rattle.gf_tree.specs.Indices.{IsVectorIndex}
 use Rattle.gf_tree.proofs.LabelLaws.{rises}
 
 -- what is told not to hold
@@ -31,9 +31,9 @@ pub not_told : (b : Bool) (A : Type 0) → IsTrue b ↔ A → b ≡ false → A 
 not_told b A h e a = absurd (let f : true ≡ false = sym (h.1 a) ∙ e in cc)
 
 module _ (n : ℕ) (k : Region) (bs : List MarkedPolynomial) (c : ConeRows) (is : IsConeOf n k bs c) where
-  -- a normal has its place
-  pub place_of_normal : (a : List ℤ) → IsNormal bs a → (i : ℕ) × (i < length c.normals) × (normal_at c i ≡ a)
-  place_of_normal a q = (let p = is.normals.all a q in (p.0, p.1, get_or_default c.normals p.0 [] a p.1 ∙ p.2))
+  -- a normal has its index
+  pub index_of_normal : (a : List ℤ) → IsNormal bs a → (i : ℕ) × (i < length c.normals) × (normal_at c i ≡ a)
+  index_of_normal a q = (let p = is.normals.all a q in (p.0, p.1, get_or_default c.normals p.0 [] a p.1 ∙ p.2))
 
   leads_at : (i : ℕ) → LeadsUpAt k.root c i → LeadsUp n k bs (normal_at c i)
   leads_at i u = record {
@@ -48,14 +48,14 @@ module _ (n : ℕ) (k : Region) (bs : List MarkedPolynomial) (c : ConeRows) (is 
     crossable = (crossable_flippable n k bs c i l is).1 u.flippable;
   }
 
-  -- a normal before another's place is before it
+  -- a normal before another's index is before it
   ascends : (i j : ℕ) → i < j → j < length c.normals → IsBefore (normal_at c i) (normal_at c j)
   ascends i j l g = rises c.normals is.normals.rises i j (normal_at c i) (normal_at c j) l g
       (get_or_default c.normals i (normal_at c i) [] (omega (arith, l, g))) (get_or_default c.normals j (normal_at c j) [] g)
 
-  -- the normal at the least place that leads up is the way up
+  -- the normal at the least index that leads up is the way up
   pub way_found : (i : ℕ) → IsLeastUp k.root c i → IsWayUp n k bs (normal_at c i)
-  way_found i w = record { leads = leads_at i w.leads; least = λ b u. at b u (place_of_normal b u.flippable.inside.normal) }
+  way_found i w = record { leads = leads_at i w.leads; least = λ b u. at b u (index_of_normal b u.flippable.inside.normal) }
     where
       at : (b : List ℤ) → LeadsUp n k bs b → ((j : ℕ) × (j < length c.normals) × (normal_at c j ≡ b)) → (normal_at c i ≡ b) ⊎ IsBefore (normal_at c i) b
       at b u p = elim (cases_lt p.0 i) [
@@ -68,9 +68,9 @@ module _ (n : ℕ) (k : Region) (bs : List MarkedPolynomial) (c : ConeRows) (is 
 
   -- where none leads up there is no way up
   pub way_none : ((j : ℕ) → LeadsUpAt k.root c j → ⊥) → (a : List ℤ) → LeadsUp n k bs a → ⊥
-  way_none h a u = (let p = place_of_normal a u.flippable.inside.normal in h p.0 (at_leads p.0 p.1 (subst (LeadsUp n k bs) (sym p.2) u)))
+  way_none h a u = (let p = index_of_normal a u.flippable.inside.normal in h p.0 (at_leads p.0 p.1 (subst (LeadsUp n k bs) (sym p.2) u)))
 
-  -- the way up is at the least place
+  -- the way up is at the least index
   pub least_of_way : (i : ℕ) → i < length c.normals → IsWayUp n k bs (normal_at c i) → IsLeastUp k.root c i
   least_of_way i l w = record {
     leads = at_leads i l w.leads;
@@ -100,22 +100,22 @@ module _ (n : ℕ) (k : Region) (bs : List MarkedPolynomial) (c : ConeRows) (is 
       subst (IsWayUp n k bs) (sym (read_normal given d i x a e f (subst (λ (z : List (List ℤ)). i < length z) (sym (e ∙ ap (λ (z : ConeRows). z.normals) f))
       w.leads.inside) r q)) (way_found i w)
 
-  -- a vector at a place of the list
-  pub place_read : (given : List (List ℤ)) (a : List ℤ) (i : ℕ) → given ≡ c.normals → IsVectorPlace given a (Some i) →
+  -- a vector at an index of the list
+  pub index_read : (given : List (List ℤ)) (a : List ℤ) (i : ℕ) → given ≡ c.normals → IsVectorIndex given a (Some i) →
       (i < length c.normals) × (normal_at c i ≡ a)
-  place_read given a i e p = subst (λ (z : List (List ℤ)). (i < length z) × (get_or z i [] ≡ a)) e p
+  index_read given a i e p = subst (λ (z : List (List ℤ)). (i < length z) × (get_or z i [] ≡ a)) e p
 
-  pub missing_read : (given : List (List ℤ)) (a : List ℤ) → given ≡ c.normals → IsVectorPlace given a None → Contains c.normals a → ⊥
+  pub missing_read : (given : List (List ℤ)) (a : List ℤ) → given ≡ c.normals → IsVectorIndex given a None → Contains c.normals a → ⊥
   missing_read given a e p h = p (subst (λ (z : List (List ℤ)). Contains z a) (sym e) h)
 
-  -- whether the vector at a place is the way up
+  -- whether the vector at an index is the way up
   pub told_way : (a : List ℤ) (i : ℕ) (b : Bool) → (i < length c.normals) × (normal_at c i ≡ a) → IsTrue b ↔ IsLeastUp k.root c i → IsTrue b ↔ IsWayUp n k bs a
   told_way a i b p h = (
     λ t. subst (IsWayUp n k bs) p.1 (way_found i (h.0 t)),
     λ w. h.1 (least_of_way i p.0 (subst (IsWayUp n k bs) (sym p.1) w)),
   )
 
-  -- whether a flip may cross the facet of the vector at a place
+  -- whether a flip may cross the facet of the vector at an index
   pub shown_crossing : (a : List ℤ) (i : ℕ) (w : List ℤ) (o : Option (List ℤ)) → (i < length c.normals) × (normal_at c i ≡ a) → IsCrossingDecided c i o →
       o ≡ Some w → IsFlippable n k bs a
   shown_crossing a i w o p d t = subst (IsFlippable n k bs) p.1 (subst (IsCrossingDecided c i) t d n k bs is)

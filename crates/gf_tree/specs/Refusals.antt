@@ -2,7 +2,7 @@
 use Rattle.std.specs.Prelude.{◌≡◌, ℕ, ◌<◌, List, ℤ, length, Some}
 use Rattle.gf_poly.specs.Marking.{MarkedPolynomials}
 use Rattle.gf_gordan.specs.declared.error.ConeOverflow.{ConeOverflow}
-use Rattle.gf_buchberger.specs.declared.bases.BasisError.{BasisError}
+use Rattle.gf_flip.specs.BasisError.{BasisError}
 use Rattle.gf_facets_theory.specs.Facets.{IsFlippable}
 use Rattle.gf_cone.specs.Cones.{ConeRows, normal_at, other_rows, IsConeOf}
 use Rattle.gf_cone.specs.Answers.{IsNormalStep}
@@ -19,9 +19,9 @@ use Rattle.gf_flip.specs.TreeErrors.{of_flip_error}
 pub record IsConeStep (F : Fan) (v : MarkedPolynomials) (s : ConeOverflow) : Type 0 where
   pub cone : ConeRows
   pub is_cone : IsConeOf v.variables F.region v.items cone
-  pub place : ℕ
-  pub inside : place < length cone.normals
-  pub step : IsNormalStep cone.variables (other_rows cone place) (normal_at cone place) s
+  pub index : ℕ
+  pub inside : index < length cone.normals
+  pub step : IsNormalStep cone.variables (other_rows cone index) (normal_at cone index) s
 
 -- why a search over the bases of F is refused, where each flip may settle this number of pairs: at some basis v of F a flip across a
 -- flippable normal is refused, or a step of the system of a normal leaves its range; or memory runs out

@@ -5,7 +5,7 @@ ghost use Rattle.gf_facets_theory.specs.Normals.{Ascends};
 ghost use Rattle.gf_cone.specs.Cones.{IsConeOf};
 ghost use Rattle.gf_reverse_theory.specs.Upward.{IsNode, fan_of};
 ghost use Rattle.gf_reverse_theory.specs.Answers.{IsAcross, IsWayAnswer};
-ghost use Rattle.gf_tree.specs.Places.{IsVectorPlace, AreDownward};
+ghost use Rattle.gf_tree.specs.Indices.{IsVectorIndex, AreDownward};
 ghost use Rattle.gf_tree.specs.Parents.{IsBelowTold, IsLedBack};
 ghost use Rattle.gf_tree.specs.Refusals.{IsTreeRefusal, IsRefusedAtBasis};
 
@@ -20,13 +20,13 @@ use std::alloc::AllocError;
 use std::cmp::Ordering;
 
 /// The index of a vector in an ascending list, by bisection.
-fn place_of(list: &[IntVec], v: &IntVec) -> Option<usize>
+fn index_of(list: &[IntVec], v: &IntVec) -> Option<usize>
     requires { Ascends list.now }
-    ensures { IsVectorPlace list.now v.now result }
+    ensures { IsVectorIndex list.now v.now result }
 {
     let mut low = 0;
     let mut high = list.len();
-    'places: while low < high {
+    'indices: while low < high {
         let middle = low + (high - low) / 2;
         match list[middle].lex_cmp(v) {
             Ordering::Less => low = middle + 1,
@@ -120,15 +120,15 @@ fn below_in(
     ensures cause { IfErr result (IsRefusedAtBasis tree.now.region tree.now.pairs set.now) }
 {
     let list = cone.normals();
-    let place = match place_of(list, normal) {
-        Some(place) => place,
+    let index = match index_of(list, normal) {
+        Some(index) => index,
         None => return Ok(None),
     };
-    match tree.region.sign(&list[place]) {
+    match tree.region.sign(&list[index]) {
         Ordering::Less => return Ok(None),
         _ => {}
     }
-    let crossing = cone.crossing(place)?;
+    let crossing = cone.crossing(index)?;
     match crossing {
         Some(witness) => {
             let basis = crossed(tree, set, normal, &witness, spare)?;
@@ -174,7 +174,7 @@ pub(crate) fn way_in(
         Some(way) => way,
         None => return Ok(None),
     };
-    let normal = cone.normals()[way.place].copy()?;
+    let normal = cone.normals()[way.index].copy()?;
     Ok(Some(Facet {
         normal,
         witness: way.witness,
@@ -212,11 +212,11 @@ pub(crate) fn led_back(
 {
     let Neighbour { basis, witness } = neighbour;
     let mut cone = cone_near(tree, &basis, &witness, normal, &mut store.vectors)?;
-    let place = match place_of(cone.normals(), back) {
-        Some(place) => place,
+    let index = match index_of(cone.normals(), back) {
+        Some(index) => index,
         None => return Ok(None),
     };
-    match cone.is_way_up(place, &tree.region)? {
+    match cone.is_way_up(index, &tree.region)? {
         true => Ok(Some(Node {
             basis,
             cone: Some(cone),

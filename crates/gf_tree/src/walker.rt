@@ -83,10 +83,10 @@ impl Walker {
         ensures mark { result.mark.now ≡ self.now.mark }
         ensures list { HasListLeft self.now }
     {
-        let place = self.inner.position();
+        let index = self.inner.position();
         Position {
-            here: place.here.basis(),
-            mark: place.mark,
+            here: index.here.basis(),
+            mark: index.mark,
         }
     }
 

@@ -8,7 +8,7 @@ use Rattle.std.proofs.lemmas.List.Quantifiers.{all_pairs_push}
 use Rattle.gf_int_theory.specs.Range.{InRange}
 use Rattle.gf_int_theory.proofs.ListLaws.{Contains-last}
 use Rattle.gf_exponents_theory.specs.Exponents.{Exponents}
-use Rattle.gf_duality_theory.proofs.ListLaws.{none_in, first_in, place, less, at, more}
+use Rattle.gf_duality_theory.proofs.ListLaws.{none_in, first_in, index, less, at, more}
 use Rattle.gf_patterns_theory.specs.PatternRows.{point_at}
 use Rattle.gf_patterns_theory.specs.Vertices.{IsVertex}
 use Rattle.gf_levels_theory.specs.VertexPoints.{AreVertexPoints}
@@ -30,7 +30,7 @@ entries_more x entries new i z l q a n d = record {
 
 pub points_none : (n : ℕ) (A : List (List ℤ)) → VertexPointsSoFar n A 0 []
 points_none n A = record {
-  places = [];
+  indices = [];
   ascending = λ i j d l m. absurd (omega (arith, m));
   inside = λ k c. absurd (none_in k c);
   are = refl;
@@ -40,16 +40,16 @@ points_none n A = record {
 pub points_more : (n : ℕ) (A : List (List ℤ)) (i : ℕ) (out : List (List ℤ)) (x : List ℤ) → i < length A → x ≡ point_at A i → VertexPointsSoFar n A i out →
     VertexPointsSoFar n A (i + 1) (out ++ x ∷ [])
 points_more n A i out x l e s = record {
-  places = s.places ++ i ∷ [];
-  ascending = all_pairs_push (λ j k. j < k) s.places i s.ascending (λ k d h. (s.inside (get_or s.places k d) (Contains-get_or s.places k d h)).0);
-  inside = λ k c. elim (Contains-last s.places i k c) [
+  indices = s.indices ++ i ∷ [];
+  ascending = all_pairs_push (λ j k. j < k) s.indices i s.ascending (λ k d h. (s.inside (get_or s.indices k d) (Contains-get_or s.indices k d h)).0);
+  inside = λ k c. elim (Contains-last s.indices i k c) [
     | inl h ↦ let q = s.inside k h in let a = q.0 in let b = q.1 in (omega (arith, a), b)
     | inr q ↦ (omega (arith, q), omega (arith, q, l))
   ];
-  are = ap (λ z. z ++ x ∷ []) s.are ∙ ap (λ z. map (point_at A) s.places ++ z ∷ []) e ∙ sym (map-append (point_at A) s.places (i ∷ []));
-  every = λ k h v. elim (place i k) [
-    | less g ↦ first_in s.places i k (s.every k g v)
-    | at g ↦ subst (Contains (s.places ++ i ∷ [])) g (Contains-push s.places i)
+  are = ap (λ z. z ++ x ∷ []) s.are ∙ ap (λ z. map (point_at A) s.indices ++ z ∷ []) e ∙ sym (map-append (point_at A) s.indices (i ∷ []));
+  every = λ k h v. elim (index i k) [
+    | less g ↦ first_in s.indices i k (s.every k g v)
+    | at g ↦ subst (Contains (s.indices ++ i ∷ [])) g (Contains-push s.indices i)
     | more g ↦ absurd (omega (arith, g, h))
   ];
 }
@@ -57,11 +57,11 @@ points_more n A i out x l e s = record {
 pub points_skip : (n : ℕ) (A : List (List ℤ)) (i : ℕ) (out : List (List ℤ)) → (IsVertex n A (point_at A i) → ⊥) → VertexPointsSoFar n A i out →
     VertexPointsSoFar n A (i + 1) out
 points_skip n A i out none s = record {
-  places = s.places;
+  indices = s.indices;
   ascending = s.ascending;
   inside = λ k c. let q = s.inside k c in let a = q.0 in (omega (arith, a), q.1);
   are = s.are;
-  every = λ k h v. elim (place i k) [
+  every = λ k h v. elim (index i k) [
     | less g ↦ s.every k g v
     | at g ↦ absurd (none (subst (λ z. IsVertex n A (point_at A z)) (sym g) v))
     | more g ↦ absurd (omega (arith, g, h))
@@ -70,7 +70,7 @@ points_skip n A i out none s = record {
 
 pub points_all : (n : ℕ) (A : List (List ℤ)) (i : ℕ) (out : List (List ℤ)) → length A ≤ i → VertexPointsSoFar n A i out → AreVertexPoints n A out
 points_all n A i out l s = record {
-  places = s.places;
+  indices = s.indices;
   ascending = s.ascending;
   inside = λ k c. (s.inside k c).1;
   are = s.are;

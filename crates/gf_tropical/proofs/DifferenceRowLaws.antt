@@ -127,7 +127,7 @@ of_systems kind n set i h l s = record {
 -- the points of vertices are points
 vertex_in : (n : ℕ) (A B : List (List ℤ)) (x : List ℤ) → AreVertexPoints n A B → Contains B x → Contains A x
 vertex_in n A B x v k =
-    let y = of_map (point_at A) v.places x (subst (λ (z : List (List ℤ)). Contains z x) v.are k) in
+    let y = of_map (point_at A) v.indices x (subst (λ (z : List (List ℤ)). Contains z x) v.are k) in
     subst (Contains A) y.1.1 (Contains-get_or A y.0 [] (v.inside y.0 y.1.0))
 
 -- cones that are cut by the points of vertices of one of the polynomials

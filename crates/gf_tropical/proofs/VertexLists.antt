@@ -15,7 +15,7 @@ use Rattle.gf_patterns_theory.specs.Laws.{VerticesSuffice}
 use Rattle.gf_patterns_theory.proofs.PatternFanLaws.{single_wide}
 use Rattle.gf_patterns_theory.proofs.PointLaws.{points_wide, length-points}
 use Rattle.gf_duality_theory.specs.Faces.{Rows}
-use Rattle.gf_duality_theory.proofs.ListLaws.{none_in, first_in, place, less, at, more}
+use Rattle.gf_duality_theory.proofs.ListLaws.{none_in, first_in, index, less, at, more}
 use Rattle.gf_patterns_theory.specs.PatternRows.{point_at, single_rows, pair_rows}
 use Rattle.gf_patterns_theory.specs.Vertices.{IsVertex, AreVertexCones, AreVertexPairCones}
 use Rattle.gf_tropical.specs.VertexLists.{AreVertexFlags, HaveVertexFlags, VerticesSoFar, VertexPairsSoFar}
@@ -24,7 +24,7 @@ pub vertices_more : (n : ℕ) (A : List (List ℤ)) (i : ℕ) (cones : List Rows
     VerticesSoFar n A (i + 1) (cones ++ c ∷ [])
 vertices_more n A i cones c l e s = record {
   each = λ d k. elim (Contains-last cones c d k) [ inl x ↦ s.each d x | inr q ↦ (i, (l, q ∙ e)) ];
-  every = λ k h v. elim (place i k) [
+  every = λ k h v. elim (index i k) [
     | less g ↦ first_in cones c (single_rows A k) (s.every k g v)
     | at g ↦ subst (λ z. Contains (cones ++ c ∷ []) (single_rows A z)) g (subst (Contains (cones ++ c ∷ [])) e (Contains-push cones c))
     | more g ↦ absurd (omega (arith, g, h))
@@ -35,7 +35,7 @@ pub vertices_skip : (n : ℕ) (A : List (List ℤ)) (i : ℕ) (cones : List Rows
     VerticesSoFar n A (i + 1) cones
 vertices_skip n A i cones none s = record {
   each = s.each;
-  every = λ k h v. elim (place i k) [
+  every = λ k h v. elim (index i k) [
     | less g ↦ s.every k g v
     | at g ↦ absurd (none (subst (λ z. IsVertex n A (point_at A z)) (sym g) v))
     | more g ↦ absurd (omega (arith, g, h))
@@ -57,7 +57,7 @@ vertex_pairs_more n A i j cones c l m e s = record {
   each = λ d k. elim (Contains-last cones c d k) [ inl x ↦ s.each d x | inr q ↦ (i, j, (l, m, q ∙ e)) ];
   every = λ a b la mb q v u. elim q [
     | inl h ↦ first_in cones c (pair_rows A a b) (s.every a b la mb (inl h) v u)
-    | inr h ↦ elim (place j b) [
+    | inr h ↦ elim (index j b) [
       | less g ↦ first_in cones c (pair_rows A a b) (s.every a b la mb (inr (h.0, g)) v u)
       | at g ↦ subst (λ z. Contains (cones ++ c ∷ []) (pair_rows A a z)) g (subst (λ z. Contains (cones ++ c ∷ []) (pair_rows A z j)) (sym h.0)
           (subst (Contains (cones ++ c ∷ [])) e (Contains-push cones c)))
@@ -72,7 +72,7 @@ vertex_pairs_skip n A i j cones none s = record {
   each = s.each;
   every = λ a b la mb q v u. elim q [
     | inl h ↦ s.every a b la mb (inl h) v u
-    | inr h ↦ elim (place j b) [
+    | inr h ↦ elim (index j b) [
       | less g ↦ s.every a b la mb (inr (h.0, g)) v u
       | at g ↦ absurd (none (subst (λ z. IsVertex n A (point_at A z)) h.0 v) (subst (λ z. IsVertex n A (point_at A z)) (sym g) u))
       | more g ↦ let k = h.1 in absurd (omega (arith, g, k))
@@ -85,7 +85,7 @@ pub vertex_pairs_next : (n : ℕ) (A : List (List ℤ)) (i j : ℕ) (cones : Lis
 vertex_pairs_next n A i j cones l s = record {
   each = s.each;
   every = λ a b la mb q. elim q [
-    | inl h ↦ elim (place i a) [
+    | inl h ↦ elim (index i a) [
       | less g ↦ s.every a b la mb (inl g)
       | at g ↦ s.every a b la mb (inr (sym g, omega (arith, l, mb)))
       | more g ↦ absurd (omega (arith, g, h))
@@ -108,7 +108,7 @@ pub flags_more : (n : ℕ) (A : List (List ℤ)) (i : ℕ) (flags new : List Boo
     AreVertexFlags n A i flags → AreVertexFlags n A (i + 1) new
 flags_more n A i flags new b v e f = subst (AreVertexFlags n A (i + 1)) (sym e) (record {
   long = length-append flags (b ∷ []) ∙ ap (λ z. z + 1) f.long;
-  each = λ k l u. elim (place i k) [
+  each = λ k l u. elim (index i k) [
     | less g ↦ (let e = f.long in get_or_append_left flags (b ∷ []) false k (omega (arith, e, g))) ∙ f.each k g u
     | at g ↦ ap (λ z. get_or (flags ++ b ∷ []) z false) (sym g ∙ sym f.long) ∙ last_of flags b ∙ told b (v (subst (λ z. IsVertex n A (point_at A z)) (sym g) u))
     | more g ↦ absurd (omega (arith, g, l))

@@ -39,7 +39,7 @@ fn with_point(
     i: usize,
     known: Vec<IntVec>,
 ) -> Result<Vec<IntVec>, AllocError>
-    requires place { i < length terms.now }
+    requires index { i < length terms.now }
     requires variables { HasVariables n terms.now }
     requires flags { HaveVertexFlags n (points terms.now) flags.now }
     ensures { IfOk result (λ out. VertexPointsSoFar n (points terms.now) i known.items → VertexPointsSoFar n (points terms.now) (i + 1) out.items) }

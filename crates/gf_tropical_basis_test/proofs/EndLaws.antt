@@ -2,7 +2,7 @@
 use Rattle.std.proofs.Common.{◌≡◌, ℕ, List, map, All, subst}
 use Rattle.gf_int_theory.proofs.ListLaws.{all_by}
 use Rattle.gf_poly.specs.Polynomial.{Terms, HasVariables}
-use Rattle.gf_buchberger.specs.Jobs.{HaveRingVariables}
+use Rattle.gf_buchberger.specs.Tasks.{HaveRingVariables}
 use Rattle.gf_fan.specs.FanLists.{FanLists}
 use Rattle.gf_patterns_theory.specs.Patterns.{points}
 use Rattle.gf_tropical.specs.TropicalFans.{IsPrevarietyFan}

@@ -5,8 +5,8 @@ use Rattle.gf_exponents_theory.specs.SixOrders.{MonomialOrder}
 use Rattle.gf_poly.specs.Polynomial.{Terms}
 use Rattle.gf_poly.specs.Marking.{MarkedPolynomial, MarkedPolynomials}
 use Rattle.gf_gordan.specs.Alternative.{GordansAlternative}
-use Rattle.gf_buchberger.specs.Jobs.{HaveRingVariables, HaveOneDegree, IsSuited}
-use Rattle.gf_buchberger.proofs.JobLaws.{orders_that_suit, ring_variables}
+use Rattle.gf_buchberger.specs.Tasks.{HaveRingVariables, HaveOneDegree, IsSuited}
+use Rattle.gf_buchberger.proofs.TaskLaws.{orders_that_suit, ring_variables}
 use Rattle.gf_fan.specs.FanLists.{FanLists}
 use Rattle.gf_refine.specs.Laws.{FansAreConeLists}
 use Rattle.gf_patterns_theory.specs.Patterns.{points}

@@ -15,7 +15,7 @@ use Rattle.gf_tree.specs.Parents.{IsRootFor}
 use Rattle.gf_tree.specs.Walks.{Walk, ideal_at, walk_at}
 use Rattle.gf_tree.specs.Steps.{IsStepTo, IsEnd, HasGiven}
 use Rattle.gf_tree.specs.Refusals.{IsTreeRefusal}
-use Rattle.gf_flip.specs.declared.error.TreeError.{TreeError}
+use Rattle.gf_tree.specs.TreeError.{TreeError}
 use Rattle.gf_tree.proofs.RefusalLaws.{refusal_moved, refusal_beside}
 use Rattle.gf_tree.proofs.ListingLaws.{given_none, given_more, refusal_given, all_listed, part_listed}
 use Rattle.gf_initial_monomials.specs.Outcomes.{IsReached}
@@ -77,7 +77,7 @@ longer (c ∷ done) rest b = omega (arith, longer done rest b)
 reached_after : (P : MarkedPolynomials → Type 0) (done rest : List MarkedPolynomials) (b : MarkedPolynomials) →
     ((c : MarkedPolynomials) → Contains done c → P c) → IsReached P ((done ++ b ∷ []) ++ rest) b
 reached_after P done rest b h = record {
-  place = length done;
+  index = length done;
   inside = longer done rest b;
   here = stands done rest b;
   earlier = λ c k. h c (subst (λ (z : List MarkedPolynomials). Contains z c) (taken done rest b) k);

@@ -6,3 +6,6 @@ pub mod Refusals  -- why there is no verdict
 pub mod Starts  -- the basis at which the search starts
 pub mod Limits  -- when the only possible error is that memory runs out
 pub mod Laws  -- the theorem that a function of this crate names
+pub use Rattle.gf_tree.specs.TreeError
+pub use Rattle.gf_binomial_calls_theory.specs.Written
+pub use Rattle.gf_binomial_calls_theory.specs.Sets

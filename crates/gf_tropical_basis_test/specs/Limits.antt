@@ -15,7 +15,7 @@ use Rattle.gf_facets_theory.specs.Normals.{AreNormals}
 use Rattle.gf_reverse_theory.specs.Upward.{IsNodeIn}
 use Rattle.gf_tree.specs.Ideals.{ideal_by}
 use Rattle.gf_tree.specs.Refusals.{IsTreeWithinLimits}
-use Rattle.gf_flip.specs.declared.error.TreeError.TheVariants as tree
+use Rattle.gf_tree.specs.TreeError.TheVariants as tree
 use Rattle.gf_initial_monomials.specs.Limits.{AreFacesWithinLimits, IsMemoryWanted}
 use Rattle.gf_tropical_basis_test.specs.declared.error.BasisTestError.{BasisTestError}
 use Rattle.gf_tropical_basis_test.specs.declared.error.BasisTestError.TheVariants.{Prevariety, Root, Search, Initial, Memory}

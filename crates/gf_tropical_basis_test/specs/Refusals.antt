@@ -16,7 +16,7 @@ use Rattle.gf_facets_theory.specs.Normals.{AreNormals}
 use Rattle.gf_reverse_theory.specs.Lists.{IsListFor}
 use Rattle.gf_tree.specs.Ideals.{ideal_by}
 use Rattle.gf_tree.specs.Refusals.{IsTreeRefusal}
-use Rattle.gf_flip.specs.declared.error.TreeError.{TreeError}
+use Rattle.gf_tree.specs.TreeError.{TreeError}
 use Rattle.gf_initial_monomials.specs.declared.error.InitialError.{InitialError}
 use Rattle.gf_initial_monomials.specs.declared.error.InitialError.TheVariants as initial
 use Rattle.gf_initial_monomials.specs.Outcomes.{IsReached, HasOutcome}

@@ -47,8 +47,8 @@ fn at_cones(
     ensures err { IfErr result (IsRefusedWithBasis basis.now.variables (maximal_rows fan.now) basis.now.items pairs) }
 {
     let mut seen = Seen::new(alloc, basis.variables());
-    let places = fan.maximal();
-    'places: for i in 0..places.len() {
+    let indices = fan.maximal();
+    'indices: for i in 0..indices.len() {
         let maximal = maximal_cone(fan, i);
         let found = at_cone(
             alloc,

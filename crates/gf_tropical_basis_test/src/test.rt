@@ -1,7 +1,7 @@
 //! Whether polynomials are a tropical basis.
 ghost use Rattle.std.specs.Prelude.{◌≡◌, ◌<◌, ◌^◌, ℕ, All, Err, IfOk, IfErr, length};
 ghost use Rattle.gf_poly.specs.Polynomial.{HasVariables};
-ghost use Rattle.gf_buchberger.specs.Jobs.{HaveRingVariables, HaveOneDegree};
+ghost use Rattle.gf_buchberger.specs.Tasks.{HaveRingVariables, HaveOneDegree};
 ghost use Rattle.gf_tropical.specs.Refusals.{IsFirstZeroPolynomial};
 ghost use Rattle.gf_tropical.specs.declared.error.TropicalError.TheVariants.{ZeroPolynomial};
 ghost use Rattle.gf_tropical_basis_test.specs.declared.error.BasisTestError.TheVariants.{Prevariety};

@@ -9,7 +9,7 @@ dot [] ys = pos 0
 dot (x ∷ xs) [] = pos 0
 dot (x ∷ xs) (y ∷ ys) = x *ℤ y +ℤ dot xs ys
 
--- the entry at a place, and 0 past the end
+-- the entry at an index, and 0 past the end
 abbrev pub entry_at : List ℤ → ℕ → ℤ
 entry_at xs j = slice_index_or xs j (pos 0)
 

@@ -4,19 +4,19 @@ use Rattle.std.proofs.Common.{◌≡◌, ℕ, zero, suc, ◌+◌, ◌-◌, ◌*�
 use Rattle.std.proofs.Common.{append-nil, Option, Some, None, Ok, Err}
 use Rattle.std.specs.declared.result.Result.{Result}
 use Rattle.gf_reverse_search.specs.Path.{IsPath, IsStrictOrder, IsTree}
-use Rattle.gf_reverse_search.specs.Place.{Place}
+use Rattle.gf_reverse_search.specs.Standing.{Standing}
 use Rattle.gf_reverse_search.specs.Listing.{Among, LeadTo, Leaves, IsLeftAt}
 use Rattle.gf_reverse_search.specs.Pieces.{PiecesLeave}
 use Rattle.gf_reverse_search.specs.declared.expand.Piece.{Piece}
 use Rattle.gf_reverse_search.specs.declared.expand.Piece.TheVariants.{Ready, Under, Refused}
 use Rattle.gf_reverse_search.proofs.PiecesLaws.{expansion_leaves}
 use Rattle.gf_waves.specs.Wave.{IsWaved, IsExpansion, ExpandsOn, IsGiven, IsAsked, IsReadied, IsAfter}
-use Rattle.gf_waves.specs.Frontier.{due_at, room_at, times_at, first_job, behind_job}
+use Rattle.gf_waves.specs.Frontier.{due_at, room_at, times_at, first_batch, behind_batch}
 use Rattle.gf_reverse_search.specs.Walk.{IsOver}
 use Rattle.gf_reverse_search.proofs.ListLaws.{gives}
 
 -- the pieces of two rows, one after the other
-leave_both : {T N L E : Type 0} (left : Place T N L → List N → Type 0) (ps qs : List (Piece T N L E)) (front back : List N) → PiecesLeave left ps front →
+leave_both : {T N L E : Type 0} (left : Standing T N L → List N → Type 0) (ps qs : List (Piece T N L E)) (front back : List N) → PiecesLeave left ps front →
     PiecesLeave left qs back → PiecesLeave left (ps ++ qs) (front ++ back)
 leave_both left [] qs front back a b = subst (λ f. PiecesLeave left qs (f ++ back)) (sym a) b
 leave_both left (Ready v ∷ ps) qs front back a b = (a.0 ++ back, ap (λ f. f ++ back) a.1, leave_both left ps qs a.0 back a.2 b)
@@ -35,9 +35,9 @@ leave_both left (Refused w e ∷ ps) qs front back a b = (
   leave_both left ps qs a.1 back a.4 b,
 )
 
--- the pieces of a job, and then those behind it
-cut_leaves : {T N L E : Type 0} (left : Place T N L → List N → Type 0) (c m : ℕ) (ps : List (Piece T N L E)) (nodes : List N) → PiecesLeave left ps nodes →
-    (front : List N) × (back : List N) × (nodes ≡ front ++ back) × PiecesLeave left (first_job c m ps) front × PiecesLeave left (behind_job c m ps) back
+-- the pieces of a batch, and then those behind it
+cut_leaves : {T N L E : Type 0} (left : Standing T N L → List N → Type 0) (c m : ℕ) (ps : List (Piece T N L E)) (nodes : List N) → PiecesLeave left ps nodes →
+    (front : List N) × (back : List N) × (nodes ≡ front ++ back) × PiecesLeave left (first_batch c m ps) front × PiecesLeave left (behind_batch c m ps) back
 cut_leaves left zero m ps nodes l = ([], nodes, refl, refl, l)
 cut_leaves left (suc c) zero ps nodes l = ([], nodes, refl, refl, l)
 cut_leaves left (suc c) (suc m) [] nodes l = ([], nodes, refl, refl, l)
@@ -49,13 +49,13 @@ cut_leaves left (suc c) (suc m) (Refused w e ∷ ps) nodes l = (let k = cut_leav
     (l.0 ++ k.0, k.1, l.2 ∙ ap (λ r. l.0 ++ r) k.2 ∙ sym (append_assoc l.0 k.0 k.1), (l.0, k.0, refl, l.3, k.3), k.4))
 
 module _ {T N L E : Type 0} (lt : L → L → Type 0) (up : T → N → L → N → Type 0) (strict : IsStrictOrder lt) (trees : (t : T) → IsTree (up t))
-    (refuses : Place T N L → E → Type 0) where
-  one_leaves : (w : Place T N L) (ps : List (Piece T N L E)) → IsExpansion lt up refuses w ps → (nodes : List N) → IsLeftAt lt up w nodes →
+    (refuses : Standing T N L → E → Type 0) where
+  one_leaves : (w : Standing T N L) (ps : List (Piece T N L E)) → IsExpansion lt up refuses w ps → (nodes : List N) → IsLeftAt lt up w nodes →
       PiecesLeave (IsLeftAt lt up) ps nodes
   one_leaves w ps (inl h) nodes l = expansion_leaves lt up strict trees refuses 1 w ps h nodes l
   one_leaves w ps (inr h) nodes l = subst (λ k. PiecesLeave (IsLeftAt lt up) k nodes) (sym h.1) (nodes, [], sym (append-nil nodes), l, refl)
 
-  -- a job leaves what was left
+  -- a batch leaves what was left
   on_leaves : (k n : ℕ) (olds : List (Piece T N L E)) (j i : ℕ) (news : List (Piece T N L E)) → ExpandsOn lt up refuses k n olds j i news → (nodes : List N) →
       PiecesLeave (IsLeftAt lt up) olds nodes → PiecesLeave (IsLeftAt lt up) news nodes
   on_leaves zero n olds j i news h nodes l = subst (λ r. PiecesLeave (IsLeftAt lt up) r nodes) (sym h.0) l
@@ -69,21 +69,21 @@ module _ {T N L E : Type 0} (lt : L → L → Type 0) (up : T → N → L → N 
   on_leaves (suc k) (suc (suc n)) (Refused w e ∷ ps) j i news h nodes l = subst (λ r. PiecesLeave (IsLeftAt lt up) r nodes) (sym h.0) l
 
   -- a wave leaves what was left
-  pub waved_leaves : (m : ℕ) (jobs : List (ℕ × ℕ)) (olds news : List (Piece T N L E)) → IsWaved lt up refuses m jobs olds news → (nodes : List N) →
+  pub waved_leaves : (m : ℕ) (batches : List (ℕ × ℕ)) (olds news : List (Piece T N L E)) → IsWaved lt up refuses m batches olds news → (nodes : List N) →
       PiecesLeave (IsLeftAt lt up) olds nodes → PiecesLeave (IsLeftAt lt up) news nodes
-  waved_leaves zero jobs olds news h nodes l = subst (λ r. PiecesLeave (IsLeftAt lt up) r nodes) (sym h) l
+  waved_leaves zero batches olds news h nodes l = subst (λ r. PiecesLeave (IsLeftAt lt up) r nodes) (sym h) l
   waved_leaves (suc m) [] olds news h nodes l = absurd h
-  waved_leaves (suc m) (b ∷ jobs) olds news h nodes l =
+  waved_leaves (suc m) (b ∷ batches) olds news h nodes l =
       let k = cut_leaves (IsLeftAt lt up) 8 1 olds nodes l in
       subst (λ r. PiecesLeave (IsLeftAt lt up) r nodes) (sym h.4) (subst (PiecesLeave (IsLeftAt lt up) (h.0 ++ h.1)) (sym k.2)
-      (leave_both (IsLeftAt lt up) h.0 h.1 k.0 k.1 (on_leaves b.0 b.1 (first_job 8 1 olds) h.2 h.3 h.0 h.5 k.0 k.3)
-      (waved_leaves m (jobs ++ (h.2, min h.3 56) ∷ []) (behind_job 8 1 olds) h.1 h.6 k.1 k.4)))
+      (leave_both (IsLeftAt lt up) h.0 h.1 k.0 k.1 (on_leaves b.0 b.1 (first_batch 8 1 olds) h.2 h.3 h.0 h.5 k.0 k.3)
+      (waved_leaves m (batches ++ (h.2, min h.3 56) ∷ []) (behind_batch 8 1 olds) h.1 h.6 k.1 k.4)))
 
 -- ---- an answer
 
 module _ {T N L E : Type 0} (lt : L → L → Type 0) (up : T → N → L → N → Type 0) (strict : IsStrictOrder lt) (trees : (t : T) → IsTree (up t))
-    (refuses : Place T N L → E → Type 0) where
-  pub over_leaves : (w : Place T N L) → IsOver lt up w → (nodes : List N) → IsLeftAt lt up w nodes → nodes ≡ []
+    (refuses : Standing T N L → E → Type 0) where
+  pub over_leaves : (w : Standing T N L) → IsOver lt up w → (nodes : List N) → IsLeftAt lt up w nodes → nodes ≡ []
   over_leaves w over nodes l = none l.lists.paths nodes l.lists.lead (λ q j path. over l.top l.path l.at q path (l.lists.only q j))
     where
       none : (ps : List (List L)) (xs : List N) → LeadTo (up w.tree) l.top ps xs → ((q : List L) → Among ps q → IsPath (up w.tree) l.top q → ⊥) → xs ≡ []
@@ -92,7 +92,7 @@ module _ {T N L E : Type 0} (lt : L → L → Type 0) (up : T → N → L → N 
       none (p ∷ ps) [] lead empty = absurd lead
       none (p ∷ ps) (x ∷ xs) lead empty = absurd (empty p (inl refl) (x, lead.0))
 
-  asked_leaves : (w : Place T N L) (ps : List (Piece T N L E)) (answer : Result (Option N) E) (news : List (Piece T N L E)) →
+  asked_leaves : (w : Standing T N L) (ps : List (Piece T N L E)) (answer : Result (Option N) E) (news : List (Piece T N L E)) →
       IsAsked lt up refuses w ps answer news → (nodes : List N) → PiecesLeave (IsLeftAt lt up) (Under w ∷ ps) nodes → IsAfter (IsLeftAt lt up) answer nodes news
   asked_leaves w ps (Ok None) news a nodes l = absurd a
   asked_leaves w ps (Err e) news a nodes l = subst (λ r. PiecesLeave (IsLeftAt lt up) r nodes) (sym a.1) l
@@ -126,9 +126,9 @@ module _ {T N L E : Type 0} (lt : L → L → Type 0) (up : T → N → L → N 
   given_leaves (Under w ∷ ps) answer news (inr h) nodes l =
       given_leaves ps answer news h.1 nodes (subst (λ k. PiecesLeave (IsLeftAt lt up) ps k) (sym (l.2 ∙ ap (λ f. f ++ l.1) (over_leaves w h.0 l.0 l.3))) l.4)
 
-  pub readied_leaves : (workers jobs next : ℕ) (olds worked : List (Piece T N L E)) → IsReadied lt up refuses workers jobs olds next worked → (nodes : List N) →
-      PiecesLeave (IsLeftAt lt up) olds nodes → PiecesLeave (IsLeftAt lt up) worked nodes
-  readied_leaves workers jobs next olds worked (inl h) nodes l =
-      waved_leaves lt up strict trees refuses (due_at workers olds * 12) (replicate (due_at workers olds) (times_at jobs, room_at workers olds))
+  pub readied_leaves : (workers batches next : ℕ) (olds worked : List (Piece T N L E)) → IsReadied lt up refuses workers batches olds next worked →
+      (nodes : List N) → PiecesLeave (IsLeftAt lt up) olds nodes → PiecesLeave (IsLeftAt lt up) worked nodes
+  readied_leaves workers batches next olds worked (inl h) nodes l =
+      waved_leaves lt up strict trees refuses (due_at workers olds * 12) (replicate (due_at workers olds) (times_at batches, room_at workers olds))
       olds worked h.3 nodes l
-  readied_leaves workers jobs next olds worked (inr h) nodes l = subst (λ r. PiecesLeave (IsLeftAt lt up) r nodes) (sym h.2) l
+  readied_leaves workers batches next olds worked (inr h) nodes l = subst (λ r. PiecesLeave (IsLeftAt lt up) r nodes) (sym h.2) l

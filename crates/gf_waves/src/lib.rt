@@ -5,8 +5,8 @@
 //! `specs/Wave.antt`.
 #![tactic(auto)]
 
+mod batch;
 mod gate;
-mod job;
 mod planning;
 mod rows;
 mod serving;

@@ -1,17 +1,17 @@
-//! Cutting a row up into jobs, and putting it together again.
+//! Cutting a row up into batches, and putting it together again.
 ghost use Rattle.std.specs.Prelude.{◌≡◌, ◌<◌, ◌≤◌, ◌+◌, ◌-◌, length, drop, slice_index_or, [], ◌∷◌, ◌++◌, IfOk};
 ghost use Rattle.std.specs.Vec.{vec_capacity};
 ghost use Rattle.std.specs.VecDeque.{deque_capacity};
-ghost use Rattle.gf_waves.specs.Frontier.{behind_job, first_job, renewed, walkers_of};
-ghost use Rattle.gf_waves.specs.Plans.{AreFit, AreFitAt, AreFreeJobs, AreNumbered, AreSpare, IsDealt, IsPlanned, gathered, hands_of, worked_rows};
+ghost use Rattle.gf_waves.specs.Frontier.{behind_batch, first_batch, renewed, walkers_of};
+ghost use Rattle.gf_waves.specs.Plans.{AreFit, AreFitAt, AreFreeBatches, AreNumbered, AreSpare, IsDealt, IsPlanned, gathered, hands_of, worked_rows};
 
-use crate::job::{Job, Slot};
+use crate::batch::{Batch, Slot};
 use crate::rows::{push, put_behind};
 use gf_reverse_search::{Piece, Tree};
 use std::alloc::{AllocError, Global};
 use std::collections::VecDeque;
 
-/// So many places without pieces, each with room for those that it may have.
+/// So many cells without pieces, each with room for those that it may have.
 ///
 /// # Errors
 ///
@@ -30,72 +30,72 @@ pub fn spare_slots<T: Tree>(alloc: Global, count: usize) -> Result<Vec<Slot<T>>,
     Ok(slots)
 }
 
-/// So many jobs without places, each with room for so many and with a row for what is done with, numbered from `first` on. At its last value the number
+/// So many batches without cells, each with room for so many and with a row for what is done with, numbered from `first` on. At its last value the number
 /// stays.
 ///
 /// # Errors
 ///
 /// Want of memory.
-pub fn spare_jobs<T: Tree>(
+pub fn spare_batches<T: Tree>(
     alloc: Global,
     count: usize,
-    places: usize,
+    cells: usize,
     first: u64,
-) -> Result<Vec<Job<T>>, AllocError>
-    ensures free { IfOk result (λ v. AreFreeJobs places v.items) }
+) -> Result<Vec<Batch<T>>, AllocError>
+    ensures free { IfOk result (λ v. AreFreeBatches cells v.items) }
     ensures count { IfOk result (λ v. length v.items ≡ count) }
     ensures numbers { IfOk result (λ v. AreNumbered first v.items) }
     ensures room { IfOk result (λ v. count ≤ vec_capacity v) }
 {
-    let mut jobs = Vec::with_capacity(alloc, count)?;
-    while jobs.len() < count {
-        let slots = Vec::with_capacity(alloc, places)?;
-        let worked = Vec::with_capacity(alloc, places)?;
-        let number = first.saturating_add(jobs.len() as u64);
+    let mut batches = Vec::with_capacity(alloc, count)?;
+    while batches.len() < count {
+        let slots = Vec::with_capacity(alloc, cells)?;
+        let worked = Vec::with_capacity(alloc, cells)?;
+        let number = first.saturating_add(batches.len() as u64);
         let spare = VecDeque::with_capacity(alloc, 64)?;
-        let job = Job {
+        let batch = Batch {
             slots,
             worked,
             number,
             spare,
         };
-        if jobs.push(job).is_err() {
+        if batches.push(batch).is_err() {
             unreachable!();
         }
     }
-    Ok(jobs)
+    Ok(batches)
 }
 
-/// Puts a piece behind those of a job that has room, a walker without its refusal. How many walkers are left of so many.
-fn take<T: Tree>(job: &mut VecDeque<Piece<T>>, piece: Piece<T>, walkers: usize) -> usize
+/// Puts a piece behind those of a batch that has room, a walker without its refusal. How many walkers are left of so many.
+fn take<T: Tree>(batch: &mut VecDeque<Piece<T>>, piece: Piece<T>, walkers: usize) -> usize
     requires some { 0 < walkers }
-    requires room { length job.old.items < deque_capacity job.old }
+    requires room { length batch.old.items < deque_capacity batch.old }
     ensures left { result ≡ walkers - walkers_of piece }
-    ensures items { job.new.items ≡ job.old.items ++ renewed piece ∷ [] }
-    ensures room { deque_capacity job.old ≤ deque_capacity job.new }
+    ensures items { batch.new.items ≡ batch.old.items ++ renewed piece ∷ [] }
+    ensures room { deque_capacity batch.old ≤ deque_capacity batch.new }
 {
     match piece {
         Piece::Ready(node) => {
-            push(job, Piece::Ready(node));
+            push(batch, Piece::Ready(node));
             walkers
         }
         Piece::Under(walker) => {
-            push(job, Piece::Under(walker));
+            push(batch, Piece::Under(walker));
             walkers - 1
         }
         Piece::Refused(walker, _refusal) => {
-            push(job, Piece::Under(walker));
+            push(batch, Piece::Under(walker));
             walkers - 1
         }
     }
 }
 
-/// Takes the pieces of a place out of a row: up to its first walker, and at most eight.
+/// Takes the pieces of a cell out of a row: up to its first walker, and at most eight.
 fn cut<T: Tree>(row: &mut VecDeque<Piece<T>>, slot: &mut VecDeque<Piece<T>>)
     requires empty { slot.old.items ≡ [] }
     requires room { 64 ≤ deque_capacity slot.old }
-    ensures job { slot.new.items ≡ first_job 8 1 row.old.items }
-    ensures rest { row.new.items ≡ behind_job 8 1 row.old.items }
+    ensures batch { slot.new.items ≡ first_batch 8 1 row.old.items }
+    ensures rest { row.new.items ≡ behind_batch 8 1 row.old.items }
     ensures few { length slot.new.items ≤ 8 }
     ensures room { deque_capacity slot.old ≤ deque_capacity slot.new }
 {
@@ -110,7 +110,7 @@ fn cut<T: Tree>(row: &mut VecDeque<Piece<T>>, slot: &mut VecDeque<Piece<T>>)
     }
 }
 
-/// Puts a place behind others, where there is room.
+/// Puts a cell behind others, where there is room.
 fn add<T: Tree>(slots: &mut Vec<Slot<T>>, slot: Slot<T>)
     requires { length slots.old.items < vec_capacity slots.old }
     ensures items { slots.new.items ≡ slots.old.items ++ slot ∷ [] }
@@ -121,7 +121,7 @@ fn add<T: Tree>(slots: &mut Vec<Slot<T>>, slot: Slot<T>)
     }
 }
 
-/// A row cut up for a wave: its first pieces become places, as many as there are spare ones. What is behind stays in the row.
+/// A row cut up for a wave: its first pieces become cells, as many as there are spare ones. What is behind stays in the row.
 pub fn plan<T: Tree>(
     row: &mut VecDeque<Piece<T>>,
     mut spares: Vec<Slot<T>>,
@@ -140,57 +140,57 @@ pub fn plan<T: Tree>(
     }
 }
 
-/// Deals places out to jobs: the first to the first job, the next to the next, and again from the first job on. The last place goes
-/// to the last job.
-pub fn deal<T: Tree>(mut slots: Vec<Slot<T>>, jobs: &mut Vec<Job<T>>)
-    requires some { 0 < length jobs.old.items }
-    requires free { AreFreeJobs (length slots.items) jobs.old.items }
+/// Deals cells out to batches: the first to the first batch, the next to the next, and again from the first batch on. The last cell goes
+/// to the last batch.
+pub fn deal<T: Tree>(mut slots: Vec<Slot<T>>, batches: &mut Vec<Batch<T>>)
+    requires some { 0 < length batches.old.items }
+    requires free { AreFreeBatches (length slots.items) batches.old.items }
     requires fit { AreFit slots.items }
-    ensures dealt { IsDealt slots.items (hands_of jobs.new.items) }
-    ensures fit { AreFitAt jobs.new.items }
-    ensures count { length jobs.new.items ≡ length jobs.old.items }
+    ensures dealt { IsDealt slots.items (hands_of batches.new.items) }
+    ensures fit { AreFitAt batches.new.items }
+    ensures count { length batches.new.items ≡ length batches.old.items }
 {
     while let Some(slot) = slots.pop() {
-        let Some(mut job) = jobs.pop() else {
+        let Some(mut batch) = batches.pop() else {
             unreachable!();
         };
-        if job.slots.insert(0, slot).is_err() {
+        if batch.slots.insert(0, slot).is_err() {
             unreachable!();
         }
-        if jobs.insert(0, job).is_err() {
+        if batches.insert(0, batch).is_err() {
             unreachable!();
         }
     }
 }
 
-/// Puts what the first place of a job became behind a row that has room for it; nothing, where the job has no place any more.
-fn put_next<T: Tree>(job: &mut Job<T>, row: &mut VecDeque<Piece<T>>)
-    requires { length row.old.items + length (slice_index_or (worked_rows job.old) 0 []) ≤ deque_capacity row.old }
-    ensures items { row.new.items ≡ row.old.items ++ slice_index_or (worked_rows job.old) 0 [] }
-    ensures rest { worked_rows job.new ≡ drop 1 (worked_rows job.old) }
+/// Puts what the first cell of a batch became behind a row that has room for it; nothing, where the batch has no cell any more.
+fn put_next<T: Tree>(batch: &mut Batch<T>, row: &mut VecDeque<Piece<T>>)
+    requires { length row.old.items + length (slice_index_or (worked_rows batch.old) 0 []) ≤ deque_capacity row.old }
+    ensures items { row.new.items ≡ row.old.items ++ slice_index_or (worked_rows batch.old) 0 [] }
+    ensures rest { worked_rows batch.new ≡ drop 1 (worked_rows batch.old) }
     ensures room { deque_capacity row.old ≤ deque_capacity row.new }
 {
-    if !job.worked.is_empty() {
-        put_behind(row, job.worked.remove(0));
+    if !batch.worked.is_empty() {
+        put_behind(row, batch.worked.remove(0));
     }
 }
 
-/// So many places of the jobs, as they were dealt out, one after another, and then what is behind.
+/// So many cells of the batches, as they were dealt out, one after another, and then what is behind.
 pub fn merge<T: Tree>(
-    jobs: &mut Vec<Job<T>>,
-    places: usize,
+    batches: &mut Vec<Batch<T>>,
+    cells: usize,
     tail: &mut VecDeque<Piece<T>>,
     row: &mut VecDeque<Piece<T>>,
 )
     requires empty { row.old.items ≡ [] }
-    requires room { length (gathered places jobs.old.items ++ tail.old.items) ≤ deque_capacity row.old }
-    ensures { row.new.items ≡ gathered places jobs.old.items ++ tail.old.items }
+    requires room { length (gathered cells batches.old.items ++ tail.old.items) ≤ deque_capacity row.old }
+    ensures { row.new.items ≡ gathered cells batches.old.items ++ tail.old.items }
 {
-    let mut left = places;
-    while left > 0 && !jobs.is_empty() {
-        let mut job = jobs.remove(0);
-        put_next(&mut job, row);
-        if jobs.push(job).is_err() {
+    let mut left = cells;
+    while left > 0 && !batches.is_empty() {
+        let mut batch = batches.remove(0);
+        put_next(&mut batch, row);
+        if batches.push(batch).is_err() {
             unreachable!();
         }
         left -= 1;

@@ -35,7 +35,7 @@ fn ready<T: Tree>(row: &VecDeque<Piece<T>>) -> usize
         .count()
 }
 
-/// How many jobs are due in a wave over a row: one for each worker, no more than leave each four places, and no more than there are
+/// How many batches are due in a wave over a row: one for each worker, no more than leave each four cells, and no more than there are
 /// walkers.
 fn due<T: Tree>(workers: u32, row: &VecDeque<Piece<T>>) -> usize
     requires workers { workers ≤ 64 }
@@ -49,7 +49,7 @@ fn due<T: Tree>(workers: u32, row: &VecDeque<Piece<T>>) -> usize
     (workers as usize).min(free / 4).min(walkers)
 }
 
-/// How many pieces each job may add: at most 56, and no more than its share of the free places.
+/// How many pieces each batch may add: at most 56, and no more than its share of the free cells.
 fn room<T: Tree>(workers: u32, row: &VecDeque<Piece<T>>, due: usize) -> usize
     requires workers { workers ≤ 64 }
     requires some { 0 < due }
@@ -63,11 +63,11 @@ fn room<T: Tree>(workers: u32, row: &VecDeque<Piece<T>>, due: usize) -> usize
     (free / due).min(56)
 }
 
-/// How many expansions each job makes: eight, and sixteen for each job before, of which 16 count at most.
-fn times(jobs: u64) -> usize
-    ensures is { result ≡ times_at jobs }
+/// How many expansions each batch makes: eight, and sixteen for each batch before, of which 16 count at most.
+fn times(batches: u64) -> usize
+    ensures is { result ≡ times_at batches }
 {
-    jobs.min(16) as usize * 16 + 8
+    batches.min(16) as usize * 16 + 8
 }
 
 /// The refusal that stands for want of memory. Any call of any tree may be refused so.
@@ -88,7 +88,7 @@ pub fn work_off<R: Threads + Sync, T: ReusingTree + Send, G: Gate>(
     gate: &G,
     row: &mut VecDeque<Piece<T>>,
     workers: u32,
-    jobs: &mut u64,
+    batches: &mut u64,
 ) -> Result<(), AllocError>
 where
     T::Node: Send,
@@ -96,10 +96,10 @@ where
     T::Error: Send,
     T::Store: Send,
     requires { IsHeld (RefusesAt T.up T.refuses) workers row.old.items }
-    ensures worked { OnOk result (IsReadied T.before T.up (RefusesAt T.up T.refuses) workers jobs.old row.old.items jobs.new row.new.items) }
+    ensures worked { OnOk result (IsReadied T.before T.up (RefusesAt T.up T.refuses) workers batches.old row.old.items batches.new row.new.items) }
     ensures held { IsHeld (RefusesAt T.up T.refuses) workers row.new.items }
     ensures unchanged { OnErr result (row.new.items ≡ row.old.items) }
-    ensures uncounted { OnErr result (jobs.new ≡ jobs.old) }
+    ensures uncounted { OnErr result (batches.new ≡ batches.old) }
     ensures starved { OnErr result (is_served row.old.items ≡ false) }
     ensures due { OnErr result (0 < due_at workers row.old.items) }
 {
@@ -111,7 +111,7 @@ where
         return Ok(());
     }
     let room = room(workers, row, due);
-    wave(rt, gate, row, workers, due, times(*jobs), room, jobs)
+    wave(rt, gate, row, workers, due, times(*batches), room, batches)
 }
 
 /// Takes the first node out of a row: the node that is ready in front, or the next node of the walker in front. A walker that has no node left is
@@ -155,8 +155,8 @@ fn give_first<T: Tree>(row: &mut VecDeque<Piece<T>>) -> Result<Option<T::Node>, 
 pub fn give<T: Tree>(row: &mut VecDeque<Piece<T>>) -> Result<Option<T::Node>, T::Error>
     requires { AreRefusals (RefusesAt T.up T.refuses) row.old.items }
     ensures given { IsGiven T.before T.up (RefusesAt T.up T.refuses) row.old.items result row.new.items }
-    ensures list { (workers jobs next : ℕ) (olds : List (Piece T T.Node T.Label T.Error)) (nodes : List T.Node) →
-        IsReadied T.before T.up (RefusesAt T.up T.refuses) workers jobs olds next row.old.items → PiecesLeave (IsLeftAt T.before T.up) olds nodes →
+    ensures list { (workers batches next : ℕ) (olds : List (Piece T T.Node T.Label T.Error)) (nodes : List T.Node) →
+        IsReadied T.before T.up (RefusesAt T.up T.refuses) workers batches olds next row.old.items → PiecesLeave (IsLeftAt T.before T.up) olds nodes →
         IsAfter (IsLeftAt T.before T.up) result nodes row.new.items }
     ensures few { length row.new.items ≤ length row.old.items }
     ensures refusals { AreRefusals (RefusesAt T.up T.refuses) row.new.items }

@@ -23,7 +23,7 @@ use std::thread::Threads;
 pub struct Waves<'g, T: Tree, G: Gate> {
     row: VecDeque<Piece<T>>,
     workers: u32,
-    jobs: u64,
+    batches: u64,
     gate: &'g G,
 }
 
@@ -33,13 +33,13 @@ impl<'g, T: Tree, G: Gate> Model for Waves<'g, T, G> {
 
     ghost Value = { Frontier T T.Node T.Label T.Error };
 
-    ghost view = { λ w. record { workers = w.workers; jobs = w.jobs; pieces = w.row.items } };
+    ghost view = { λ w. record { workers = w.workers; batches = w.batches; pieces = w.row.items } };
 
     ghost invariant = { λ w. IsHeld (RefusesAt T.up T.refuses) w.workers w.row.items };
 }
 
 impl<'g, T: Tree, G: Gate> Waves<'g, T, G> {
-    /// The waves over all that is below a node, itself the first: it is ready without a job.
+    /// The waves over all that is below a node, itself the first: it is ready without a batch.
     ///
     /// # Errors
     ///
@@ -56,7 +56,7 @@ impl<'g, T: Tree, G: Gate> Waves<'g, T, G> {
         requires most { workers ≤ 64 }
         ensures start { IfOk result (λ w. w ≡ record {
           workers = workers;
-          jobs = 0;
+          batches = 0;
           pieces = Ready root ∷ Under (record { tree = tree; here = root; mark = Listed; depth = 0 }) ∷ [];
         }) }
         ensures list { IfOk result (λ w. (nodes : List T.Node) → Leaves T.before (T.up tree) Before root 0 nodes →
@@ -73,7 +73,7 @@ impl<'g, T: Tree, G: Gate> Waves<'g, T, G> {
         Ok(Waves {
             row,
             workers,
-            jobs: 0,
+            batches: 0,
             gate,
         })
     }
@@ -91,7 +91,7 @@ impl<'g, T: Tree, G: Gate> Waves<'g, T, G> {
     ) -> Result<Self, T::Error>
         requires some { 1 ≤ workers }
         requires most { workers ≤ 64 }
-        ensures start { IfOk result (λ w. w ≡ record { workers = workers; jobs = 0; pieces = Under walker ∷ [] }) }
+        ensures start { IfOk result (λ w. w ≡ record { workers = workers; batches = 0; pieces = Under walker ∷ [] }) }
         ensures list { IfOk result (λ w. (nodes : List T.Node) → IsLeftAt T.before T.up walker nodes → PiecesLeave (IsLeftAt T.before T.up) w.pieces nodes) }
         ensures memory { IfErr result T.is_memory }
     {
@@ -103,7 +103,7 @@ impl<'g, T: Tree, G: Gate> Waves<'g, T, G> {
         Ok(Waves {
             row,
             workers,
-            jobs: 0,
+            batches: 0,
             gate,
         })
     }
@@ -115,7 +115,7 @@ impl<'g, T: Tree, G: Gate> Waves<'g, T, G> {
         self.workers
     }
 
-    /// Whether a node is ready in front, or nothing is left: the next call runs no job.
+    /// Whether a node is ready in front, or nothing is left: the next call runs no batch.
     pub fn is_served(&self) -> bool
         ensures { result ≡ is_served self.now.pieces }
     {
@@ -151,9 +151,9 @@ where
     T::Error: Send,
     T::Store: Send,
 {
-    /// The next node of the list, whichever job came back first; none where nothing is left, and from then on.
+    /// The next node of the list, whichever batch came back first; none where nothing is left, and from then on.
     ///
-    /// Where no node is ready in front and there is room, a wave of jobs is run on `rt`. Where none is ready after that, the walker in
+    /// Where no node is ready in front and there is room, a wave of batches is run on `rt`. Where none is ready after that, the walker in
     /// front is asked.
     ///
     /// # Errors
@@ -168,7 +168,13 @@ where
         ensures workers { self.new.workers ≡ self.old.workers }
         ensures bound { length self.new.pieces ≤ (self.new.workers + 1) * 128 }
     {
-        if let Err(refused) = work_off(rt, self.gate, &mut self.row, self.workers, &mut self.jobs) {
+        if let Err(refused) = work_off(
+            rt,
+            self.gate,
+            &mut self.row,
+            self.workers,
+            &mut self.batches,
+        ) {
             return Err(no_memory::<T>(refused));
         }
         give(&mut self.row)

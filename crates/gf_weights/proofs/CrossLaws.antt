@@ -27,7 +27,7 @@ use Rattle.gf_cone.proofs.CrossingLaws.{in_all, solution_of_shown}
 use Rattle.gf_weights.specs.Cuts.{HasRaysOf, IsZeroAt, HasRayOff, HasRayOffOthers}
 use Rattle.gf_rays.proofs.FacetLaws.{row_in}
 
--- that at another place is one of the others
+-- that at another index is one of the others
 other_row : (ns beside : List (List ℤ)) (i k : ℕ) → i < length ns → k < length (ns ++ beside) → (k ≡ i → ⊥) →
     Contains (others_of i ns ++ beside) (get_or (ns ++ beside) k [])
 other_row [] beside i k l m d = absurd (omega (arith, l))

@@ -63,6 +63,6 @@ witness_is n j bs c r a v k e = record {
   sum = e ∙ ap (λ (m : ℕ). sum_of m (zeros_of a r.rays)) (ambient_is n j bs c r k);
 }
 
--- the row of the cone at the place of a normal is this normal
+-- the row of the cone at the index of a normal is this normal
 pub normal_row : (c : ConeRows) (r : RowsAndRays) (i : ℕ) → HasRaysOf c r → i < length c.normals → get_or r.inequalities i [] ≡ normal_at c i
 normal_row c r i k l = ap (λ (z : List (List ℤ)). get_or z i []) k.rows ∙ get_or-append c.normals c.beside [] i l

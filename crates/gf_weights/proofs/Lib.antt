@@ -3,7 +3,7 @@ mod CrossLaws  -- facets that a flip may cross, by rays
 pub mod WeightLaws  -- printed weights and witnesses
 pub mod UniqueLaws  -- there is one of each
 mod RefusalLaws  -- what a refusal says
-mod FacetLoop  -- the loop over normals, one place further
+mod FacetLoop  -- the loop over normals, one index further
 pub mod RaysExist  -- a cone that is cut has its rays, and a marked list its normals
 pub mod WitnessesExist  -- and its weight and witnesses
 mod LawsHold  -- what functions of this crate name

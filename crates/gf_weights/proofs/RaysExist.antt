@@ -445,7 +445,7 @@ less_of x y b = at (slice_cmp int_cmp x y) (vectors_compare x y)
     at Equal h = absurd (before_strict.irreflexive x (subst (IsBefore x) (sym h) b))
     at Greater h = absurd (before_strict.irreflexive x (before_strict.transitive x y x b h))
 
--- two places of an ascending list have different vectors
+-- two indices of an ascending list have different vectors
 different : (xs : List (List ℤ)) (i j : ℕ) → Ascends xs → i < length xs → j < length xs → (i ≡ j → ⊥) → get_or xs i [] ≡ get_or xs j [] → ⊥
 different xs i j p hi hj ne e = elim (cases_lt i j) [
   | inl l ↦ before_strict.irreflexive (get_or xs j []) (subst (λ (t : List ℤ). IsBefore t (get_or xs j [])) e (ascends_at xs i j p l hj))

@@ -40,20 +40,20 @@ not_empty n rows k ms p f =
     (solved n rows k.root k.root (subst (λ (rs : List (List ℤ)). IsInRegion n (record { rows = rs; root = k.root }) k.root) p.same p.region.root)) f
 
 -- the entry that is too great is an entry
-at_place : (r : List ℤ) (i : ℕ) → All (λ x. x <ℤ pos (2 ^ 63)) r → i < length r → get_or r i (pos 0) <ℤ pos (2 ^ 63)
-at_place r i a l = a i (pos 0) l
+at_index : (r : List ℤ) (i : ℕ) → All (λ x. x <ℤ pos (2 ^ 63)) r → i < length r → get_or r i (pos 0) <ℤ pos (2 ^ 63)
+at_index r i a l = a i (pos 0) l
 
 not_wide : (n : ℕ) (rows : List (List ℤ)) (k : Region) (i : ℕ) (x : ℤ) → IsRegionOf n rows k → IsRegionRefusal n rows (region_errors.WideRoot i x) → ⊥
 not_wide n rows k i x p w =
     let one : w.1.0 ≡ k.root = one_root n (rows ++ units n n) w.1.0 k.root w.1.1 p.root in
     let f : IsFirstPast k.root i = subst (λ (r : List ℤ). IsFirstPast r i) one w.1.2 in
-    let low = at_place k.root i p.small f.inside in
+    let low = at_index k.root i p.small f.inside in
     let high = f.past in
     absurd (omega (arith, ints, low, high))
 
 -- one is the first
-same_place : (r : List ℤ) (i j : ℕ) → IsFirstPast r i → IsFirstPast r j → i ≡ j
-same_place r i j p q = elim (cases_lt i j) [
+same_index : (r : List ℤ) (i j : ℕ) → IsFirstPast r i → IsFirstPast r j → i ≡ j
+same_index r i j p q = elim (cases_lt i j) [
   | inl l ↦ let low = q.before i l in let high = p.past in absurd (omega (arith, ints, low, high))
   | inr m ↦ elim (cases_lt j i) [
     | inl l ↦ let low = p.before j l in let high = q.past in absurd (omega (arith, ints, low, high))
@@ -65,8 +65,8 @@ same_wide : (n : ℕ) (rows : List (List ℤ)) (i j : ℕ) (x y : ℤ) → IsReg
     IsRegionRefusal n rows (region_errors.WideRoot j y) → (i ≡ j) × (x ≡ y)
 same_wide n rows i j x y p q =
     let one : p.1.0 ≡ q.1.0 = one_root n (rows ++ units n n) p.1.0 q.1.0 p.1.1 q.1.1 in
-    let place : i ≡ j = same_place q.1.0 i j (subst (λ (r : List ℤ). IsFirstPast r i) one p.1.2) q.1.2 in
-    (place, p.1.3 ∙ ap₂ (λ (r : List ℤ) (k : ℕ). get_or r k (pos 0)) one place ∙ sym q.1.3)
+    let index : i ≡ j = same_index q.1.0 i j (subst (λ (r : List ℤ). IsFirstPast r i) one p.1.2) q.1.2 in
+    (index, p.1.3 ∙ ap₂ (λ (r : List ℤ) (k : ℕ). get_or r k (pos 0)) one index ∙ sym q.1.3)
 
 pub regions_are_one : RegionsAreOne
 regions_are_one = record {

@@ -13,7 +13,7 @@ use Rattle.gf_facets_theory.specs.Facets.{IsFlippable}
 use Rattle.gf_facets_theory.proofs.AscendingLaws.{same_ascending}
 use Rattle.gf_duality_theory.proofs.ListLaws.{none_in, in_tail, in_cons}
 use Rattle.gf_weights.specs.declared.certificates.FacetWitness.{FacetWitness}
-use Rattle.gf_weights.specs.declared.certificates.Certificates.{Certificates}
+use Rattle.gf_weights.specs.declared.certificates.BasisCertificates.{BasisCertificates}
 use Rattle.gf_weights.specs.Weights.{AreCutRows, AreCutRays, IsWeightIn, IsWitnessIn, AreWitnessedIn, AreCertificatesIn, normals_of}
 
 one_rows : (n : ℕ) (j : Region) (bs : List MarkedPolynomial) (rows others : List (List ℤ)) → AreCutRows n j bs rows → AreCutRows n j bs others → rows ≡ others
@@ -64,6 +64,6 @@ one_facets n j bs fs gs p q =
     (λ a c. let r = normal_there fs a c in q.all a (subst (IsFlippable n j bs) r.1.1 (p.flippable r.0 r.1.0)))
     (λ a c. let r = normal_there gs a c in p.all a (subst (IsFlippable n j bs) r.1.1 (q.flippable r.0 r.1.0))))
 
-pub one_certificates : (n : ℕ) (j : Region) (bs : List MarkedPolynomial) (c d : Certificates) → AreCertificatesIn n j bs c → AreCertificatesIn n j bs d →
+pub one_certificates : (n : ℕ) (j : Region) (bs : List MarkedPolynomial) (c d : BasisCertificates) → AreCertificatesIn n j bs c → AreCertificatesIn n j bs d →
     (c.weight ≡ d.weight) × (c.facets.items ≡ d.facets.items)
 one_certificates n j bs c d p q = (one_weight n j bs c.weight d.weight p.weight q.weight, one_facets n j bs c.facets.items d.facets.items p.facets q.facets)

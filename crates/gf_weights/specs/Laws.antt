@@ -8,7 +8,7 @@ use Rattle.gf_ideal_theory.specs.Bases.{IsReducedBasis}
 use Rattle.gf_facets_theory.specs.Regions.{Region, IsInRegion}
 use Rattle.gf_facets_theory.specs.Facets.{IsInOpenCone, IsInsideFacet, IsFlippable}
 use Rattle.gf_facets_theory.specs.MarkedBases.{AreCanonical, IsMarkedReducedBasis, IsBasisInRegion}
-use Rattle.gf_weights.specs.declared.certificates.Certificates.{Certificates}
+use Rattle.gf_weights.specs.declared.certificates.BasisCertificates.{BasisCertificates}
 use Rattle.gf_weights.specs.declared.certificates.FacetWitness.{FacetWitness}
 use Rattle.gf_weights.specs.Weights.{IsPrintedWeight, IsWeightIn, IsWitnessIn, AreWitnessedIn, AreCertificatesIn}
 
@@ -31,7 +31,7 @@ WitnessesAreInside = (n : ℕ) (k : Region) (bs : List MarkedPolynomial) (a v : 
 pub record CertificatesAreUnique : Type 0 where
   pub weight : (n : ℕ) (k : Region) (bs : List MarkedPolynomial) (v w : List ℤ) → IsWeightIn n k bs v → IsWeightIn n k bs w → v ≡ w
   pub witness : (n : ℕ) (k : Region) (bs : List MarkedPolynomial) (a v w : List ℤ) → IsWitnessIn n k bs a v → IsWitnessIn n k bs a w → v ≡ w
-  pub all : (n : ℕ) (k : Region) (bs : List MarkedPolynomial) (c d : Certificates) → AreCertificatesIn n k bs c → AreCertificatesIn n k bs d →
+  pub all : (n : ℕ) (k : Region) (bs : List MarkedPolynomial) (c d : BasisCertificates) → AreCertificatesIn n k bs c → AreCertificatesIn n k bs d →
       (c.weight ≡ d.weight) × (c.facets.items ≡ d.facets.items)
 
 -- a marked list has a printed weight, and a list of the facets that a flip may cross, each with its printed witness

@@ -12,7 +12,7 @@ use Rattle.gf_facets_theory.specs.Regions.{Region, all_positive}
 use Rattle.gf_facets_theory.specs.Normals.{AreNormals, Ascends}
 use Rattle.gf_facets_theory.specs.Facets.{IsFlippable}
 use Rattle.gf_weights.specs.declared.certificates.FacetWitness.{FacetWitness}
-use Rattle.gf_weights.specs.declared.certificates.Certificates.{Certificates}
+use Rattle.gf_weights.specs.declared.certificates.BasisCertificates.{BasisCertificates}
 
 -- ---- in a region k: the cone is intersected with the closure of k
 
@@ -54,7 +54,7 @@ pub record AreWitnessedIn (n : ℕ) (k : Region) (bs : List MarkedPolynomial) (f
   pub all : (a : List ℤ) → IsFlippable n k bs a → Contains (normals_of fs) a
 
 -- c has the weight that is printed for bs, and the facets that a flip may cross with their witnesses
-pub record AreCertificatesIn (n : ℕ) (k : Region) (bs : List MarkedPolynomial) (c : Certificates) : Type 0 where
+pub record AreCertificatesIn (n : ℕ) (k : Region) (bs : List MarkedPolynomial) (c : BasisCertificates) : Type 0 where
   pub weight : IsWeightIn n k bs c.weight
   pub facets : AreWitnessedIn n k bs c.facets.items
 
@@ -65,5 +65,5 @@ abbrev pub IsPrintedWeight : ℕ → List MarkedPolynomial → List ℤ → Type
 IsPrintedWeight n bs v = IsWeightIn n (all_positive n) bs v
 
 -- c has the weight that is printed for bs, and the facets that a flip may cross with their witnesses
-abbrev pub AreBasisCertificates : ℕ → List MarkedPolynomial → Certificates → Type 0
+abbrev pub AreBasisCertificates : ℕ → List MarkedPolynomial → BasisCertificates → Type 0
 AreBasisCertificates n bs c = AreCertificatesIn n (all_positive n) bs c

@@ -23,7 +23,7 @@ pub struct FacetWitness {
 /// What is printed with a marked reduced Gröbner basis: its weight, with an entry for each variable, and the facets that a flip may cross,
 /// in ascending order of their normals.
 #[derive(Drop)]
-pub struct Certificates {
+pub struct BasisCertificates {
     pub weight: IntVec,
     pub facets: Vec<FacetWitness>,
 }
@@ -75,10 +75,10 @@ fn facets(
 {
     let normals = cut.cone.normals();
     let mut found = Vec::new(alloc);
-    'places: for place in 0..normals.len() {
-        if is_flippable(cut, place) {
-            let normal = normals[place].copy()?;
-            let witness = cut.rays.interior_at(place)?;
+    'indices: for index in 0..normals.len() {
+        if is_flippable(cut, index) {
+            let normal = normals[index].copy()?;
+            let witness = cut.rays.interior_at(index)?;
             found.push(FacetWitness { normal, witness })?;
         }
     }
@@ -102,7 +102,7 @@ pub fn certify_in(
     alloc: Global,
     set: &MarkedSet,
     region: &Region,
-) -> Result<Certificates, WeightError>
+) -> Result<BasisCertificates, WeightError>
     requires { length region.now.root ≡ set.now.variables }
     ensures value { IfOk result (AreCertificatesIn set.now.variables region.now set.now.items) }
     ensures err { IfErr result (IsCertificateCauseIn set.now.variables region.now set.now.items) }
@@ -111,7 +111,7 @@ pub fn certify_in(
     let cut = cut_cone(alloc, set, region)?;
     let weight = cut.rays.interior()?;
     let facets = facets(alloc, set, region, &cut)?;
-    Ok(Certificates { weight, facets })
+    Ok(BasisCertificates { weight, facets })
 }
 
 /// The weight that is printed for a marked set, and the facets of its cone that a flip may cross, in ascending order of their normals, each
@@ -126,7 +126,7 @@ pub fn certify_in(
 /// - `Wide`: the rays of the weight, or those of a witness, are added in ascending order, and this is the first sum of an entry of a
 ///   partial sum and one of the next ray that leaves that range.
 /// - `Memory`: memory runs out.
-pub fn certify(alloc: Global, set: &MarkedSet) -> Result<Certificates, WeightError>
+pub fn certify(alloc: Global, set: &MarkedSet) -> Result<BasisCertificates, WeightError>
     ensures value { IfOk result (AreBasisCertificates set.now.variables set.now.items) }
     ensures err { IfErr result (IsBasisCertificateCause set.now.variables set.now.items) }
     ensures complete { AreCertificatesWithinLimits set.now.variables set.now.items → IfErr result (λ e. e ≡ Memory) }

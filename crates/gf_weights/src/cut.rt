@@ -33,15 +33,15 @@ pub(crate) fn cut_cone(alloc: Global, set: &MarkedSet, region: &Region) -> Resul
     Ok(Cut { cone, rays })
 }
 
-/// Whether on some ray the inequality at `place` is zero and the one at `other` isn't.
-fn has_ray_off(rays: &Rays, place: usize, other: usize) -> bool
-    requires place { place < length rays.now.inequalities }
+/// Whether on some ray the inequality at `index` is zero and the one at `other` isn't.
+fn has_ray_off(rays: &Rays, index: usize, other: usize) -> bool
+    requires index { index < length rays.now.inequalities }
     requires other { other < length rays.now.inequalities }
-    ensures yes { IsTrue result → HasRayOff rays.now place other }
-    ensures no { (IsTrue result → ⊥) → (j : ℕ) → j < length rays.now.rays → IsZeroAt rays.now place j → IsZeroAt rays.now other j }
+    ensures yes { IsTrue result → HasRayOff rays.now index other }
+    ensures no { (IsTrue result → ⊥) → (j : ℕ) → j < length rays.now.rays → IsZeroAt rays.now index j → IsZeroAt rays.now other j }
 {
     for ray in 0..rays.rays().len() {
-        if rays.is_zero(place, ray) && !rays.is_zero(other, ray) {
+        if rays.is_zero(index, ray) && !rays.is_zero(other, ray) {
             return true;
         }
     }
@@ -49,13 +49,13 @@ fn has_ray_off(rays: &Rays, place: usize, other: usize) -> bool
 }
 
 /// Whether a flip may cross the facet of the normal at this index: no other row is zero on all the rays on which this one is.
-pub(crate) fn is_flippable(cut: &Cut, place: usize) -> bool
+pub(crate) fn is_flippable(cut: &Cut, index: usize) -> bool
     requires cut { HasRaysOf cut.now.cone cut.now.rays }
-    requires place { place < length cut.now.cone.normals }
-    ensures { IsTrue result ↔ IsCrossable cut.now.cone place }
+    requires index { index < length cut.now.cone.normals }
+    ensures { IsTrue result ↔ IsCrossable cut.now.cone index }
 {
     for other in 0..cut.rays.inequalities().len() {
-        if other != place && !has_ray_off(&cut.rays, place, other) {
+        if other != index && !has_ray_off(&cut.rays, index, other) {
             return false;
         }
     }

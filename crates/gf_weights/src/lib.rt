@@ -11,7 +11,7 @@ mod error;
 mod laws;
 mod region;
 
-pub use certificates::{Certificates, FacetWitness, certify, certify_in, weight};
+pub use certificates::{BasisCertificates, FacetWitness, certify, certify_in, weight};
 pub use error::WeightError;
 pub use laws::{
     a_region_is_within_limits, certificates_are_unique, certificates_exist, regions_are_one,

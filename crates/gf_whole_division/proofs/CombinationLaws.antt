@@ -29,7 +29,7 @@ push_at f g t h e =
 moved_term : (k a l t : Fraction) → (a +ℚ k *ℚ t) +ℚ k *ℚ l ≡ a +ℚ k *ℚ (l +ℚ t)
 moved_term k a l t = +ℚ_assoc a (k *ℚ t) (k *ℚ l) ∙ ap (λ z. a +ℚ z) (+ℚ_comm (k *ℚ t) (k *ℚ l) ∙ sym (*ℚ-+ℚ k l t))
 
--- the last term below the place goes above it, times k
+-- the last term below the index goes above it, times k
 pub pass_moved : (k : Fraction) (old new : Halves) (left : List WholeTerm) (t r : WholeTerm) → old.below.items ≡ left ++ t ∷ [] →
     term_value r ≡ times_term k [] (term_value t) → new.above.items ≡ old.above.items ++ r ∷ [] → new.below.items ≡ left → IsMoved k old new
 pass_moved k old new left t r pop e push is x =
@@ -71,7 +71,7 @@ arranged k a l s t =
     ap (λ z. z +ℚ k *ℚ l) (sym (+ℚ_assoc a (k *ℚ s) t)) ∙ +ℚ_assoc (a +ℚ k *ℚ s) t (k *ℚ l)
     ∙ ap (λ z. (a +ℚ k *ℚ s) +ℚ z) (+ℚ_comm t (k *ℚ l)) ∙ sym (+ℚ_assoc (a +ℚ k *ℚ s) (k *ℚ l) t) ∙ ap (λ z. z +ℚ t) (moved_term k a l s)
 
--- the coefficient at e of the last term below the place, times k, and of a product with its monomial
+-- the coefficient at e of the last term below the index, times k, and of a product with its monomial
 like_at : (k : Fraction) (s : WholeTerm) (q p : Term) (e : Exponents) → q ≡ times_term k [] (term_value s) → q.mono ≡ p.mono →
     coefficient (record { coef = q.coef +ℚ p.coef; mono = q.mono } ∷ []) e ≡ k *ℚ coefficient (term_value s ∷ []) e +ℚ coefficient (p ∷ []) e
 like_at k s q p e eq m =
@@ -138,7 +138,7 @@ total_plain k h one e =
     ∙ ap (λ z. coefficient (whole_terms h.above.items) e +ℚ z)
     (sym (ap (λ z. z *ℚ coefficient (whole_terms h.below.items) e) one ∙ one-*ℚ (coefficient (whole_terms h.below.items) e)))
 
--- all terms are above the place
+-- all terms are above the index
 pub total_moved : (k : Fraction) (old new : Halves) → IsMoved k old new → new.below.items ≡ [] → IsTotal k old new
 total_moved k old new m none e =
     coefficient-++ (whole_terms new.above.items) (whole_terms new.below.items) e

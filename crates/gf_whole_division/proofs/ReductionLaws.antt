@@ -133,7 +133,7 @@ step_kept bs b old new t p l g s u x first m common n there product same_new = r
           at = t.kept.value.mono;
           member = b;
           rest = x;
-          contained = member_contained bs first.place b first.at;
+          contained = member_contained bs first.index b first.at;
           there = nz;
           divides = same_of t.kept.value.mono (plus x b.head) (sym product);
           equal = λ e. refl;
@@ -272,7 +272,7 @@ divided_lists k f g a b h l ea eb n eh el =
     divided_parts (whole k) (whole_terms f) (whole_terms g) (whole_terms h) (whole_terms l) (nonzero_whole k n) (ap whole_terms (sym ea) ∙ eh)
     (ap whole_terms (sym eb) ∙ el)
 
--- the mark at the place j divides x, and none before it
+-- the mark at the index j divides x, and none before it
 pub divided_at : (bs : List MarkedPolynomial) (x h : Exponents) (j : ℕ) (b : MarkedPolynomial) → IsAt bs j b → h ≡ b.head → length h ≡ length x →
     Divides h x → NoneDivides bs j x → IsDividedAt bs x j
 divided_at bs x h j b a e l d k = record {
@@ -294,7 +294,7 @@ pub member_there : (bs : List MarkedPolynomial) (x y : Exponents) (j : ℕ) (b :
 member_there bs x y j b ex d e =
     let same_member : d.member ≡ b = sym d.at.is ∙ get_or_default bs j d.member b d.at.within ∙ sym e in
     subst (λ (z : Exponents). IsMemberFor bs z b) ex (subst (IsMemberFor bs y) same_member (record {
-      first = record { place = j; at = d.at; before = λ i c l m. no_multiple c.head y (d.first i c l m) };
+      first = record { index = j; at = d.at; before = λ i c l m. no_multiple c.head y (d.first i c l m) };
       variables = d.variables;
       divides = d.divides;
     }))

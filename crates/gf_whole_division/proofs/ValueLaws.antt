@@ -110,14 +110,14 @@ pub divided_all : (k : Fraction) (f out : List WholeTerm) (i : ℕ) → length f
     whole_terms f ≡ times k [] (whole_terms out)
 divided_all k f out i l e = sym (ap whole_terms (take_all i f l)) ∙ e
 
--- ---- places
+-- ---- indices
 
 -- the last term
 pub last_value : (f : List WholeTerm) (i : ℕ) (t : WholeTerm) → i + 1 ≡ length f → t ≡ get_or f i t → f ≡ take i f ++ t ∷ []
 last_value f i t l is =
     sym (take_all (i + 1) f (omega (arith, l))) ∙ take_more f i t (omega (arith, l)) ∙ ap (λ (z : WholeTerm). take i f ++ z ∷ []) (sym is)
 
--- no term up to a place has the monomial, nor that there
+-- no term up to an index has the monomial, nor that there
 pub none_more : (x : Exponents) (f : List WholeTerm) (i : ℕ) (t : WholeTerm) → i < length f → t ≡ get_or f i t → same x t.kept.value.mono ≡ false →
     HasNone x (whole_terms (take i f)) → HasNone x (whole_terms (take (i + 1) f))
 none_more x f i t l is n h =
@@ -243,7 +243,7 @@ plus_push [] (q ∷ v) b c l = absurd (omega (arith, l))
 plus_push (p ∷ u) [] b c l = absurd (omega (arith, l))
 plus_push (p ∷ u) (q ∷ v) b c l = ap (λ (z : Exponents). (p + q) ∷ z) (plus_push u v b c (omega (arith, l)))
 
--- the entries up to a place, and that there
+-- the entries up to an index, and that there
 pub product_more : (x y z : Exponents) (i : ℕ) → i < length x → length x ≡ length y → length x ≡ length z → get_or x i 0 ≡ get_or y i 0 + get_or z i 0 →
     take i x ≡ plus (take i y) (take i z) → take (i + 1) x ≡ plus (take (i + 1) y) (take (i + 1) z)
 product_more x y z i l ly lz e h =

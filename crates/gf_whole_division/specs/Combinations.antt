@@ -1,4 +1,4 @@
--- Polynomials that are added up: terms above a place, and those below it, which are to be multiplied still.
+-- Polynomials that are added up: terms above an index, and those below it, which are to be multiplied still.
 -- Laws: proofs/CombinationLaws.antt.
 use Rattle.std.specs.Prelude.{◌≡◌, [], ◌∷◌, ◌++◌}
 use Rattle.gf_frac.specs.Fraction.{Fraction, ◌+ℚ◌, ◌*ℚ◌}
@@ -8,7 +8,7 @@ use Rattle.gf_poly.specs.Polynomial.{coefficient}
 use Rattle.gf_whole_division.specs.declared.combinations.Halves.{Halves}
 use Rattle.gf_whole_division.specs.Values.{whole_terms}
 
--- the coefficient at e of what is above the place and k times what is below it
+-- the coefficient at e of what is above the index and k times what is below it
 abbrev pub total_at : Fraction → Halves → Exponents → Fraction
 total_at k h e = coefficient (whole_terms h.above.items) e +ℚ k *ℚ coefficient (whole_terms h.below.items) e
 

@@ -47,7 +47,7 @@ pub record IsPairRemainderMultiple (bs : List MarkedPolynomial) (b c : MarkedPol
   pub is_s : IsSPolynomial b c s
   pub remainder : IsRemainderMultiple bs s h
 
--- the member at the place j has a mark in the variables of x that divides it, and no member before it has a mark that divides x
+-- the member at the index j has a mark in the variables of x that divides it, and no member before it has a mark that divides x
 pub record IsDividedAt (bs : List MarkedPolynomial) (x : Exponents) (j : ℕ) : Type 0 where
   pub member : MarkedPolynomial
   pub at : IsAt bs j member

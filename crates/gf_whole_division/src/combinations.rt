@@ -47,7 +47,7 @@ impl Multiplier {
     }
 }
 
-/// Terms that are added up: those above a place, the greatest first, and those below it, the greatest last, which are to be multiplied still.
+/// Terms that are added up: those above an index, the greatest first, and those below it, the greatest last, which are to be multiplied still.
 #[derive(Drop)]
 pub struct Halves {
     pub above: Vec<WholeTerm>,
@@ -55,7 +55,7 @@ pub struct Halves {
 }
 
 impl Halves {
-    /// Moves the first term below the place above it, times a number.
+    /// Moves the first term below the index above it, times a number.
     fn pass(&mut self, by: &Whole) -> Result<(), Beyond>
         ensures moved { OnOk result (IsMoved (whole by.now) self.old self.new) }
         ensures shorter { OnOk result (0 < length self.old.below.items → length self.new.below.items < length self.old.below.items) }
@@ -68,7 +68,7 @@ impl Halves {
         Ok(())
     }
 
-    /// Whether there is a term below the place, and the first one is of greater rank.
+    /// Whether there is a term below the index, and the first one is of greater rank.
     fn is_next_greater(&self, rank: &Rank) -> bool
         ensures { IsTrue result → 0 < length self.now.below.items }
     {
@@ -79,7 +79,7 @@ impl Halves {
         matches!(self.below[n - 1].rank.compare(rank), Ordering::Greater)
     }
 
-    /// Whether the first term below the place is of this rank.
+    /// Whether the first term below the index is of this rank.
     fn is_next_equal(&self, rank: &Rank) -> bool {
         match self.below.last() {
             Some(t) => matches!(t.rank.compare(rank), Ordering::Equal),
@@ -87,7 +87,7 @@ impl Halves {
         }
     }
 
-    /// Moves the place down to the first term that isn't of greater rank.
+    /// Moves the index down to the first term that isn't of greater rank.
     fn descend(&mut self, by: &Whole, rank: &Rank) -> Result<(), Beyond>
         ensures { OnOk result (IsMoved (whole by.now) self.old self.new) }
     {
@@ -97,7 +97,7 @@ impl Halves {
         Ok(())
     }
 
-    /// Adds the product with a term, whose monomial the first term below the place has, to that one.
+    /// Adds the product with a term, whose monomial the first term below the index has, to that one.
     fn merge(&mut self, by: &Whole, m: &Multiplier, t: &WholeTerm) -> Result<(), Beyond>
         ensures { OnOk result (IsSumWith (whole by.now) self.old self.new
             (times_term (whole m.now.factor) m.now.mono (term_value t.now))) }
@@ -141,7 +141,7 @@ impl Halves {
         Ok(())
     }
 
-    /// Whether no term is below the place.
+    /// Whether no term is below the index.
     fn is_done(&self) -> bool
         ensures yes { IsTrue result → self.now.below.items ≡ [] }
         ensures no { result ≡ false → 0 < length self.now.below.items }
@@ -149,7 +149,7 @@ impl Halves {
         self.below.is_empty()
     }
 
-    /// Moves the place below all terms, unless those below it are to be multiplied by 1.
+    /// Moves the index below all terms, unless those below it are to be multiplied by 1.
     fn finish(&mut self, by: &Whole) -> Result<(), Beyond>
         ensures { OnOk result (IsTotal (whole by.now) self.old self.new) }
     {

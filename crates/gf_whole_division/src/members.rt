@@ -62,8 +62,8 @@ fn raised(alloc: Global, t: &Term, by: &Whole, ranking: &Ranking) -> Result<Whol
     Ok(term)
 }
 
-/// The place in an ascending list where a term with this rank belongs.
-fn place_of(terms: &[WholeTerm], rank: &Rank) -> usize
+/// The index in an ascending list where a term with this rank belongs.
+fn index_of(terms: &[WholeTerm], rank: &Rank) -> usize
     ensures { result ≤ length terms.now }
 {
     let mut i = terms.len();
@@ -94,8 +94,8 @@ pub fn whole_multiple(
     'terms: while i < terms.len() {
         let t = &terms[i];
         let multiple = raised(alloc, t, &by, ranking)?;
-        let place = place_of(&out, &multiple.rank);
-        out.insert(place, multiple)?;
+        let index = index_of(&out, &multiple.rank);
+        out.insert(index, multiple)?;
         i += 1;
     }
     Ok((by, out))

@@ -1,4 +1,4 @@
--- Places in a dividend, and what is taken at them.
+-- Indices in a dividend, and what is taken at them.
 -- To cite: over_more, descends_here, descends_end, cut_there, taken_zero, taken_rest, taken_there, taken_new.
 use Rattle.std.specs.Prelude.{◌≡◌, ℕ, zero, suc, ◌+◌, ◌<◌, ◌≤◌, List, [], ◌∷◌, ◌++◌, length, Ok}
 use Rattle.std.specs.List.{insert, remove}
@@ -21,7 +21,7 @@ use Rattle.gf_wide_division.specs.Dividends.{uncut, cut_at, TakesAt}
 use Rattle.gf_wide_division.specs.Values.{term_value, value_terms}
 use Rattle.gf_wide_division.proofs.ValueLaws.{length-values, values_append, values_take, values_drop, value_at}
 
--- ---- the place
+-- ---- the index
 
 -- what is before it is greater
 pub over_more : (x : Exponents) (f : List WideTerm) (i : ℕ) (t : WideTerm) → i < length f → t ≡ get_or f i t → deglex t.mono x ≡ Greater →

@@ -37,7 +37,7 @@ values_drop [] (suc i) = refl
 values_drop (x ∷ f) zero = refl
 values_drop (x ∷ f) (suc i) = values_drop f i
 
--- the term at a place
+-- the term at an index
 pub value_at : (f : List WideTerm) (i : ℕ) (t : WideTerm) → t ≡ get_or f i t → term_value t ≡ get_or (value_terms f) i (term_value t)
 value_at f i t is = ap term_value is ∙ values-at f i t
 
@@ -88,6 +88,6 @@ quotient_term by f out new i t x m h is ex em push inv =
 pub all_narrowed : (f : List WideTerm) (g out : Terms) (i : ℕ) → value_terms f ≡ g → length f ≤ i → out ≡ take i (value_terms f) → out ≡ g
 all_narrowed f g out i e l h = h ∙ take_all i (value_terms f) (omega (arith, l, length-values f)) ∙ e
 
--- a place in both
+-- an index in both
 pub inside_there : (f : List WideTerm) (g : Terms) (i : ℕ) → value_terms f ≡ g → i < length g → i < length f
 inside_there f g i e l = omega (arith, l, ap length e, length-values f)

@@ -1,4 +1,4 @@
--- A polynomial under reduction with wide coefficients, as `gf_division` sees one: all of its terms, with the place above them; and
+-- A polynomial under reduction with wide coefficients, as `gf_division` sees one: all of its terms, with the index above them; and
 -- what is taken from one of its terms.
 -- Laws: proofs/DividendLaws.antt.
 use Rattle.std.specs.Prelude.{◌≡◌, ℕ, [], take, drop}
@@ -8,11 +8,11 @@ use Rattle.gf_division.specs.Dividends.{Split, joined_terms, TakesFromFirst}
 use Rattle.gf_wide_division.specs.declared.dividend.WideDividend.{WideDividend}
 use Rattle.gf_wide_division.specs.Values.{value_terms}
 
--- all terms, below the place
+-- all terms, below the index
 abbrev pub uncut : Terms → Split
 uncut f = record { above = []; below = f }
 
--- the place before the term at i
+-- the index before the term at i
 abbrev pub cut_at : ℕ → Terms → Split
 cut_at i f = record { above = take i f; below = drop i f }
 

@@ -23,7 +23,7 @@ use std::cmp::Ordering;
 
 /// The terms of the polynomial, the greatest by deglex first; of each it is kept whether it waits to be reduced.
 ///
-/// Contracts see a polynomial under reduction with the place above all of its terms.
+/// Contracts see a polynomial under reduction with the index above all of its terms.
 #[derive(Drop)]
 pub struct WideDividend {
     terms: Vec<WideTerm>,
@@ -142,13 +142,13 @@ impl WideDividend {
     pub fn foremost(&self, first: &Precedence) -> Option<WideTerm>
         ensures { IfSome result (λ t. IsCutBefore (joined_terms (dividend_of self.now)) (term_value t)) }
     {
-        let i = self.place_of_foremost(first)?;
+        let i = self.index_of_foremost(first)?;
         let t = &self.terms[i];
         Some(t.copy())
     }
 
-    /// The place of the term that is taken first of those that wait.
-    fn place_of_foremost(&self, first: &Precedence) -> Option<usize>
+    /// The index of the term that is taken first of those that wait.
+    fn index_of_foremost(&self, first: &Precedence) -> Option<usize>
         ensures { IfSome result (λ i. i < length self.now.terms.items) }
     {
         let mut found = None;
@@ -161,7 +161,7 @@ impl WideDividend {
         found
     }
 
-    /// Of the place that is found already and the place `i`, the one whose term is taken first.
+    /// Of the index that is found already and the index `i`, the one whose term is taken first.
     fn first_of(&self, first: &Precedence, found: Option<usize>, i: usize) -> usize
         requires found { IfSome found (λ k. k < length self.now.terms.items) }
         requires next { i < length self.now.terms.items }
@@ -179,10 +179,10 @@ impl WideDividend {
         }
     }
 
-    /// The place of the first term that isn't greater than `x`, and how that one compares with it; where there is none it counts as less.
-    fn place(&self, x: &Mono) -> (usize, Ordering)
+    /// The index of the first term that isn't greater than `x`, and how that one compares with it; where there is none it counts as less.
+    fn index(&self, x: &Mono) -> (usize, Ordering)
         ensures inside { result.0 ≤ length self.now.terms.items }
-        ensures place { Descends x.now (dividend_of self.now) (cut_at result.0 (value_terms self.now.terms.items)) result.1 }
+        ensures index { Descends x.now (dividend_of self.now) (cut_at result.0 (value_terms self.now.terms.items)) result.1 }
     {
         let mut i = 0;
         'terms: while i < self.terms.len() {
@@ -195,12 +195,12 @@ impl WideDividend {
         (i, Ordering::Less)
     }
 
-    /// Takes `coef` from the coefficient of the term at a place; where nothing is left there is no term.
-    fn take_from(&mut self, place: usize, coef: &WideFrac) -> Result<(), Beyond>
-        requires { place < length self.old.terms.items }
-        ensures { OnOk result (TakesAt coef.now place (value_terms self.old.terms.items) (value_terms self.new.terms.items)) }
+    /// Takes `coef` from the coefficient of the term at an index; where nothing is left there is no term.
+    fn take_from(&mut self, index: usize, coef: &WideFrac) -> Result<(), Beyond>
+        requires { index < length self.old.terms.items }
+        ensures { OnOk result (TakesAt coef.now index (value_terms self.old.terms.items) (value_terms self.new.terms.items)) }
     {
-        let t = self.terms.remove(place);
+        let t = self.terms.remove(index);
         let left = difference(&t.coef, coef)?;
         if left.is_zero() {
             return Ok(());
@@ -210,16 +210,16 @@ impl WideDividend {
             mono: t.mono.copy(),
             waits: t.waits,
         };
-        self.terms.insert(place, rest)?;
+        self.terms.insert(index, rest)?;
         Ok(())
     }
 
-    /// Puts a new term at a place.
-    fn put(&mut self, place: usize, new: WideTerm) -> Result<(), Beyond>
-        requires { place ≤ length self.old.terms.items }
-        ensures { OnOk result (self.new.terms.items ≡ insert self.old.terms.items place new) }
+    /// Puts a new term at an index.
+    fn put(&mut self, index: usize, new: WideTerm) -> Result<(), Beyond>
+        requires { index ≤ length self.old.terms.items }
+        ensures { OnOk result (self.new.terms.items ≡ insert self.old.terms.items index new) }
     {
-        self.terms.insert(place, new)?;
+        self.terms.insert(index, new)?;
         Ok(())
     }
 
@@ -229,15 +229,15 @@ impl WideDividend {
         requires nonzero { coef.now ≢ zero_ℚ }
         ensures { OnOk result (TakesAway coef.now mono (dividend_of self.old) (dividend_of self.new)) }
     {
-        let (place, order) = self.place(&mono);
+        let (index, order) = self.index(&mono);
         let new = WideTerm {
             coef: coef.neg(),
             mono,
             waits,
         };
         match order {
-            Ordering::Equal => self.take_from(place, coef),
-            _ => self.put(place, new),
+            Ordering::Equal => self.take_from(index, coef),
+            _ => self.put(index, new),
         }
     }
 

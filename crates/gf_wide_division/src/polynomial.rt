@@ -78,13 +78,13 @@ impl WidePoly {
         self.terms().len()
     }
 
-    /// The monomial of the term at a place.
-    pub fn mono(&self, place: usize) -> &Mono
-        requires { place < length self.now }
-        ensures { result.now ≡ head_of self.now place }
+    /// The monomial of the term at an index.
+    pub fn mono(&self, index: usize) -> &Mono
+        requires { index < length self.now }
+        ensures { result.now ≡ head_of self.now index }
     {
         let terms = self.terms();
-        &terms[place].mono
+        &terms[index].mono
     }
 
     /// The polynomial with its coefficients as fractions of 128 bits.
@@ -108,21 +108,21 @@ impl WidePoly {
         Ok(Poly::from_descending(out))
     }
 
-    /// The polynomial divided by its coefficient at a place and marked there, with coefficients of 128 bits; only the quotients have to fit in them.
+    /// The polynomial divided by its coefficient at an index and marked there, with coefficients of 128 bits; only the quotients have to fit in them.
     ///
     /// # Errors
     ///
     /// `Beyond` where the working of a quotient reaches 2^512, where the numerator or the denominator of a quotient exceeds 2^127 - 1 in size, or if
     /// memory runs out.
-    pub fn monic(&self, alloc: Global, place: usize) -> Result<Marked, Beyond>
-        requires { place < length self.now }
-        ensures monic { IfOk result (IsMonicAt self.now place) }
+    pub fn monic(&self, alloc: Global, index: usize) -> Result<Marked, Beyond>
+        requires { index < length self.now }
+        ensures monic { IfOk result (IsMonicAt self.now index) }
         ensures descending { IsDescending self.now }
     {
         let terms = self.terms();
-        let t = &terms[place];
+        let t = &terms[index];
         let quotients = quotients(alloc, terms, &t.coef)?;
         let poly = Poly::from_descending(quotients);
-        Ok(Marked::mark(poly, place))
+        Ok(Marked::mark(poly, index))
     }
 }

@@ -18,11 +18,11 @@ use crate::dividend::WideDividend;
 use crate::polynomial::WidePoly;
 use crate::precedence::Precedence;
 use crate::terms::{Beyond, WideTerm};
-use gf_division::{place_of, reducer_of};
+use gf_division::{index_of, reducer_of};
 use gf_poly::{Marked, Mono, Poly};
 use std::alloc::Global;
 
-/// The foremost term that waits, if a member reduces it, and the place of the first such member.
+/// The foremost term that waits, if a member reduces it, and the index of the first such member.
 fn next(
     rest: &WideDividend,
     by: &[Marked],
@@ -194,6 +194,6 @@ pub fn wide_tail(
     let rest = WideDividend::new(alloc, member.poly(), by, &spared)?;
     let left = worked_off(rest, by, &spared, first)?;
     let tail = left.narrowed(alloc)?;
-    let place = place_of(tail.terms(), member.head());
-    Ok(Marked::mark(tail, place))
+    let index = index_of(tail.terms(), member.head());
+    Ok(Marked::mark(tail, index))
 }

@@ -6,45 +6,43 @@ use Rattle.gf_front.specs.declared.command_line.Job.{Job}
 use Rattle.gf_front.specs.declared.command_line.Job.TheVariants as jobs
 use Rattle.gf_front.specs.declared.plain.PlainCommand.{PlainCommand}
 use Rattle.gf_front.specs.declared.plain.PlainCommand.TheVariants as plains
-use Rattle.gf_front.specs.declared.options.FanCommonRefinementOptions.{FanCommonRefinementOptions}
-use Rattle.gf_front.specs.declared.options.GeneratedOptions.{GeneratedOptions}
 use Rattle.gf_items.specs.Refusals.{IsOfTest}
 use Rattle.gf_frame.specs.Loading.{Origin}
 use Rattle.gf_frame.specs.Commands.{WritesOnce}
 use Rattle.gf_frame.proofs.CommandLaws.{IsLawful}
 use Rattle.gf_frame.proofs.SoundLaws.{untested, sound_lawful}
 use Rattle.gfan_common.specs.Forms.{generators_of}
-use Rattle.gfan_sets.specs.Buchberger.{buchberger_command}
-use Rattle.gfan_sets.specs.Marked.{marked_command}
-use Rattle.gfan_sets.specs.Containment.{containment_command}
-use Rattle.gfan_sets.specs.MarkPolynomialSet.{mark_polynomial_set_command}
-use Rattle.gfan_sets.specs.InitialForms.{initial_forms_command}
-use Rattle.gfan_sets.specs.Homogenize.{homogenize_command}
-use Rattle.gfan_sets.specs.PolynomialSetUnion.{polynomial_set_union_command}
-use Rattle.gfan_sets.specs.Stats.{stats_command}
-use Rattle.gfan_fans.specs.ToPolyhedralFan.{to_polyhedral_fan_command}
-use Rattle.gfan_fans.specs.HomogeneitySpace.{nonzero_of, homogeneity_space_command}
-use Rattle.gfan_fans.specs.declared.tropical.TropicalFan.{TropicalFan}
-use Rattle.gfan_fans.specs.declared.tropical.TropicalFan.TheVariants as fans
-use Rattle.gfan_fans.specs.Tropical.{tropical_command}
-use Rattle.gfan_fans.specs.MigrateFan.{migrate_fan_command}
+use Rattle.gfan_plain_theory.specs.Buchberger.{buchberger_command}
+use Rattle.gfan_plain_theory.specs.Marked.{marked_command}
+use Rattle.gfan_plain_theory.specs.Containment.{containment_command}
+use Rattle.gfan_plain_theory.specs.MarkPolynomialSet.{mark_polynomial_set_command}
+use Rattle.gfan_plain_theory.specs.InitialForms.{initial_forms_command}
+use Rattle.gfan_plain_theory.specs.Homogenize.{homogenize_command}
+use Rattle.gfan_plain_theory.specs.PolynomialSetUnion.{polynomial_set_union_command}
+use Rattle.gfan_plain_theory.specs.Stats.{stats_command}
+use Rattle.gfan_plain_theory.specs.ToPolyhedralFan.{to_polyhedral_fan_command}
+use Rattle.gfan_plain_theory.specs.HomogeneitySpace.{nonzero_of, homogeneity_space_command}
+use Rattle.gfan_plain_theory.specs.TropicalFan.{TropicalFan}
+use Rattle.gfan_plain_theory.specs.TropicalFan.TheVariants as fans
+use Rattle.gfan_plain_theory.specs.Tropical.{tropical_command}
+use Rattle.gfan_plain_theory.specs.MigrateFan.{migrate_fan_command}
 use Rattle.gfan.specs.Commands.{plain_command, command_of, ReadsInputAlone}
 use Rattle.gfan_common.proofs.CheckedSetLaws.{check_not_listed, test_cause_untested}
-use Rattle.gfan_sets.proofs.WeightVectorLaws.{weight_lawful, weight_source}
-use Rattle.gfan_fans.proofs.GroebnerConeLaws.{cone_lawful, cone_source}
-use Rattle.gfan_fans.proofs.ToPolyhedralFanLaws.{to_polyhedral_fan_exact, to_polyhedral_fan_tested, no_fan_not_listed}
-use Rattle.gfan_fans.proofs.HomogeneitySpaceLaws.{homogeneity_space_exact, homogeneity_space_tested, no_space_not_listed}
-use Rattle.gfan_fans.proofs.TropicalLaws.{tropical_exact, tropical_tested, tropical_not_listed}
-use Rattle.gfan_fans.proofs.BasisTestLaws.{intersection_lawful, intersection_source}
-use Rattle.gfan_sets.proofs.ToolLaws.{mark_polynomial_set_exact, initial_forms_exact, homogenize_exact, polynomial_set_union_exact, stats_exact}
-use Rattle.gfan_sets.proofs.ToolLaws.{homogenize_not_listed, homogenize_untested}
+use Rattle.gfan_plain_theory.proofs.WeightVectorLaws.{weight_lawful, weight_source}
+use Rattle.gfan_plain_theory.proofs.GroebnerConeLaws.{cone_lawful, cone_source}
+use Rattle.gfan_plain_theory.proofs.ToPolyhedralFanLaws.{to_polyhedral_fan_exact, to_polyhedral_fan_tested, no_fan_not_listed}
+use Rattle.gfan_plain_theory.proofs.HomogeneitySpaceLaws.{homogeneity_space_exact, homogeneity_space_tested, no_space_not_listed}
+use Rattle.gfan_plain_theory.proofs.TropicalLaws.{tropical_exact, tropical_tested, tropical_not_listed}
+use Rattle.gfan_plain_theory.proofs.BasisTestLaws.{intersection_lawful, intersection_source}
+use Rattle.gfan_plain_theory.proofs.ToolLaws.{mark_polynomial_set_exact, initial_forms_exact, homogenize_exact, polynomial_set_union_exact, stats_exact}
+use Rattle.gfan_plain_theory.proofs.ToolLaws.{homogenize_not_listed, homogenize_untested}
 use Rattle.gfan_common.proofs.CauseLaws.{gordan_not_listed, gordan_untested, basis_not_listed, basis_untested, memory_untested}
-use Rattle.gfan_sets.proofs.ExactLaws.{buchberger_exact, marked_exact, containment_exact, leading_lawful, leading_source, containment_tested}
-use Rattle.gfan_lists.proofs.ListCommandLaws.{bases_lawful}
-use Rattle.gfan_fans.proofs.CommonRefinementLaws.{refinement_lawful}
-use Rattle.gfan_fans.proofs.MigrateFanLaws.{migrate_fan_exact, migrate_fan_tested, migration_not_listed}
-use Rattle.gfan_generated.proofs.SummaryLaws.{generated_lawful}
-use Rattle.gfan_sets.proofs.SaturationLaws.{saturation_lawful}
+use Rattle.gfan_plain_theory.proofs.ExactLaws.{buchberger_exact, marked_exact, containment_exact, leading_lawful, leading_source, containment_tested}
+use Rattle.gfan_plain_theory.proofs.ListCommandLaws.{bases_lawful}
+use Rattle.gfan_plain_theory.proofs.CommonRefinementLaws.{refinement_lawful}
+use Rattle.gfan_plain_theory.proofs.MigrateFanLaws.{migrate_fan_exact, migrate_fan_tested, migration_not_listed}
+use Rattle.gfan_plain_theory.proofs.SummaryLaws.{generated_lawful}
+use Rattle.gfan_plain_theory.proofs.SaturationLaws.{saturation_lawful}
 use Rattle.gfan_interactive.proofs.InteractiveLaws.{interactive_lawful}
 
 tropical_lawful : (which : TropicalFan) → IsLawful (tropical_command which)

@@ -19,12 +19,12 @@ use Rattle.gf_frame.specs.Programs.{IsRunRefused}
 use Rattle.gf_frame.proofs.LoadingLaws.{loaded_known, unloaded_known}
 use Rattle.gf_frame.proofs.WorkLaws.{once_alone, not_cut}
 use Rattle.gf_frame.proofs.ProgramLaws.{stopped_as}
-use Rattle.gfan_sets.specs.WeightVector.{weight_vector_command}
-use Rattle.gfan_sets.proofs.WeightVectorLaws.{weight_once}
-use Rattle.gfan_fans.specs.GroebnerCone.{groebner_cone_command}
-use Rattle.gfan_fans.proofs.GroebnerConeLaws.{cone_once}
-use Rattle.gfan_fans.specs.BasisTest.{intersection_command}
-use Rattle.gfan_fans.proofs.BasisTestLaws.{intersection_once}
+use Rattle.gfan_plain_theory.specs.WeightVector.{weight_vector_command}
+use Rattle.gfan_plain_theory.proofs.WeightVectorLaws.{weight_once}
+use Rattle.gfan_plain_theory.specs.GroebnerCone.{groebner_cone_command}
+use Rattle.gfan_plain_theory.proofs.GroebnerConeLaws.{cone_once}
+use Rattle.gfan_plain_theory.specs.BasisTest.{intersection_command}
+use Rattle.gfan_plain_theory.proofs.BasisTestLaws.{intersection_once}
 use Rattle.gfan_plain_theory.specs.PlainInputs.{AsksOfBinomials, IsOnBinomials}
 use Rattle.gfan_plain_theory.proofs.PlainLaws.{plain_inputs}
 use Rattle.gfan.specs.Commands.{plain_command, command_of}

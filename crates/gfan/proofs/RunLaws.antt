@@ -24,9 +24,9 @@ use Rattle.gfan_common.specs.Refused.{IsUnnamed, IsNamedBy, IsRingOf, IsOfSource
 use Rattle.gfan.specs.Commands.{command_of, IsPastReach}
 use Rattle.gfan.specs.Run.{ReadWhole, IsRingOfInput, IsRingOfFile, IsOfSources, IsOfLoaded}
 use Rattle.gfan_common.proofs.PerformedLaws.{of_unnamed}
-use Rattle.gfan_lists.proofs.PastLaws.{past_refused, past_unanswered}
-use Rattle.gfan_lists.specs.Ways.{ways_of, list_options}
-use Rattle.gfan_lists.specs.ListCommand.{list_sources}
+use Rattle.gfan_plain_theory.proofs.PastLaws.{past_refused, past_unanswered}
+use Rattle.gfan_plain_theory.specs.Ways.{ways_of, list_options}
+use Rattle.gfan_plain_theory.specs.ListCommand.{list_sources}
 use Rattle.gfan.proofs.CommandLaws.{lawful}
 use Rattle.gfan_interactive.specs.Interactive.{IsConversed, IsNotConversed}
 use Rattle.gfan_interactive.proofs.InteractiveLaws.{conversed_done, conversed_stopped}

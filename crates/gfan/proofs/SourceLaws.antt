@@ -14,10 +14,10 @@ use Rattle.gf_frame.specs.Commands.{Command, WritesOnce, IsAnswered, IsRefusedOn
 use Rattle.gfan_common.specs.declared.refused.Refused.{Refused}
 use Rattle.gfan_common.specs.Refused.{IsUnnamed, IsOfSource}
 use Rattle.gfan_common.proofs.PerformedLaws.{on_err}
-use Rattle.gfan_lists.specs.declared.bases.ListOptions.{ListOptions}
-use Rattle.gfan_lists.specs.Ways.{Ways, ways_of, list_options}
-use Rattle.gfan_lists.specs.ListCommand.{list_sources, list_command}
-use Rattle.gfan_lists.proofs.TextsLaws.{one_alone, two_alone}
+use Rattle.gfan_plain_theory.specs.ListOptions.{ListOptions}
+use Rattle.gfan_plain_theory.specs.Ways.{Ways, ways_of, list_options}
+use Rattle.gfan_plain_theory.specs.ListCommand.{list_sources, list_command}
+use Rattle.gfan_plain_theory.proofs.TextsLaws.{one_alone, two_alone}
 use Rattle.gfan.specs.declared.commands.Work.{Work}
 use Rattle.gfan.specs.Commands.{command_of, ReadsInputAlone}
 use Rattle.gfan.specs.Run.{IsOfLoaded}

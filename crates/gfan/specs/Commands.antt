@@ -6,29 +6,29 @@ use Rattle.gf_front.specs.declared.plain.PlainCommand.{PlainCommand}
 use Rattle.gf_front.specs.declared.plain.PlainCommand.TheVariants as plains
 use Rattle.gf_frame.specs.Loading.{Origin}
 use Rattle.gf_frame.specs.Commands.{Command, IsAnswered}
-use Rattle.gfan_lists.specs.declared.bases.ListOptions.{ListOptions}
-use Rattle.gfan_sets.specs.Buchberger.{buchberger_command}
-use Rattle.gfan_lists.specs.Ways.{ways_of, list_options}
-use Rattle.gfan_lists.specs.ListCommand.{AreTextsPast, bases_command}
-use Rattle.gfan_sets.specs.Marked.{marked_command}
-use Rattle.gfan_sets.specs.Containment.{containment_command}
-use Rattle.gfan_sets.specs.LeadingTerms.{leading_terms_command}
-use Rattle.gfan_sets.specs.MarkPolynomialSet.{mark_polynomial_set_command}
-use Rattle.gfan_sets.specs.InitialForms.{initial_forms_command}
-use Rattle.gfan_sets.specs.Homogenize.{homogenize_command}
-use Rattle.gfan_sets.specs.PolynomialSetUnion.{polynomial_set_union_command}
-use Rattle.gfan_sets.specs.Stats.{stats_command}
-use Rattle.gfan_sets.specs.WeightVector.{weight_vector_command}
-use Rattle.gfan_fans.specs.GroebnerCone.{groebner_cone_command}
-use Rattle.gfan_fans.specs.ToPolyhedralFan.{to_polyhedral_fan_command}
-use Rattle.gfan_fans.specs.HomogeneitySpace.{homogeneity_space_command}
-use Rattle.gfan_fans.specs.declared.tropical.TropicalFan.TheVariants as fans
-use Rattle.gfan_fans.specs.Tropical.{tropical_command}
-use Rattle.gfan_fans.specs.BasisTest.{intersection_command}
-use Rattle.gfan_fans.specs.CommonRefinement.{refinement_command}
-use Rattle.gfan_fans.specs.MigrateFan.{migrate_fan_command}
-use Rattle.gfan_generated.specs.Generated.{generated_command}
-use Rattle.gfan_sets.specs.Saturation.{saturation_command}
+use Rattle.gfan_plain_theory.specs.ListOptions.{ListOptions}
+use Rattle.gfan_plain_theory.specs.Buchberger.{buchberger_command}
+use Rattle.gfan_plain_theory.specs.Ways.{ways_of, list_options}
+use Rattle.gfan_plain_theory.specs.ListCommand.{AreTextsPast, bases_command}
+use Rattle.gfan_plain_theory.specs.Marked.{marked_command}
+use Rattle.gfan_plain_theory.specs.Containment.{containment_command}
+use Rattle.gfan_plain_theory.specs.LeadingTerms.{leading_terms_command}
+use Rattle.gfan_plain_theory.specs.MarkPolynomialSet.{mark_polynomial_set_command}
+use Rattle.gfan_plain_theory.specs.InitialForms.{initial_forms_command}
+use Rattle.gfan_plain_theory.specs.Homogenize.{homogenize_command}
+use Rattle.gfan_plain_theory.specs.PolynomialSetUnion.{polynomial_set_union_command}
+use Rattle.gfan_plain_theory.specs.Stats.{stats_command}
+use Rattle.gfan_plain_theory.specs.WeightVector.{weight_vector_command}
+use Rattle.gfan_plain_theory.specs.GroebnerCone.{groebner_cone_command}
+use Rattle.gfan_plain_theory.specs.ToPolyhedralFan.{to_polyhedral_fan_command}
+use Rattle.gfan_plain_theory.specs.HomogeneitySpace.{homogeneity_space_command}
+use Rattle.gfan_plain_theory.specs.TropicalFan.TheVariants as fans
+use Rattle.gfan_plain_theory.specs.Tropical.{tropical_command}
+use Rattle.gfan_plain_theory.specs.BasisTest.{intersection_command}
+use Rattle.gfan_plain_theory.specs.CommonRefinement.{refinement_command}
+use Rattle.gfan_plain_theory.specs.MigrateFan.{migrate_fan_command}
+use Rattle.gfan_plain_theory.specs.Generated.{generated_command}
+use Rattle.gfan_plain_theory.specs.Saturation.{saturation_command}
 use Rattle.gfan_interactive.specs.Interactive.{interactive_command}
 
 -- the job of `_bases` with these options, for all positive weights, from a basis or from generators

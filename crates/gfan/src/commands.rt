@@ -17,14 +17,14 @@ use gf_front::{BasesOptions, InteractiveOptions, Job, PlainCommand, Refusal};
 use gf_outside::{Files, Sink, Source, WriteFault, write_all};
 use gf_waves::Gate;
 use gfan_common::refused::Refused;
-use gfan_fans::tropical::TropicalFan;
-use gfan_fans::{
+use gfan_plain_theory::fans::tropical::TropicalFan;
+use gfan_plain_theory::fans::{
     common_refinement, groebner_cone, homogeneity_space, migrate_fan, to_polyhedral_fan, tropical,
     tropical_intersection,
 };
-use gfan_lists::list;
-use gfan_lists::list::ListJob;
-use gfan_sets::{
+use gfan_plain_theory::lists::list;
+use gfan_plain_theory::lists::list::ListJob;
+use gfan_plain_theory::sets::{
     buchberger, containment, homogenize, initial_forms, leading_terms, mark_polynomial_set, marked,
     polynomial_set_union, saturation, stats, weight_vector,
 };
@@ -156,7 +156,7 @@ pub(crate) fn work_for<'j, R: Threads + Sync>(
         Job::FanCommonRefinement(_) => written(common_refinement::answer(
             rt, alloc, &texts[0], &texts[1],
         )),
-        Job::Generated(given) => written(gfan_generated::answer(rt, alloc, given)),
+        Job::Generated(given) => written(gfan_plain_theory::generated::answer(rt, alloc, given)),
         Job::Saturation(given) => written(saturation::answer(alloc, &texts[0], *given)),
         Job::Interactive(given) => Ok(Work::Turns(given)),
     }

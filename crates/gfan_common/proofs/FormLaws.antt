@@ -70,7 +70,7 @@ first_other_once f i j h k = at (cases_lt i j) (cases_lt j i)
 
 -- the polynomial that is named isn't of one degree, and those before it are
 inhomogeneous_before : (fs : List Terms) (e d : NotHomogeneous) → IsFirstInhomogeneous fs e → IsFirstInhomogeneous fs d → d.polynomial < e.polynomial → ⊥
-inhomogeneous_before fs e d h k l = of_one_degree_apart k.poly k.place (h.before.each d.polynomial k.poly l k.is) k.other
+inhomogeneous_before fs e d h k l = of_one_degree_apart k.poly k.index (h.before.each d.polynomial k.poly l k.is) k.other
 
 inhomogeneous_place : (fs : List Terms) (e d : NotHomogeneous) → IsFirstInhomogeneous fs e → IsFirstInhomogeneous fs d → d.polynomial ≡ e.polynomial
 inhomogeneous_place fs e d h k = at (cases_lt e.polynomial d.polynomial) (cases_lt d.polynomial e.polynomial)
@@ -98,7 +98,7 @@ inhomogeneous_once fs e d h k =
     let place = inhomogeneous_place fs e d h k in
     let here : slice_index_or fs e.polynomial k.poly ≡ k.poly = subst (λ n. slice_index_or fs n k.poly ≡ k.poly) place k.is in
     let poly : k.poly ≡ h.poly = one_element fs e.polynomial k.poly h.poly h.inside here h.is in
-    let named = named_once h.poly k.poly h.place k.place h.other k.other poly in
+    let named = named_once h.poly k.poly h.index k.index h.other k.other poly in
     let first : d.first ≡ e.first = k.first ∙ named.0 ∙ sym h.first in
     let second : d.second ≡ e.second = k.second ∙ named.1 ∙ sym h.second in
     λ i. record { polynomial = place i; first = first i; second = second i }
@@ -125,7 +125,7 @@ not_taken_apart n false weight fs e kept a h = h
 not_taken_apart n true None fs e kept a h =
     let here : Contains fs h.poly = (e.polynomial, h.inside, h.is) in
     let o = h.other in
-    o.apart (a h.poly here o.other.mono o.first.mono (other_there n h.poly h.place o (kept h.poly here)) (first_there n h.poly h.place o (kept h.poly here)))
+    o.apart (a h.poly here o.other.mono o.first.mono (other_there n h.poly h.index o (kept h.poly here)) (first_there n h.poly h.index o (kept h.poly here)))
 not_taken_apart n true (Some w) fs e kept a h = h
 
 -- ---- all of the form

@@ -14,7 +14,7 @@ use Rattle.gf_ideal_theory.proofs.ListLaws.{contained_each}
 use Rattle.gf_division.proofs.StepLaws.{term_length}
 use Rattle.gf_buchberger.specs.declared.homogeneity.NotHomogeneous.{NotHomogeneous}
 use Rattle.gf_buchberger.specs.Homogeneity.{IsFirstInhomogeneous}
-use Rattle.gf_buchberger.specs.Jobs.{HaveRingVariables}
+use Rattle.gf_buchberger.specs.Tasks.{HaveRingVariables}
 use Rattle.gf_front.specs.Lines.{IsNamed}
 use Rattle.gfan_common.specs.Forms.{polynomial_of, generators_of}
 
@@ -52,5 +52,5 @@ first_variables n fs e v h =
     let variables = v.each h.poly (e.polynomial, h.inside, h.is) in
     let o = h.other in (
       ap length h.first ∙ term_length n h.poly o.first variables (0, omega (arith, o.inside), o.is_first),
-      ap length h.second ∙ term_length n h.poly o.other variables (h.place, o.inside, o.is_other),
+      ap length h.second ∙ term_length n h.poly o.other variables (h.index, o.inside, o.is_other),
     )

@@ -6,7 +6,7 @@ use Rattle.gf_text.specs.declared.written.Written.{Written}
 use Rattle.gf_text.specs.declared.written.Written.TheVariants as written
 use Rattle.gf_buchberger.specs.declared.homogeneity.NotHomogeneous.{NotHomogeneous}
 use Rattle.gf_buchberger.specs.Homogeneity.{IsFirstInhomogeneous}
-use Rattle.gf_buchberger.specs.Jobs.{HaveOneDegree}
+use Rattle.gf_buchberger.specs.Tasks.{HaveOneDegree}
 use Rattle.gf_front.specs.declared.refusal.Refusal.{Refusal}
 use Rattle.gf_front.specs.declared.refusal.Refusal.TheVariants as refusals
 use Rattle.gf_items.specs.Checks.{Check}

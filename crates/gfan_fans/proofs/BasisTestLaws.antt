@@ -6,12 +6,12 @@ use Rattle.std.proofs.Common.{refl, sym, ap, ◌∙◌, subst, inl, inr}
 use Rattle.std.proofs.lemmas.List.Elements.{All-contains}
 use Rattle.gf_poly.specs.Polynomial.{Terms, HasVariables}
 use Rattle.gf_buchberger.specs.declared.homogeneity.NotHomogeneous.{NotHomogeneous}
-use Rattle.gf_buchberger.specs.Jobs.{HaveRingVariables, HaveOneDegree}
+use Rattle.gf_buchberger.specs.Tasks.{HaveRingVariables, HaveOneDegree}
 use Rattle.gf_tropical.specs.declared.error.TropicalError.TheVariants as tropical_errors
 use Rattle.gf_tropical.specs.Refusals.{IsTropicalRefusal, NoneIsZero}
 use Rattle.gf_tropical.specs.Systems.{IsPairSystem}
-use Rattle.gf_flip.specs.declared.error.TreeError.{TreeError}
-use Rattle.gf_flip.specs.declared.error.TreeError.TheVariants as tree_errors
+use Rattle.gf_tropical_basis_test.specs.TreeError.{TreeError}
+use Rattle.gf_tropical_basis_test.specs.TreeError.TheVariants as tree_errors
 use Rattle.gf_initial_monomials.specs.declared.error.InitialError.{InitialError}
 use Rattle.gf_initial_monomials.specs.declared.error.InitialError.TheVariants as initial_errors
 use Rattle.gf_initial_monomials.specs.Limits.{IsMemoryWanted}

@@ -8,3 +8,6 @@ pub mod FanFileLaws  -- what a fan file says within limits, and what is refused 
 pub mod CommonRefinementLaws  -- the common refinement of the fans of two texts
 pub mod MigrateFanLaws  -- the fan of a text, in the version 2
 pub mod BasisTestLaws  -- whether polynomials are a tropical basis, and why that is not told
+pub use Rattle.gf_initial_monomials.proofs.OutcomeLaws
+pub use Rattle.gf_tropical_basis_test.proofs.LawsHold
+pub use Rattle.gf_tropical_basis_test.proofs.CheckLaws

@@ -19,15 +19,15 @@ use Rattle.std.proofs.lemmas.List.Elements.{All-contains}
 use Rattle.gf_rays.specs.Sums.{adding_steps}
 use Rattle.gf_rays.proofs.SumLaws.{none_append, none_left, none_right, first_before, first_after}
 use Rattle.gf_vec.proofs.VectorLaws.{length-plus}
-use Rattle.gf_buchberger.specs.Jobs.{HaveRingVariables}
-use Rattle.gf_buchberger.proofs.JobLaws.{ring_variables}
+use Rattle.gf_buchberger.specs.Tasks.{HaveRingVariables}
+use Rattle.gf_buchberger.proofs.TaskLaws.{ring_variables}
 use Rattle.gf_reverse_search.specs.Whole.{IsFinite}
 use Rattle.gf_facets_theory.specs.Regions.{Region, all_positive}
 use Rattle.gf_facets_theory.specs.LexPositive.{IsBefore}
 use Rattle.gf_reverse_theory.specs.Upward.{IsNode, IsNodeIn, IsParent, fan_of}
 use Rattle.gf_reverse_theory.proofs.TreeLaws.{SameFan, count, upward_finite, node_moved, own_fan, back_fan}
-use Rattle.gf_flip.specs.declared.error.TreeError.{TreeError}
-use Rattle.gf_tree.specs.Ideals.{ideal_by}
+use Rattle.gfan_lists.specs.TreeError.{TreeError}
+use Rattle.gfan_lists.specs.Ideals.{ideal_by}
 use Rattle.gf_subtree.specs.Rows.{Row, ideal_in, AreLeftIn, first_row}
 use Rattle.gf_subtree.specs.Answers.{IsNextRow, IsRowEnd, IsRefusedEarly}
 use Rattle.gf_subtree.proofs.BasisRowLaws.{start_leaves, early_moved}

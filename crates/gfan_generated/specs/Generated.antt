@@ -12,7 +12,7 @@ use Rattle.gf_small.specs.Degrees.{greatest}
 use Rattle.gf_small.specs.Counts.{degree_of_set}
 use Rattle.gf_text.specs.VectorText.{vector_text}
 use Rattle.gf_buchberger.specs.declared.bases.BasisError.{BasisError}
-use Rattle.gf_flip.specs.declared.error.TreeError.{TreeError}
+use Rattle.gfan_lists.specs.TreeError.{TreeError}
 use Rattle.gf_weights.specs.declared.error.WeightError.{WeightError}
 use Rattle.gf_weights.specs.Weights.{IsPrintedWeight}
 use Rattle.gf_weights.specs.Refusals.{IsWeightCause}

@@ -10,7 +10,7 @@ ghost use Rattle.gf_poly.specs.Polynomial.{Terms};
 ghost use Rattle.gf_poly.specs.Marking.{polys};
 ghost use Rattle.gf_facets_theory.specs.Regions.{all_positive};
 ghost use Rattle.gf_reverse_theory.specs.Upward.{IsNodeIn};
-ghost use Rattle.gf_tree.specs.Parents.{ideal_of};
+ghost use Rattle.gfan_lists.specs.Parents.{ideal_of};
 ghost use Rattle.gf_subtree.specs.Rows.{first_row};
 ghost use Rattle.gf_weights.specs.declared.error.WeightError.{WeightError};
 ghost use Rattle.gf_weights.specs.Weights.{IsPrintedWeight};
@@ -29,7 +29,6 @@ ghost use Rattle.gfan_generated.specs.Summaries.{IsOfNoBasis, IsWideSum, IsWithB
 use gf_cone::Region;
 use gf_front::{GeneratedOptions, Refusal};
 use gf_generated::generators;
-use gf_groebner_walk::basis_by_several_ways;
 use gf_order::Order;
 use gf_poly::MarkedSet;
 use gf_small::degree_of_set;
@@ -40,6 +39,7 @@ use gf_waves::{FreeGate, Gate};
 use gf_weights::weight;
 use gfan_common::printing::push_line;
 use gfan_common::refused::{Refused, of_weight_error};
+use gfan_lists::basis_by_several_ways;
 use std::alloc::{AllocError, Global};
 use std::thread::Threads;
 

@@ -17,8 +17,8 @@ use Rattle.gf_bases_theory.proofs.LawsHold.{only_ideals_count}
 use Rattle.gf_reverse_theory.specs.Upward.{Fan, IsNode, IsNodeIn, fan_of}
 use Rattle.gf_reverse_theory.proofs.TreeLaws.{own_fan, back_fan, node_moved}
 use Rattle.gf_reverse_theory.proofs.ListLaws.{own}
-use Rattle.gf_flip.specs.declared.error.TreeError.{TreeError}
-use Rattle.gf_flip.specs.declared.error.TreeError.TheVariants as tree_errors
+use Rattle.gf_tree.specs.TreeError.{TreeError}
+use Rattle.gf_tree.specs.TreeError.TheVariants as tree_errors
 use Rattle.gf_tree.specs.Ideals.{ideal_by}
 use Rattle.gf_tree.specs.Refusals.{IsTreeRefusal, IsCallRefusal}
 use Rattle.gf_tree.proofs.LabelLaws.{across_in}
@@ -29,8 +29,8 @@ use Rattle.gf_session.specs.declared.session.SessionError.{SessionError}
 use Rattle.gf_session.specs.declared.session.SessionError.TheVariants as errors
 use Rattle.gf_session.specs.Choices.{choice_of}
 use Rattle.gf_session.specs.Sessions.{IsStuck}
-use Rattle.gf_session.proofs.PlaceLaws.{turns-over, near-over}
-use Rattle.gf_basis_places.specs.BasisRules.{IsBasisPlace, IsNumbered, basis_rules}
+use Rattle.gf_session.proofs.StateLaws.{turns-over, near-over}
+use Rattle.gf_basis_states.specs.BasisRules.{IsBasisState, IsNumbered, basis_rules}
 use Rattle.gf_front.specs.declared.refusal.Refusal.{Refusal}
 use Rattle.gf_front.specs.declared.refusal.Refusal.TheVariants as refusals
 use Rattle.gf_items.specs.Items.{IsTextOf, from}
@@ -49,7 +49,7 @@ use Rattle.gfan_common.specs.Causes.{of_tree}
 use Rattle.gfan_common.specs.CheckedSets.{of_check}
 use Rattle.gfan_common.specs.ReducedSets.{IsReducedAsRead}
 use Rattle.gfan_common.specs.Refused.{IsNamedBy}
-use Rattle.gfan_interactive.specs.Interactive.{IsStart, IsUnopened, walk_from, of_session, IsSessionCutOff, IsHeldFrom, IsCutFrom, IsWalkedWithin}
+use Rattle.gfan_interactive.specs.Interactive.{IsStart, IsUnopened, trail_from, of_session, IsSessionCutOff, IsHeldFrom, IsCutFrom, IsLedWithin}
 use Rattle.gfan_interactive.specs.Interactive.{interactive_command, IsConversed, IsNotConversed}
 use Rattle.gfan_common.proofs.ReadSetLaws.{IsSetKept, one_kept, read_variables}
 use Rattle.gfan_common.proofs.CheckedSetLaws.{named_reduced, reduced_once, reduced_refutes}
@@ -82,7 +82,7 @@ start_node s start h =
 own_node : (n : ℕ) (F : Fan) (p : MarkedPolynomials) → F.region ≡ all_positive n → F.variables ≡ n → IsNodeIn F p → IsNode (all_positive p.variables) p
 own_node n F p e v h = subst (λ m. IsNode (all_positive m) p) (sym (h.variables ∙ v)) (subst (λ k. IsNode k p) e (own F.region F p refl h))
 
-pub start_place : (n : ℕ) (s start : MarkedPolynomials) → s.variables ≡ n → IsStart s start → IsBasisPlace n start
+pub start_place : (n : ℕ) (s start : MarkedPolynomials) → s.variables ≡ n → IsStart s start → IsBasisState n start
 start_place n s start e h = record {
   node = own_node s.variables (ideal_by s.variables (polys s.items)) start refl refl (start_node s start h);
   ring = h.read.arranged.variables ∙ e;
@@ -178,23 +178,24 @@ no_more left leaves given gives source bytes e t = at leaves (subst (λ z. Consu
     at None c = absurd c
     at (Some rest) c = omega (arith, ap length c, length-append bytes rest)
 
-module _ (pairs n : ℕ) (ring : List (List ℕ)) (s start : MarkedPolynomials) (w : IsWalkedWithin pairs n s) (begins : IsStart s start) where
+module _ (pairs n : ℕ) (ring : List (List ℕ)) (s start : MarkedPolynomials) (w : IsLedWithin pairs n s) (begins : IsStart s start) where
   abbrev search : Fan
   search = ideal_by n (polys s.items)
 
   -- a call at a place that a line looks at
   stuck_memory : (left leaves : Option (List ℕ)) (given gives : ℕ) (held holds : Option (List ℕ)) (e : TreeError) →
-      IsStuck (basis_rules ring) (λ p r. IsCallRefusal (all_positive p.variables) pairs p r) (walk_from start) left leaves given gives held holds e →
+      IsStuck (basis_rules ring) (λ p r. IsCallRefusal (all_positive p.variables) pairs p r) (trail_from start) left leaves given gives held holds e →
       e ≡ tree_errors.Memory
   stuck_memory left leaves given gives held holds e k =
       let here : IsNodeIn search start = subst (λ m. IsNodeIn (ideal_by m (polys s.items)) start) w.same (start_node s start begins) in
       let stays : (p q : MarkedPolynomials) (m : ℕ) → IsNodeIn search p → IsNumbered p m q → IsNodeIn search q =
       λ p q m h a. number_stays n search p q m refl refl h a in
-      let over = turns-over (basis_rules ring) (IsNodeIn search) stays (walk_from start) _ k.t k.talk.text (record { here = here; before = tt }) k.talk.turns in
-      let there : IsNodeIn search k.place = near-over (basis_rules ring) (IsNodeIn search) stays k.t (choice_of k.last) k.place over k.near in
-      within_memory search pairs e w.tree (call_in_search n search pairs k.place e refl refl there k.refused)
+      let over = turns-over (basis_rules ring) (IsNodeIn search) stays (trail_from start) _ k.t k.talk.text (record { here = here; before = tt })
+      k.talk.turns in
+      let there : IsNodeIn search k.state = near-over (basis_rules ring) (IsNodeIn search) stays k.t (choice_of k.last) k.state over k.near in
+      within_memory search pairs e w.tree (call_in_search n search pairs k.state e refl refl there k.refused)
 
-unopened_within : (pairs n : ℕ) (s : MarkedPolynomials) (r : Refusal) → IsWalkedWithin pairs n s → IsUnopened pairs s r → r ≡ refusals.Memory
+unopened_within : (pairs n : ℕ) (s : MarkedPolynomials) (r : Refusal) → IsLedWithin pairs n s → IsUnopened pairs s r → r ≡ refusals.Memory
 unopened_within pairs n s r w (IsUnopened.at_set e h q) =
     q ∙ ap of_check (reduced_memory 0 s e w.checked.variables w.checked.checks w.checked.basis w.checked.terms h)
 unopened_within pairs n s r w (IsUnopened.at_start start e a h q) =
@@ -289,7 +290,7 @@ module _ (pairs : ℕ) (ring : List (List ℕ)) (start : MarkedPolynomials) (i j
   cut_write_calm r n (IsSessionCutOff.in_session text then errors.Memory h a c t x y q) = y
   cut_write_calm r n (IsSessionCutOff.in_session text then (errors.Refused z) h a c t x y q) = y
 
-  cut_reach : (n : ℕ) (s : MarkedPolynomials) (r : Refusal) (source : List ℕ) → IsWalkedWithin pairs n s → IsStart s start → i.left ≡ Some source →
+  cut_reach : (n : ℕ) (s : MarkedPolynomials) (r : Refusal) (source : List ℕ) → IsLedWithin pairs n s → IsStart s start → i.left ≡ Some source →
       length source ≤ 67108864 → (Rose i.faults j.faults → ⊥) → (Rose o.faults k.faults → ⊥) → IsSessionCutOff pairs ring start i j o k r → r ≡ refusals.Memory
   cut_reach n s r source w b l m nr nw (IsSessionCutOff.in_opening text h q f a e) = absurd (nw f)
   cut_reach n s r source w b l m nr nw (IsSessionCutOff.in_session text then errors.ReadFault h a c t x y q) = absurd (nr c.0)

@@ -6,7 +6,7 @@ use Rattle.gf_poly.specs.Marking.{MarkedPolynomials, HaveVariables, polys}
 use Rattle.gf_reduced.specs.declared.error.CheckError.{CheckError}
 use Rattle.gf_reduced.specs.Refusals.{IsReducedRefusal}
 use Rattle.gf_facets_theory.specs.Regions.{all_positive}
-use Rattle.gf_flip.specs.declared.error.TreeError.{TreeError}
+use Rattle.gf_tree.specs.TreeError.{TreeError}
 use Rattle.gf_tree.specs.Ideals.{ideal_by}
 use Rattle.gf_tree.specs.Refusals.{IsRefusedAtBasis, IsTreeWithinLimits}
 use Rattle.gf_outside.specs.Faults.{Rose}
@@ -16,7 +16,7 @@ use Rattle.gf_session.specs.declared.session.SessionError.TheVariants as errors
 use Rattle.gf_session.specs.Sessions.{Trail, IsEnded}
 use Rattle.gf_session.specs.Endings.{IsCause, IsReadCalm, IsWithinInput}
 use Rattle.gf_session.specs.Moves.{IsWriteCalm}
-use Rattle.gf_basis_places.specs.BasisRules.{IsPrompt, IsPlaceRefusal, basis_rules}
+use Rattle.gf_basis_states.specs.BasisRules.{IsPrompt, IsStateRefusal, basis_rules}
 use Rattle.gf_text.specs.RingText.{ring_text}
 use Rattle.gf_front.specs.declared.refusal.Refusal.{Refusal}
 use Rattle.gf_front.specs.declared.refusal.Refusal.TheVariants as refusals
@@ -53,9 +53,9 @@ pub data IsUnopened (pairs : ℕ) (s : MarkedPolynomials) (r : Refusal) : Type 0
 
 -- ---- the session
 
--- the walk that consists of its first basis
-abbrev pub walk_from : MarkedPolynomials → Trail MarkedPolynomials
-walk_from start = record { here = start; before = [] }
+-- the session that consists of its first basis
+abbrev pub trail_from : MarkedPolynomials → Trail MarkedPolynomials
+trail_from start = record { here = start; before = [] }
 
 -- The opening was written, and the session from this basis ended: at the line `q` or at the end of the input, with the answers to all lines
 -- that were read before. At most as many bytes were read as an input may have, and no fault was counted.
@@ -64,7 +64,7 @@ pub record IsSessionHeld (ring : List (List ℕ)) (start : MarkedPolynomials) (i
   pub opening : IsOpening ring start text
   pub then : Option (List ℕ)
   pub opened : Appends o.held then text
-  pub ended : IsEnded (basis_rules ring) (walk_from start) i.left j.left i.given j.given then k.held
+  pub ended : IsEnded (basis_rules ring) (trail_from start) i.left j.left i.given j.given then k.held
   pub short : TookAtMost i.left j.left i.given j.given 67108864
   pub calm : j.faults ≡ i.faults
 
@@ -82,7 +82,7 @@ pub data IsSessionCutOff (pairs : ℕ) (ring : List (List ℕ)) (start : MarkedP
   in_opening : (text : List ℕ) → IsOpening ring start text → r ≡ refusals.WriteFault → Rose o.faults k.faults → AppendsPrefix o.held k.held text → j ≡ i →
       IsSessionCutOff pairs ring start i j o k r
   in_session : (text : List ℕ) (then : Option (List ℕ)) (e : SessionError TreeError) → IsOpening ring start text → Appends o.held then text →
-      IsCause (basis_rules ring) (IsPlaceRefusal pairs) (walk_from start) i.left j.left i.given j.given then k.held i.faults j.faults o.faults k.faults e →
+      IsCause (basis_rules ring) (IsStateRefusal pairs) (trail_from start) i.left j.left i.given j.given then k.held i.faults j.faults o.faults k.faults e →
       IsWithinInput i.left j.left i.given j.given e → IsReadCalm i.faults j.faults e → IsWriteCalm o.faults k.faults e → r ≡ of_session e →
       IsSessionCutOff pairs ring start i j o k r
 
@@ -99,7 +99,7 @@ pub record IsCutFrom (pairs : ℕ) (ring : List (List ℕ)) (s : MarkedPolynomia
   pub cut : IsSessionCutOff pairs ring start i j o k r
 
 -- the set is a reduced basis, no operation of its checks leaves its limits, nor does one of the search over the bases of its ideal
-pub record IsWalkedWithin (pairs n : ℕ) (s : MarkedPolynomials) : Type 0 where
+pub record IsLedWithin (pairs n : ℕ) (s : MarkedPolynomials) : Type 0 where
   pub checked : IsCheckedWithin s
   pub same : s.variables ≡ n
   pub tree : IsTreeWithinLimits (ideal_by n (polys s.items)) pairs
@@ -115,7 +115,7 @@ interactive_command name pairs = record {
   checks = λ v. [];
   IsAnswer = λ v text. ⊥;
   IsCause = λ v r. IsUnopened pairs v.1 r;
-  IsWithin = λ v. IsWalkedWithin pairs (length v.0) v.1;
+  IsWithin = λ v. IsLedWithin pairs (length v.0) v.1;
   writing = Writing.in_turns (record {
     IsEnded = λ v i j o k. IsHeldFrom v.0 v.1 i j o k;
     IsCut = λ v i j o k r. IsCutFrom pairs v.0 v.1 i j o k r;

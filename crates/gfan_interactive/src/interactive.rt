@@ -1,13 +1,13 @@
 //! The command `_interactive`: a session over the bases of an ideal, which starts at the basis of a file.
 ghost use Rattle.std.specs.Prelude.{◌≡◌, ℕ, List, length, IfOk, IfErr, OnOk};
-ghost use Rattle.gf_basis_places.specs.BasisRules.{IsBasisPlace};
+ghost use Rattle.gf_basis_states.specs.BasisRules.{IsBasisState};
 ghost use Rattle.gf_frame.specs.Seen.{output_seen};
 ghost use Rattle.gfan_interactive.specs.Interactive.{IsOpening, IsUnopened, IsSessionHeld, IsSessionCutOff, of_session, input_seen, IsConversed};
 ghost use Rattle.gfan_interactive.specs.Interactive.{IsNotConversed};
 ghost use Rattle.gfan_common.specs.ReducedSets.{IsReducedAsRead};
 ghost use Rattle.gfan_common.specs.Refused.{IsOfSource};
 
-use gf_basis_places::{BasisPlace, BasisPlaces, push_prompt};
+use gf_basis_states::{BasisState, BasisStates, push_prompt};
 use gf_front::Refusal;
 use gf_items::{RingAndMarked, ring_and_marked};
 use gf_outside::{Sink, Source, WriteFault, write_all};
@@ -33,7 +33,7 @@ fn of_session(error: SessionError<TreeError>) -> Refusal
 }
 
 /// The basis of the set, as the place at which a session starts.
-fn start_of(alloc: Global, set: &MarkedSet) -> Result<BasisPlace, Refusal>
+fn start_of(alloc: Global, set: &MarkedSet) -> Result<BasisState, Refusal>
     ensures ok { IfOk result (IsReducedAsRead set.now) }
     ensures err { (pairs : ℕ) → IfErr result (IsUnopened pairs set.now) }
 {
@@ -41,14 +41,14 @@ fn start_of(alloc: Global, set: &MarkedSet) -> Result<BasisPlace, Refusal>
         Ok(basis) => basis,
         Err(error) => return Err(of_check(error)),
     };
-    match BasisPlace::new(alloc, basis) {
+    match BasisState::new(alloc, basis) {
         Ok(start) => Ok(start),
         Err(error) => Err(of_tree(error)),
     }
 }
 
 /// The text before the first line: the ring in a line, and what is printed for the first basis.
-fn opening(alloc: Global, ring: &Ring, start: &BasisPlace) -> Result<Vec<u8>, AllocError>
+fn opening(alloc: Global, ring: &Ring, start: &BasisState) -> Result<Vec<u8>, AllocError>
     requires { start.now.variables ≡ length ring.now }
     ensures { IfOk result (λ text. IsOpening ring.now start.now text.items) }
 {
@@ -62,13 +62,13 @@ fn opening(alloc: Global, ring: &Ring, start: &BasisPlace) -> Result<Vec<u8>, Al
 fn talk<S: Source, K: Sink>(
     alloc: Global,
     ring: &Ring,
-    start: BasisPlace,
+    start: BasisState,
     text: &[u8],
     pairs: u64,
     input: &mut S,
     output: &mut K,
 ) -> Result<(), Refusal>
-    requires place { IsBasisPlace (length ring.now) start }
+    requires place { IsBasisState (length ring.now) start }
     requires opening { IsOpening ring.now start text.now }
     ensures held { OnOk result (IsSessionHeld ring.now start (input_seen (S.left input.old) (S.given input.old) (S.faults input.old))
         (input_seen (S.left input.new) (S.given input.new) (S.faults input.new)) (output_seen (K.held output.old) (K.faults output.old))
@@ -80,8 +80,8 @@ fn talk<S: Source, K: Sink>(
 {
     match write_all(output, text) {
         Ok(()) => {
-            let places = BasisPlaces { ring, pairs, alloc };
-            match converse(alloc, &places, start, input, output) {
+            let states = BasisStates { ring, pairs, alloc };
+            match converse(alloc, &states, start, input, output) {
                 Ok(()) => Ok(()),
                 Err(error) => Err(of_session(error)),
             }

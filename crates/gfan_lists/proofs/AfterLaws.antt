@@ -43,7 +43,7 @@ use Rattle.gf_facets_theory.proofs.SystemLaws.{all_positive-region, marks_of_ope
 use Rattle.gf_bases_theory.proofs.LawsHold.{only_ideals_count}
 use Rattle.gf_reverse_theory.specs.Upward.{IsNode, IsNodeIn, fan_of}
 use Rattle.gf_reverse_theory.proofs.TreeLaws.{node_moved, own_fan, back_fan}
-use Rattle.gf_flip.specs.declared.error.TreeError.{TreeError}
+use Rattle.gf_tree.specs.TreeError.{TreeError}
 use Rattle.gf_tree.specs.Ideals.{ideal_within}
 use Rattle.gf_tree.specs.Refusals.{IsTreeRefusal}
 use Rattle.gf_tree.proofs.RefusalLaws.{refusal_moved}

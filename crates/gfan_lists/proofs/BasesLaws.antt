@@ -13,7 +13,7 @@ use Rattle.gf_poly.specs.Marking.{MarkedPolynomials}
 use Rattle.gf_text.specs.declared.written.Written.{Written}
 use Rattle.gf_text.specs.Sets.{AreIn}
 use Rattle.gf_ideal_theory.specs.Membership.{AreInVariables}
-use Rattle.gf_buchberger.proofs.JobLaws.{ring_variables}
+use Rattle.gf_buchberger.proofs.TaskLaws.{ring_variables}
 use Rattle.gf_reverse_search.specs.Listing.{Among}
 use Rattle.gf_reverse_search.specs.Whole.{IsFinite}
 use Rattle.gf_facets_theory.specs.Regions.{Region}
@@ -21,8 +21,8 @@ use Rattle.gf_facets_theory.specs.LexPositive.{IsBefore}
 use Rattle.gf_reverse_theory.specs.Upward.{IsNode, IsNodeIn, IsParent, fan_of}
 use Rattle.gf_reverse_theory.proofs.TreeLaws.{SameFan, count, upward_finite, node_moved, own_fan, back_fan}
 use Rattle.gf_reverse_theory.proofs.ListLaws.{own}
-use Rattle.gf_flip.specs.declared.error.TreeError.{TreeError}
-use Rattle.gf_flip.specs.declared.error.TreeError.TheVariants as tree_errors
+use Rattle.gf_tree.specs.TreeError.{TreeError}
+use Rattle.gf_tree.specs.TreeError.TheVariants as tree_errors
 use Rattle.gf_tree.specs.Ideals.{ideal_within}
 use Rattle.gf_tree.specs.Parents.{IsRootFor}
 use Rattle.gf_tree.specs.Steps.{IsResumed}

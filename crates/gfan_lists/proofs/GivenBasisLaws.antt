@@ -29,7 +29,7 @@ use Rattle.gf_bases_theory.proofs.LawsHold.{of_reduced}
 use Rattle.gf_reverse_theory.specs.Upward.{IsNode, IsNodeIn, fan_of}
 use Rattle.gf_reverse_theory.proofs.TreeLaws.{own_fan, back_fan}
 use Rattle.gf_reverse_theory.proofs.ListLaws.{own}
-use Rattle.gf_flip.specs.declared.error.TreeError.{TreeError}
+use Rattle.gf_tree.specs.TreeError.{TreeError}
 use Rattle.gf_tree.specs.Ideals.{ideal_by}
 use Rattle.gf_tree.specs.Parents.{ideal_of, IsRootFor}
 use Rattle.gf_tree.specs.Refusals.{IsTreeRefusal, IsWayRefused}

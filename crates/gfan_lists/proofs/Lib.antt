@@ -1,4 +1,3 @@
-pub mod PartsLaws  -- parts of a list make it up
 pub mod CertificateLaws  -- what stands for a basis is one text, and what its certificates show
 pub mod BasesTextLaws  -- pieces that follow one another are the text of the list
 pub mod StoppedLaws  -- what stands where a list is refused, and why
@@ -16,3 +15,5 @@ pub mod ListWritingLaws  -- what `_bases` does with its texts
 pub mod PastLaws  -- two lists after one basis are one, and lists that continue after their limit
 pub mod AskedLaws  -- what the input says, as the code has it
 pub mod TextsLaws  -- texts as the code lists them
+pub use Rattle.gf_subtree.proofs.BasisRowLaws
+pub use Rattle.gf_lists_theory.proofs.BasesListLaws

@@ -6,7 +6,7 @@ use Rattle.std.proofs.Common.{sym, ap, ◌∙◌, subst, inl, inr}
 use Rattle.gf_poly.specs.Polynomial.{Terms}
 use Rattle.gf_poly.specs.Marking.{MarkedPolynomials, polys}
 use Rattle.gf_ideal_theory.specs.Membership.{AreInVariables}
-use Rattle.gf_buchberger.proofs.JobLaws.{ring_variables}
+use Rattle.gf_buchberger.proofs.TaskLaws.{ring_variables}
 use Rattle.gf_gordan.specs.Alternative.{AreRows}
 use Rattle.gf_reduced.proofs.GroebnerLaws.{polys_variables}
 use Rattle.gf_facets_theory.specs.Regions.{Region}

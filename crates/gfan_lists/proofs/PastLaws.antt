@@ -22,8 +22,7 @@ use Rattle.gfan_lists.specs.Within.{of_region}
 use Rattle.gfan_lists.specs.Ways.{Ways}
 use Rattle.gfan_lists.specs.ListCommand.{Behind, IsFront, ListValue, names_in, ideal_in, reading_list, checks_list, IsListAnswer, IsUnstarted}
 use Rattle.gfan_lists.specs.ListCommand.{IsEarlyCause, IsListCause, IsListPast, AreTextsPast, list_command}
-use Rattle.gf_lists_theory.proofs.OneListLaws.{one_list_in}
-use Rattle.gfan_lists.proofs.PartsLaws.{behind_once}
+use Rattle.gf_lists_theory.proofs.OneListLaws.{one_list_in, behind_once}
 use Rattle.gfan_lists.proofs.CertificateLaws.{items_one}
 use Rattle.gfan_lists.proofs.AfterLaws.{cut_one, cut_region, taken_once}
 use Rattle.gfan_lists.proofs.StartLaws.{past_limit}

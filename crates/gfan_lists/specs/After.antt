@@ -10,7 +10,7 @@ use Rattle.gf_reduced.specs.Markings.{IsMarkedGroebnerBasis, IsReducedBasisOf, I
 use Rattle.gf_reduced.specs.Terms.{AreReduced}
 use Rattle.gf_reduced.specs.Refusals.{of_poly, IsReducedRefusalBeside, AreChecksWithinLimitsBeside}
 use Rattle.gf_facets_theory.specs.Regions.{Region, all_positive}
-use Rattle.gf_flip.specs.declared.error.TreeError.{TreeError}
+use Rattle.gf_tree.specs.TreeError.{TreeError}
 use Rattle.gf_tree.specs.Ideals.{ideal_within}
 use Rattle.gf_tree.specs.Refusals.{IsTreeRefusal, IsTreeWithinLimits}
 use Rattle.gf_weights.specs.Roots.{IsRegionOf}

@@ -9,7 +9,7 @@ use Rattle.gf_buchberger.specs.declared.bases.BasisError.{BasisError}
 use Rattle.gf_buchberger.specs.declared.queue.Strategy.TheVariants as strategies
 use Rattle.gf_buchberger.specs.Ruled.{AreRuledRunsWithinLimits}
 use Rattle.gf_buchberger.specs.Bases.{IsBasisRefusal, IsWantOfMemory}
-use Rattle.gf_flip.specs.declared.error.TreeError.{TreeError}
+use Rattle.gf_tree.specs.TreeError.{TreeError}
 use Rattle.gf_facets_theory.specs.Regions.{Region}
 use Rattle.gf_tree.specs.Ideals.{ideal_within}
 use Rattle.gf_subtree.specs.Answers.{IsRefusedEarly}

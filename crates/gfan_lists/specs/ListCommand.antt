@@ -14,8 +14,8 @@ use Rattle.gf_reduced.specs.Forms.{monic_set}
 use Rattle.gf_reduced.specs.Markings.{IsMarkedGroebnerBasis}
 use Rattle.gf_reduced.specs.Refusals.{AreChecksWithinLimits}
 use Rattle.gf_facets_theory.specs.Regions.{Region, all_positive}
-use Rattle.gf_flip.specs.declared.error.TreeError.{TreeError}
-use Rattle.gf_flip.specs.declared.error.TreeError.TheVariants as tree_errors
+use Rattle.gf_tree.specs.TreeError.{TreeError}
+use Rattle.gf_tree.specs.TreeError.TheVariants as tree_errors
 use Rattle.gf_tree.specs.Ideals.{ideal_within}
 use Rattle.gf_tree.specs.Refusals.{IsWayRefused, IsTreeWithinLimits}
 use Rattle.gf_subtree.specs.Answers.{IsRefusedEarly}

@@ -5,7 +5,7 @@ ghost use Rattle.gf_poly.specs.Marking.{MarkedPolynomials};
 ghost use Rattle.gf_ideal_theory.specs.Marks.{HasPositiveWeight};
 ghost use Rattle.gf_reduced.specs.Refusals.{IsReducedRefusalBeside};
 ghost use Rattle.gf_reverse_theory.specs.Upward.{IsNode, IsNodeIn, fan_of};
-ghost use Rattle.gf_flip.specs.declared.error.TreeError.{TreeError};
+ghost use Rattle.gf_tree.specs.TreeError.{TreeError};
 ghost use Rattle.gf_tree.specs.Ideals.{ideal_within};
 ghost use Rattle.gf_tree.specs.Refusals.{IsTreeRefusal};
 ghost use Rattle.gfan_common.specs.Causes.{of_tree};

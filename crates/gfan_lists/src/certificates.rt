@@ -7,7 +7,7 @@ use gf_cone::Region;
 use gf_front::Refusal;
 use gf_poly::MarkedSet;
 use gf_text::Printer;
-use gf_weights::{Certificates, FacetWitness, certify_in};
+use gf_weights::{BasisCertificates, FacetWitness, certify_in};
 use gfan_common::refused::of_weight_error;
 use std::alloc::{AllocError, Global};
 
@@ -46,7 +46,7 @@ fn push_facets(text: &mut Vec<u8>, facets: &[FacetWitness]) -> Result<(), AllocE
 }
 
 /// Adds a line end, the weight, a line end, and the facets in braces.
-fn push_certificates(text: &mut Vec<u8>, told: &Certificates) -> Result<(), AllocError>
+fn push_certificates(text: &mut Vec<u8>, told: &BasisCertificates) -> Result<(), AllocError>
     ensures { OnOk result (text.new.items ≡ text.old.items ++ certificates_text told.now.weight told.now.facets.items) }
 {
     text.push(b'\n')?;

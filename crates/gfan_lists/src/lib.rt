@@ -10,3 +10,5 @@ mod certificates;
 mod given_basis;
 pub mod list;
 mod within;
+
+pub use gf_groebner_walk::basis_by_several_ways;

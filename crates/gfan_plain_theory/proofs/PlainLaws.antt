@@ -6,9 +6,9 @@ use Rattle.gf_frac.specs.declared.refusal.Overflow.{Overflow}
 use Rattle.gf_exponents_theory.specs.SixOrders.{MonomialOrder}
 use Rattle.gf_poly.specs.Polynomial.{Terms}
 use Rattle.gf_facets_theory.specs.Regions.{all_positive}
-use Rattle.gf_tree.specs.Ideals.{ideal_by}
+use Rattle.gfan_lists.specs.Ideals.{ideal_by}
 use Rattle.gf_binomials_theory.specs.Binomials.{AreBinomials}
-use Rattle.gf_binomial_calls_theory.proofs.LawsHold.{refusals_tell_no_overflow}
+use Rattle.gfan_fans.proofs.LawsHold.{refusals_tell_no_overflow}
 use Rattle.gf_generated.specs.Generated.{generated_set}
 use Rattle.gf_generated.proofs.GeneratedLaws.{generators_are_binomials}
 use Rattle.gf_front.specs.declared.options.BuchbergerOptions.{BuchbergerOptions}

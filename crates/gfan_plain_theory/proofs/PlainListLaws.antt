@@ -17,17 +17,17 @@ use Rattle.gf_division.specs.Autoreduction.{IsAutoreductionRefusal}
 use Rattle.gf_reduced.specs.Forms.{monic_of}
 use Rattle.gf_reduced.specs.Refusals.{of_poly, IsReducedBasisRefusal, IsReducedRefusalBeside}
 use Rattle.gf_reduced.proofs.GroebnerLaws.{polys_variables}
-use Rattle.gf_flip.specs.declared.error.TreeError.{TreeError}
-use Rattle.gf_flip.specs.declared.error.TreeError.TheVariants as tree_errors
+use Rattle.gfan_lists.specs.TreeError.{TreeError}
+use Rattle.gfan_lists.specs.TreeError.TheVariants as tree_errors
 use Rattle.gf_facets_theory.specs.Regions.{Region}
-use Rattle.gf_tree.specs.Ideals.{ideal_by, ideal_within}
-use Rattle.gf_tree.specs.Refusals.{IsTreeRefusal}
-use Rattle.gf_subtree.proofs.BasisRowLaws.{early_refused}
+use Rattle.gfan_lists.specs.Ideals.{ideal_by, ideal_within}
+use Rattle.gfan_lists.specs.Refusals.{IsTreeRefusal}
+use Rattle.gfan_lists.proofs.BasisRowLaws.{early_refused}
 use Rattle.gf_binomials_theory.specs.Binomials.{IsBinomial, AreBinomials, AreMarkedBinomials}
 use Rattle.gf_binomial_bases_theory.proofs.LawsHold.{bases_of_binomials}
-use Rattle.gf_binomial_calls_theory.specs.Sets.{IsBinomialSet}
-use Rattle.gf_binomial_calls_theory.proofs.CheckLaws.{member_fits, polys_binomial, forms_binomial, pairs_fit}
-use Rattle.gf_binomial_calls_theory.proofs.LawsHold.{refusals_tell_no_overflow}
+use Rattle.gfan_fans.specs.Sets.{IsBinomialSet}
+use Rattle.gfan_fans.proofs.CheckLaws.{member_fits, polys_binomial, forms_binomial, pairs_fit}
+use Rattle.gfan_fans.proofs.LawsHold.{refusals_tell_no_overflow}
 use Rattle.gf_front.specs.declared.options.BasesOptions.{BasesOptions}
 use Rattle.gf_front.specs.declared.refusal.Refusal.TheVariants as refusals
 use Rattle.gf_items.specs.Items.{IsTextRefused}
@@ -37,7 +37,7 @@ use Rattle.gf_frame.specs.Commands.{IsUnanswered, IsRefusedOn}
 use Rattle.gfan_lists.specs.declared.bases.ListOptions.{ListOptions}
 use Rattle.gfan_common.specs.Forms.{generators_of}
 use Rattle.gfan_common.specs.Causes.{of_tree}
-use Rattle.gf_lists_theory.specs.Starts.{StartsIn}
+use Rattle.gfan_lists.specs.Starts.{StartsIn}
 use Rattle.gfan_common.specs.CheckedSets.{of_check, IsSomeReductionRefusal}
 use Rattle.gfan_lists.specs.After.{IsBasisTaken, IsUnlisted, Given, names_given, generators_given, reading_given, IsUnrooted, IsStartRefused}
 use Rattle.gfan_lists.specs.Bases.{IsSearchRefusedBehind, IsGoingCauseBehind}
@@ -48,7 +48,7 @@ use Rattle.gf_weights.specs.declared.region.RegionError.TheVariants as region_er
 use Rattle.gfan_common.specs.ToolForms.{for_each}
 use Rattle.gfan_lists.specs.Within.{of_region, IsGivenRegionRootRefusal}
 use Rattle.gfan_plain_theory.specs.PlainInputs.{IsPlainFrom}
-use Rattle.gf_lists_theory.proofs.BasesListLaws.{given_node}
+use Rattle.gfan_lists.proofs.BasesListLaws.{given_node}
 use Rattle.gfan_lists.proofs.GivenBasisLaws.{way_in_tree}
 use Rattle.gfan_plain_theory.proofs.PlainReadLaws.{tells_text, no_weight, basis_never, tree_never, check_never, poly_never, set_binomials, marked_binomials}
 use Rattle.gfan_plain_theory.proofs.PlainReadLaws.{set_text_never}

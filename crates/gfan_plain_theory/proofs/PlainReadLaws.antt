@@ -33,16 +33,16 @@ use Rattle.gf_buchberger.specs.Bases.{IsBasisRefusal}
 use Rattle.gf_reduced.specs.declared.error.CheckError.{CheckError}
 use Rattle.gf_reduced.specs.declared.error.CheckError.TheVariants as check_errors
 use Rattle.gf_reduced.specs.Refusals.{of_poly}
-use Rattle.gf_flip.specs.declared.error.TreeError.{TreeError}
-use Rattle.gf_flip.specs.declared.error.TreeError.TheVariants as tree_errors
+use Rattle.gfan_lists.specs.TreeError.{TreeError}
+use Rattle.gfan_lists.specs.TreeError.TheVariants as tree_errors
 use Rattle.gf_reverse_theory.specs.Upward.{Fan}
-use Rattle.gf_tree.specs.Refusals.{IsTreeRefusal}
+use Rattle.gfan_lists.specs.Refusals.{IsTreeRefusal}
 use Rattle.gf_weights.specs.declared.error.WeightError.{WeightError}
 use Rattle.gf_weights.specs.declared.error.WeightError.TheVariants as weight_errors
 use Rattle.gf_binomials_theory.specs.Binomials.{IsBinomial, AreBinomials}
-use Rattle.gf_binomial_calls_theory.specs.Sets.{IsBinomialSet}
-use Rattle.gf_binomial_calls_theory.specs.Written.{ArePlainlyWritten, written_polynomials}
-use Rattle.gf_binomial_calls_theory.proofs.LawsHold.{refusals_tell_no_overflow, plain_sets_are_binomials}
+use Rattle.gfan_fans.specs.Sets.{IsBinomialSet}
+use Rattle.gfan_fans.specs.Written.{ArePlainlyWritten, written_polynomials}
+use Rattle.gfan_fans.proofs.LawsHold.{refusals_tell_no_overflow, plain_sets_are_binomials}
 use Rattle.gf_front.specs.declared.refusal.Refusal.TheVariants as refusals
 use Rattle.gf_items.specs.Items.{from, a_vector, IsOneRefused, IsRefusedWhere, IsTextRefused}
 use Rattle.gf_items.specs.Sources.{ring_set_vector, ring_marked_set}

@@ -8,7 +8,7 @@ use Rattle.gf_text.specs.Tokens.{lexemes, ring_more, lex_tokens}
 use Rattle.gf_text.specs.Rings.{IsRingRead}
 use Rattle.gf_text.specs.SetText.{IsSetText}
 use Rattle.gf_text.specs.ListText.{IsListText}
-use Rattle.gf_binomial_calls_theory.specs.Written.{ArePlainlyWritten}
+use Rattle.gfan_fans.specs.Written.{ArePlainlyWritten}
 use Rattle.gf_items.specs.Items.{from}
 use Rattle.gfan_plain_theory.specs.PlainInputs.{BeginsPlainly, BeginsWithTwoPlainly, BeginsWithPlainSets}
 

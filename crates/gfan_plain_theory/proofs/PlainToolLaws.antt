@@ -19,15 +19,15 @@ use Rattle.gf_buchberger.specs.declared.bases.BasisError.TheVariants as basis_er
 use Rattle.gf_duality_theory.specs.Faces.{Rows}
 use Rattle.gf_reverse_theory.specs.Upward.{IsNodeIn}
 use Rattle.gf_reverse_theory.proofs.FanLaws.{among_of}
-use Rattle.gf_tree.specs.Ideals.{ideal_by}
+use Rattle.gfan_lists.specs.Ideals.{ideal_by}
 use Rattle.gf_saturate.specs.Saturating.{IsSaturateRefusal}
-use Rattle.gf_initial_monomials.specs.declared.error.InitialError.{InitialError}
-use Rattle.gf_initial_monomials.specs.declared.error.InitialError.TheVariants as initial
-use Rattle.gf_initial_monomials.proofs.OutcomeLaws.{reached_in}
-use Rattle.gf_tropical_basis_test.specs.declared.error.BasisTestError.{BasisTestError}
-use Rattle.gf_tropical_basis_test.specs.Refusals.{IsRefusedWithBasis, AreBasesRefused, IsVerdictRefusal}
-use Rattle.gf_tropical.specs.declared.error.TropicalError.{TropicalError}
-use Rattle.gf_tropical.specs.declared.error.TropicalError.TheVariants as tropical_errors
+use Rattle.gfan_fans.specs.InitialError.{InitialError}
+use Rattle.gfan_fans.specs.InitialError.TheVariants as initial
+use Rattle.gfan_fans.proofs.OutcomeLaws.{reached_in}
+use Rattle.gfan_fans.specs.BasisTestError.{BasisTestError}
+use Rattle.gfan_fans.specs.Refusals.{IsRefusedWithBasis, AreBasesRefused, IsVerdictRefusal}
+use Rattle.gfan_fans.specs.TropicalError.{TropicalError}
+use Rattle.gfan_fans.specs.TropicalError.TheVariants as tropical_errors
 use Rattle.gf_sections.specs.declared.error.SectionsError.{SectionsError}
 use Rattle.gf_sections.specs.declared.error.SectionsError.TheVariants as sections_errors
 use Rattle.gf_fan.specs.declared.error.FanError.{FanError}
@@ -38,10 +38,10 @@ use Rattle.gf_reduced.specs.Forms.{monic_of, monic_set}
 use Rattle.gf_reduced.specs.Refusals.{of_poly, IsTestRefusal, IsReducedBasisRefusal, IsReducedRefusal}
 use Rattle.gf_binomials_theory.specs.Binomials.{IsBinomial, AreBinomials}
 use Rattle.gf_binomial_bases_theory.proofs.LawsHold.{bases_of_binomials}
-use Rattle.gf_binomial_calls_theory.specs.Sets.{IsBinomialSet}
-use Rattle.gf_binomial_calls_theory.specs.Written.{ArePlainlyWritten}
-use Rattle.gf_binomial_calls_theory.proofs.CheckLaws.{forms_binomial}
-use Rattle.gf_binomial_calls_theory.proofs.LawsHold.{refusals_tell_no_overflow, plain_sets_are_binomials}
+use Rattle.gfan_fans.specs.Sets.{IsBinomialSet}
+use Rattle.gfan_fans.specs.Written.{ArePlainlyWritten}
+use Rattle.gfan_fans.proofs.CheckLaws.{forms_binomial}
+use Rattle.gfan_fans.proofs.LawsHold.{refusals_tell_no_overflow, plain_sets_are_binomials}
 use Rattle.gf_text.specs.declared.error.TextError.TheVariants as text_errors
 use Rattle.gf_text.specs.declared.tree.WrittenTerm.{WrittenTerm}
 use Rattle.gf_text.specs.declared.written.Written.{Written}

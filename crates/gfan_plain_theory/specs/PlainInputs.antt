@@ -8,7 +8,7 @@ use Rattle.gf_text.specs.Tokens.{lexemes, ring_more}
 use Rattle.gf_text.specs.Rings.{IsRingRead}
 use Rattle.gf_text.specs.SetText.{IsSetText}
 use Rattle.gf_text.specs.ListText.{IsListText}
-use Rattle.gf_binomial_calls_theory.specs.Written.{ArePlainlyWritten}
+use Rattle.gfan_fans.specs.Written.{ArePlainlyWritten}
 use Rattle.gf_front.specs.declared.command_line.Job.{Job}
 use Rattle.gf_front.specs.declared.command_line.Job.TheVariants as jobs
 use Rattle.gf_front.specs.declared.plain.PlainCommand.{PlainCommand}

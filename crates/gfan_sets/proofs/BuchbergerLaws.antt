@@ -18,8 +18,8 @@ use Rattle.gf_buchberger.specs.declared.queue.Strategy.TheVariants as strategies
 use Rattle.gf_buchberger.specs.Ruled.{AreRuledRunsWithinLimits}
 use Rattle.gf_buchberger.specs.Bases.{IsBasisRefusal, IsWantOfMemory}
 use Rattle.gf_buchberger.specs.declared.homogeneity.NotHomogeneous.{NotHomogeneous}
-use Rattle.gf_buchberger.specs.Jobs.{HaveRingVariables, IsSuited}
-use Rattle.gf_buchberger.proofs.JobLaws.{orders_that_suit}
+use Rattle.gf_buchberger.specs.Tasks.{HaveRingVariables, IsSuited}
+use Rattle.gf_buchberger.proofs.TaskLaws.{orders_that_suit}
 use Rattle.gf_front.specs.declared.options.BuchbergerOptions.{BuchbergerOptions}
 use Rattle.gf_front.specs.declared.refusal.Refusal.{Refusal}
 use Rattle.gf_front.specs.declared.refusal.Refusal.TheVariants as refusals

@@ -115,7 +115,7 @@ pub struct Runner<'r, R: Threads + Sync> {
 }
 
 impl<'r, R: Threads + Sync> Runner<'r, R> {
-    /// How the run of a call ends over these devices, with this gate before each job of a list.
+    /// How the run of a call ends over these devices, with this gate before each batch of a list.
     ///
     /// # Errors
     ///

@@ -1,4 +1,4 @@
-//! Rows of lists by several workers: they end as those of one do, and their jobs run at the same time.
+//! Rows of lists by several workers: they end as those of one do, and their batches run at the same time.
 use crate::rows::Row;
 use crate::runs::{PIECES, Runner, is_report_begun};
 use gf_waves::{FreeGate, Gate};
@@ -9,7 +9,7 @@ use std::thread::Threads;
 /// The numbers of workers that are tried.
 const WORKERS: [&str; 5] = ["1", "2", "4", "7", "64"];
 
-/// Lets jobs 1 and 2 meet, those of the second wave: each sets its own flag and looks for the other's, for so many turns.
+/// Lets batches 1 and 2 meet, those of the second wave: each sets its own flag and looks for the other's, for so many turns.
 #[derive(Drop)]
 struct Meeting {
     first: AtomicU64,
@@ -17,7 +17,7 @@ struct Meeting {
     spent: AtomicU64,
 }
 
-/// How often a job looks for the other.
+/// How often a batch looks for the other.
 const TURNS: u64 = 100_000_000;
 
 impl Meeting {
@@ -31,7 +31,7 @@ impl Meeting {
         self.spent.store(1, Ordering::SeqCst);
     }
 
-    /// Whether both jobs came, and neither spent its turns.
+    /// Whether both batches came, and neither spent its turns.
     fn is_held(&self) -> bool {
         self.first.load(Ordering::SeqCst) == 1
             && self.second.load(Ordering::SeqCst) == 1
@@ -40,11 +40,11 @@ impl Meeting {
 }
 
 impl Gate for Meeting {
-    fn at(&self, job: u64) {
-        if job == 1 {
+    fn at(&self, batch: u64) {
+        if batch == 1 {
             self.meet(&self.first, &self.second);
         }
-        if job == 2 {
+        if batch == 2 {
             self.meet(&self.second, &self.first);
         }
     }
@@ -70,7 +70,7 @@ impl<'r, R: Threads + Sync> Runner<'r, R> {
         Ok(true)
     }
 
-    /// Whether the run of a row ends with its status, and its text and its report begin as the row says; and two workers whose jobs meet end it in the
+    /// Whether the run of a row ends with its status, and its text and its report begin as the row says; and two workers whose batches meet end it in the
     /// same way.
     ///
     /// # Errors

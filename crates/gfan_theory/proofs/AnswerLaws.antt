@@ -17,7 +17,7 @@ use Rattle.gf_items.proofs.ReadingLaws.{source_once}
 use Rattle.gfan_common.specs.Forms.{generators_of}
 use Rattle.gfan_lists.specs.After.{IsBasisTaken}
 use Rattle.gfan_lists.proofs.AfterLaws.{taken_once}
-use Rattle.gfan_lists.proofs.PartsLaws.{behind_once}
+use Rattle.gf_lists_theory.proofs.OneListLaws.{behind_once}
 use Rattle.gfan_theory.specs.ListSources.{HasPolynomials}
 use Rattle.gfan_lists.specs.Ways.{ways_by}
 use Rattle.gfan_lists.specs.After.{names_given, generators_given, reading_given, IsRegionCut}

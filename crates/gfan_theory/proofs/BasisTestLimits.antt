@@ -72,10 +72,10 @@ use Rattle.gf_ideal_theory.proofs.OrderWeights.{IsGrading}
 use Rattle.gf_ideal_theory.proofs.PieceLaws.{Contains-marked}
 use Rattle.gf_ideal_theory.proofs.MembershipLaws.{variables_of_member}
 use Rattle.gf_bases_theory.proofs.GradedBasisLaws.{basis-graded}
-use Rattle.gf_buchberger.specs.Jobs.{HaveRingVariables}
+use Rattle.gf_buchberger.specs.Tasks.{HaveRingVariables}
 use Rattle.gf_buchberger.specs.Pairs.{pairs_below}
 use Rattle.gf_buchberger.specs.declared.queue.Strategy.TheVariants.{Degree}
-use Rattle.gf_buchberger.proofs.JobLaws.{ring_variables}
+use Rattle.gf_buchberger.proofs.TaskLaws.{ring_variables}
 use Rattle.gf_duality_theory.specs.Faces.{Rows, IsInCone, sum_of}
 use Rattle.gf_duality_theory.proofs.ListLaws.{none_in, in_tail, in_cons}
 use Rattle.gf_duality_theory.proofs.Determined.{described_of}
@@ -128,8 +128,8 @@ use Rattle.gfan_theory.proofs.CoefficientSums.{sum_same, sum_of_member, sum_of_b
 use Rattle.gfan_theory.proofs.DifferenceLimits.{rows_small}
 use Rattle.gfan_theory.proofs.LinearBases.{region_members}
 use Rattle.gfan_theory.proofs.LinearLimits.{search_within}
-use Rattle.gfan_theory.proofs.LinearNormals.{IsLinearNormal, normal_at, variable_at as variable_at_place, linear_normals}
-use Rattle.gfan_theory.proofs.LinearRuns.{AreLinearMembers, place_of, pairs_mono, linear_ruled_runs}
+use Rattle.gfan_theory.proofs.LinearNormals.{IsLinearNormal, normal_at, variable_at as variable_at_index, linear_normals}
+use Rattle.gfan_theory.proofs.LinearRuns.{AreLinearMembers, index_of, pairs_mono, linear_ruled_runs}
 use Rattle.gfan_theory.proofs.RepeatedRows.{IsAlongOne, has_far_room, repeated_rows_fit}
 use Rattle.gfan_theory.proofs.SaturationLimits.{IsGood, linear_of, saturations_of_good}
 use Rattle.gfan_theory.proofs.VariableLaws.{either, variable_weight}
@@ -316,41 +316,41 @@ on_three (x ∷ y ∷ []) l = absurd (omega (arith, l))
 on_three (x ∷ y ∷ z ∷ t ∷ v) l = absurd (omega (arith, l))
 
 -- a row that compares entries p and q
-data Places (p q n : ℕ) : Type 0 where
-  same_place : p ≡ q → Places p q n
-  two_first : n ≡ 2 → p ≡ 0 → q ≡ 1 → Places p q n
-  two_second : n ≡ 2 → p ≡ 1 → q ≡ 0 → Places p q n
-  three_first : n ≡ 3 → p ≡ 0 → q ≡ 1 → Places p q n
-  three_second : n ≡ 3 → p ≡ 1 → q ≡ 0 → Places p q n
-  three_third : n ≡ 3 → p ≡ 0 → q ≡ 2 → Places p q n
-  three_fourth : n ≡ 3 → p ≡ 2 → q ≡ 0 → Places p q n
-  three_fifth : n ≡ 3 → p ≡ 1 → q ≡ 2 → Places p q n
-  three_sixth : n ≡ 3 → p ≡ 2 → q ≡ 1 → Places p q n
+data Indices (p q n : ℕ) : Type 0 where
+  same_index : p ≡ q → Indices p q n
+  two_first : n ≡ 2 → p ≡ 0 → q ≡ 1 → Indices p q n
+  two_second : n ≡ 2 → p ≡ 1 → q ≡ 0 → Indices p q n
+  three_first : n ≡ 3 → p ≡ 0 → q ≡ 1 → Indices p q n
+  three_second : n ≡ 3 → p ≡ 1 → q ≡ 0 → Indices p q n
+  three_third : n ≡ 3 → p ≡ 0 → q ≡ 2 → Indices p q n
+  three_fourth : n ≡ 3 → p ≡ 2 → q ≡ 0 → Indices p q n
+  three_fifth : n ≡ 3 → p ≡ 1 → q ≡ 2 → Indices p q n
+  three_sixth : n ≡ 3 → p ≡ 2 → q ≡ 1 → Indices p q n
 
-places_of : (n p q : ℕ) → n ≤ 3 → p < n → q < n → Places p q n
-places_of zero p q l h k = absurd (omega (arith, h))
-places_of (suc zero) p q l h k = Places.same_place (omega (arith, h, k))
-places_of (suc (suc zero)) zero zero l h k = Places.same_place refl
-places_of (suc (suc zero)) zero (suc zero) l h k = Places.two_first refl refl refl
-places_of (suc (suc zero)) (suc zero) zero l h k = Places.two_second refl refl refl
-places_of (suc (suc zero)) (suc zero) (suc zero) l h k = Places.same_place refl
-places_of (suc (suc zero)) zero (suc (suc q)) l h k = absurd (omega (arith, k))
-places_of (suc (suc zero)) (suc zero) (suc (suc q)) l h k = absurd (omega (arith, k))
-places_of (suc (suc zero)) (suc (suc p)) q l h k = absurd (omega (arith, h))
-places_of (suc (suc (suc zero))) zero zero l h k = Places.same_place refl
-places_of (suc (suc (suc zero))) zero (suc zero) l h k = Places.three_first refl refl refl
-places_of (suc (suc (suc zero))) zero (suc (suc zero)) l h k = Places.three_third refl refl refl
-places_of (suc (suc (suc zero))) (suc zero) zero l h k = Places.three_second refl refl refl
-places_of (suc (suc (suc zero))) (suc zero) (suc zero) l h k = Places.same_place refl
-places_of (suc (suc (suc zero))) (suc zero) (suc (suc zero)) l h k = Places.three_fifth refl refl refl
-places_of (suc (suc (suc zero))) (suc (suc zero)) zero l h k = Places.three_fourth refl refl refl
-places_of (suc (suc (suc zero))) (suc (suc zero)) (suc zero) l h k = Places.three_sixth refl refl refl
-places_of (suc (suc (suc zero))) (suc (suc zero)) (suc (suc zero)) l h k = Places.same_place refl
-places_of (suc (suc (suc zero))) zero (suc (suc (suc q))) l h k = absurd (omega (arith, k))
-places_of (suc (suc (suc zero))) (suc zero) (suc (suc (suc q))) l h k = absurd (omega (arith, k))
-places_of (suc (suc (suc zero))) (suc (suc zero)) (suc (suc (suc q))) l h k = absurd (omega (arith, k))
-places_of (suc (suc (suc zero))) (suc (suc (suc p))) q l h k = absurd (omega (arith, h))
-places_of (suc (suc (suc (suc n)))) p q l h k = absurd (omega (arith, l))
+indices_of : (n p q : ℕ) → n ≤ 3 → p < n → q < n → Indices p q n
+indices_of zero p q l h k = absurd (omega (arith, h))
+indices_of (suc zero) p q l h k = Indices.same_index (omega (arith, h, k))
+indices_of (suc (suc zero)) zero zero l h k = Indices.same_index refl
+indices_of (suc (suc zero)) zero (suc zero) l h k = Indices.two_first refl refl refl
+indices_of (suc (suc zero)) (suc zero) zero l h k = Indices.two_second refl refl refl
+indices_of (suc (suc zero)) (suc zero) (suc zero) l h k = Indices.same_index refl
+indices_of (suc (suc zero)) zero (suc (suc q)) l h k = absurd (omega (arith, k))
+indices_of (suc (suc zero)) (suc zero) (suc (suc q)) l h k = absurd (omega (arith, k))
+indices_of (suc (suc zero)) (suc (suc p)) q l h k = absurd (omega (arith, h))
+indices_of (suc (suc (suc zero))) zero zero l h k = Indices.same_index refl
+indices_of (suc (suc (suc zero))) zero (suc zero) l h k = Indices.three_first refl refl refl
+indices_of (suc (suc (suc zero))) zero (suc (suc zero)) l h k = Indices.three_third refl refl refl
+indices_of (suc (suc (suc zero))) (suc zero) zero l h k = Indices.three_second refl refl refl
+indices_of (suc (suc (suc zero))) (suc zero) (suc zero) l h k = Indices.same_index refl
+indices_of (suc (suc (suc zero))) (suc zero) (suc (suc zero)) l h k = Indices.three_fifth refl refl refl
+indices_of (suc (suc (suc zero))) (suc (suc zero)) zero l h k = Indices.three_fourth refl refl refl
+indices_of (suc (suc (suc zero))) (suc (suc zero)) (suc zero) l h k = Indices.three_sixth refl refl refl
+indices_of (suc (suc (suc zero))) (suc (suc zero)) (suc (suc zero)) l h k = Indices.same_index refl
+indices_of (suc (suc (suc zero))) zero (suc (suc (suc q))) l h k = absurd (omega (arith, k))
+indices_of (suc (suc (suc zero))) (suc zero) (suc (suc (suc q))) l h k = absurd (omega (arith, k))
+indices_of (suc (suc (suc zero))) (suc (suc zero)) (suc (suc (suc q))) l h k = absurd (omega (arith, k))
+indices_of (suc (suc (suc zero))) (suc (suc (suc p))) q l h k = absurd (omega (arith, h))
+indices_of (suc (suc (suc (suc n)))) p q l h k = absurd (omega (arith, l))
 
 turned : (x y z : ℤ) → x ≡ y -ℤ z → (d : ℤ) → d ≡ z -ℤ y → x ≡ neg_ℤ d
 turned x y z e d f = omega (arith, ints, e, f)
@@ -367,28 +367,28 @@ module _ (n : ℕ) (h : List ℤ) (few : n ≤ 3) (d : IsDifferenceRow n h) wher
   in_three m e t c = subst (λ k. Contains (directions k) t) (sym e) c
 
   pub along_one : IsAlongOne n (directions n) h
-  along_one = at (places_of n d.high d.low few d.high_inside d.low_inside)
+  along_one = at (indices_of n d.high d.low few d.high_inside d.low_inside)
     where
-      at : Places d.high d.low n → IsAlongOne n (directions n) h
-      at (Places.same_place e) = IsAlongOne.flat (λ v l.
+      at : Indices d.high d.low n → IsAlongOne n (directions n) h
+      at (Indices.same_index e) = IsAlongOne.flat (λ v l.
           let p = value d.high d.low refl refl v l in
           let q : get_or v d.high (pos 0) ≡ get_or v d.low (pos 0) = ap (λ i. get_or v i (pos 0)) e in
           omega (arith, ints, p, q))
-      at (Places.two_first e p q) = IsAlongOne.along one_of_two_rows (in_two n e)
+      at (Indices.two_first e p q) = IsAlongOne.along one_of_two_rows (in_two n e)
           (λ v l. value 0 1 p q v l ∙ sym (on_two v (l ∙ e)))
-      at (Places.two_second e p q) = IsAlongOne.against one_of_two_rows (in_two n e)
+      at (Indices.two_second e p q) = IsAlongOne.against one_of_two_rows (in_two n e)
           (λ v l. turned (dot h v) (get_or v 1 (pos 0)) (get_or v 0 (pos 0)) (value 1 0 p q v l) (dot one_of_two_rows v) (on_two v (l ∙ e)))
-      at (Places.three_first e p q) = IsAlongOne.along first_of_three (in_three n e first_of_three (0, omega arith, refl))
+      at (Indices.three_first e p q) = IsAlongOne.along first_of_three (in_three n e first_of_three (0, omega arith, refl))
           (λ v l. value 0 1 p q v l ∙ sym (on_three v (l ∙ e)).0)
-      at (Places.three_second e p q) = IsAlongOne.against first_of_three (in_three n e first_of_three (0, omega arith, refl))
+      at (Indices.three_second e p q) = IsAlongOne.against first_of_three (in_three n e first_of_three (0, omega arith, refl))
           (λ v l. turned (dot h v) (get_or v 1 (pos 0)) (get_or v 0 (pos 0)) (value 1 0 p q v l) (dot first_of_three v) (on_three v (l ∙ e)).0)
-      at (Places.three_third e p q) = IsAlongOne.along second_of_three (in_three n e second_of_three (1, omega arith, refl))
+      at (Indices.three_third e p q) = IsAlongOne.along second_of_three (in_three n e second_of_three (1, omega arith, refl))
           (λ v l. value 0 2 p q v l ∙ sym (on_three v (l ∙ e)).1)
-      at (Places.three_fourth e p q) = IsAlongOne.against second_of_three (in_three n e second_of_three (1, omega arith, refl))
+      at (Indices.three_fourth e p q) = IsAlongOne.against second_of_three (in_three n e second_of_three (1, omega arith, refl))
           (λ v l. turned (dot h v) (get_or v 2 (pos 0)) (get_or v 0 (pos 0)) (value 2 0 p q v l) (dot second_of_three v) (on_three v (l ∙ e)).1)
-      at (Places.three_fifth e p q) = IsAlongOne.along third_of_three (in_three n e third_of_three (2, omega arith, refl))
+      at (Indices.three_fifth e p q) = IsAlongOne.along third_of_three (in_three n e third_of_three (2, omega arith, refl))
           (λ v l. value 1 2 p q v l ∙ sym (on_three v (l ∙ e)).2)
-      at (Places.three_sixth e p q) = IsAlongOne.against third_of_three (in_three n e third_of_three (2, omega arith, refl))
+      at (Indices.three_sixth e p q) = IsAlongOne.against third_of_three (in_three n e third_of_three (2, omega arith, refl))
           (λ v l. turned (dot h v) (get_or v 2 (pos 0)) (get_or v 1 (pos 0)) (value 2 1 p q v l) (dot third_of_three v) (on_three v (l ∙ e)).2)
 
 has_room_for : (n : ℕ) → 1 ≤ n → n ≤ 3 → has_far_room n 1 (length (directions n)) ≡ true
@@ -499,8 +499,8 @@ module _ (n : ℕ) (fs : List Terms) (budget : ℕ) (some : 1 ≤ n) (few : n �
         let r = normal_at n fs (all_positive n) b.items linear own a h in
         let members : AreLinearMembers b.items = region_members n fs (all_positive n) b.items linear.forms own in
         let e = weigh_alike v level r.member r.contained r.at r.there in
-        let p = variable_weight v r.member.head (place_of r.member.head) (variable_at_place r.member.head (members.heads r.member r.contained)) in
-        let q = variable_weight v r.at (place_of r.at) (variable_at_place r.at (members.within r.member r.contained r.at r.there)) in
+        let p = variable_weight v r.member.head (index_of r.member.head) (variable_at_index r.member.head (members.heads r.member r.contained)) in
+        let q = variable_weight v r.at (index_of r.at) (variable_at_index r.at (members.within r.member r.contained r.at r.there)) in
         let k = r.value v in
         omega (arith, ints, e, p, q, k)
 
@@ -536,8 +536,8 @@ module _ (n : ℕ) (fs : List Terms) (budget : ℕ) (some : 1 ≤ n) (few : n �
           let o = row_in t r in
           let f = o.0 in
           let d = ds f o.1 in
-          let p = place_in f d o.2 o.4 in
-          let q = place_in f d o.3 o.5 in
+          let p = index_in f d o.2 o.4 in
+          let q = index_in f d o.3 o.5 in
           record {
             width = ap length o.6 ∙ minus_long n o.2 o.3 (ap length p.2 ∙ length-unit n p.0) (ap length q.2 ∙ length-unit n q.0);
             high = p.0;
@@ -551,8 +551,8 @@ module _ (n : ℕ) (fs : List Terms) (budget : ℕ) (some : 1 ≤ n) (few : n �
                 (ap (λ (z : List ℤ). dot z v) q.2 ∙ dot-unit n q.0 v q.1 l);
           }
         where
-          place_in : (f : Terms) (d : IsKeptDifference n f) (x : List ℤ) → Contains (points f) x → (i : ℕ) × (i < n) × (x ≡ unit n i)
-          place_in f d x k = elim (point_cases n f d x k) [
+          index_in : (f : Terms) (d : IsKeptDifference n f) (x : List ℤ) → Contains (points f) x → (i : ℕ) × (i < n) × (x ≡ unit n i)
+          index_in f d x k = elim (point_cases n f d x k) [
             | inl e ↦ (d.first, d.first_inside, e)
             | inr e ↦ (d.second, d.second_inside, e)
           ]

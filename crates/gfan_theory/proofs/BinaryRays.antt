@@ -119,7 +119,7 @@ bit_flat a u (Bit.on p q) e = absurd (omega (arith, ints))
 -- on each vector the row is the difference of two of its entries, or one of them
 pub data IsOrderRow (n : ℕ) (row : List ℤ) : Type 0 where
   difference : IsDifferenceRow n row → IsOrderRow n row
-  entry : (place : ℕ) → place < n → ((v : List ℤ) → length v ≡ n → dot row v ≡ get_or v place (pos 0)) → IsOrderRow n row
+  entry : (index : ℕ) → index < n → ((v : List ℤ) → length v ≡ n → dot row v ≡ get_or v index (pos 0)) → IsOrderRow n row
 
 -- each entry of a vector on which no row is negative isn't negative
 abbrev pub HaveUnits : ℕ → List (List ℤ) → Type 0
@@ -149,9 +149,9 @@ module _ (n : ℕ) (hs rays : List (List ℤ)) (h : IsRays n hs [] [] rays) (ord
       (step_up (get_or x d.high (pos 0)) (get_or x d.low (pos 0)) (one_of (get_or x d.high (pos 0))) (one_of (get_or x d.low (pos 0)))
       (fits d.high d.high_inside) (fits d.low d.low_inside)
       (subst (λ (z : ℤ). pos 0 ≤ℤ z) (d.difference x long) l))
-  up_at t (IsOrderRow.entry place i e) l =
-      subst (λ (z : ℤ). pos 0 ≤ℤ z) (sym (e (indicator x) long_too ∙ entry-indicator x place))
-      (bit_up (get_or x place (pos 0)) (one_of (get_or x place (pos 0))) (fits place i))
+  up_at t (IsOrderRow.entry index i e) l =
+      subst (λ (z : ℤ). pos 0 ≤ℤ z) (sym (e (indicator x) long_too ∙ entry-indicator x index))
+      (bit_up (get_or x index (pos 0)) (one_of (get_or x index (pos 0))) (fits index i))
 
   flat_at : (t : List ℤ) → IsOrderRow n t → dot t x ≡ pos 0 → dot t (indicator x) ≡ pos 0
   flat_at t (IsOrderRow.difference d) e =
@@ -159,9 +159,9 @@ module _ (n : ℕ) (hs rays : List (List ℤ)) (h : IsRays n hs [] [] rays) (ord
       ∙ step_flat (get_or x d.high (pos 0)) (get_or x d.low (pos 0)) (one_of (get_or x d.high (pos 0))) (one_of (get_or x d.low (pos 0)))
       (fits d.high d.high_inside) (fits d.low d.low_inside)
       (sym (d.difference x long) ∙ e)
-  flat_at t (IsOrderRow.entry place i f) e =
-      f (indicator x) long_too ∙ entry-indicator x place
-      ∙ bit_flat (get_or x place (pos 0)) (one_of (get_or x place (pos 0))) (fits place i) (sym (f x long) ∙ e)
+  flat_at t (IsOrderRow.entry index i f) e =
+      f (indicator x) long_too ∙ entry-indicator x index
+      ∙ bit_flat (get_or x index (pos 0)) (one_of (get_or x index (pos 0))) (fits index i) (sym (f x long) ∙ e)
 
   made : Made n rays [] (indicator x)
   made = (described_of n hs [] [] rays h).complete (indicator x) long_too (λ t k. up_at t (order t k) ((described_of n hs [] [] rays h).valid.up t x k c))
@@ -179,7 +179,7 @@ module _ (n : ℕ) (hs rays : List (List ℤ)) (h : IsRays n hs [] [] rays) (ord
       let value : dot t x ≡ get_or x d.high (pos 0) -ℤ get_or x d.low (pos 0) = d.difference x long in
       let other : pos 0 ≤ℤ get_or x d.low (pos 0) = low d.low x d.low_inside long (λ s k. (described_of n hs [] [] rays h).valid.up s x k c) in
       (d.high, d.high_inside, omega (arith, ints, value, other, l))
-  positive_at t (IsOrderRow.entry place i e) l = (place, i, subst (λ (z : ℤ). pos 0 <ℤ z) (e x long) l)
+  positive_at t (IsOrderRow.entry index i e) l = (index, i, subst (λ (z : ℤ). pos 0 <ℤ z) (e x long) l)
 
   some : (i : ℕ) × (i < n) × (pos 0 <ℤ get_or x i (pos 0))
   some = let p = (described_of n hs [] [] rays h).pointed x c in positive_at p.0 (order p.0 p.1.0) p.1.1

@@ -61,20 +61,20 @@ axes_long n zero = refl
 axes_long n (suc k) = ap suc (axes_long n k)
 
 record IsAxis (n k : ℕ) (x : List ℤ) : Type 0 where
-  place : ℕ
-  below : place < k
-  is : x ≡ unit n place
+  index : ℕ
+  below : index < k
+  is : x ≡ unit n index
 
 axis_of : (n k : ℕ) (x : List ℤ) → Contains (axes n k) x → IsAxis n k x
 unfolding axes
 axis_of n zero x c = absurd (none_in x c)
 axis_of n (suc k) x c = elim (in_cons (unit n k) (axes n k) x c) [
-  | inl e ↦ record { place = k; below = omega arith; is = e }
-  | inr i ↦ let a = axis_of n k x i in record { place = a.place; below = (let l = a.below in omega (arith, l)); is = a.is }
+  | inl e ↦ record { index = k; below = omega arith; is = e }
+  | inr i ↦ let a = axis_of n k x i in record { index = a.index; below = (let l = a.below in omega (arith, l)); is = a.is }
 ]
 
 axis_width : (n k : ℕ) (x : List ℤ) → Contains (axes n k) x → length x ≡ n
-axis_width n k x c = let a = axis_of n k x c in ap length a.is ∙ length-unit n a.place
+axis_width n k x c = let a = axis_of n k x c in ap length a.is ∙ length-unit n a.index
 
 axes_free : (n k : ℕ) → k ≤ n → AreFree n (axes n k)
 unfolding axes
@@ -85,7 +85,7 @@ axes_free n (suc k) l = (
       let flat : dot (unit n k) (unit n k) ≡ pos 0 = Made-dot_zero n [] (axes n k) (unit n k) (unit n k) (λ x c. absurd (none_in x c)) (λ x c.
       let a = axis_of n k x c in
       dot-unit n k x (omega (arith, l)) (axis_width n k x c) ∙ ap (λ (z : List ℤ). get_or z k (pos 0)) a.is
-      ∙ unit_none n a.place k (λ e. (let b = a.below in omega (arith, b, e)))) m in
+      ∙ unit_none n a.index k (λ e. (let b = a.below in omega (arith, b, e)))) m in
       omega (arith, ints, own, flat)),
   axes_free n k (omega (arith, l)),
 )
@@ -96,7 +96,7 @@ add_zero x y = omega (arith, ints)
 no_more : (x y z : ℤ) → z ≡ pos 0 → x +ℤ neg_ℤ y *ℤ z ≡ x
 no_more x y z e = let p = zero_product (neg_ℤ y) z e in omega (arith, ints, p)
 
--- a vector that is 0 from the place k on
+-- a vector that is 0 from the index k on
 axes_span : (n k : ℕ) (v : List ℤ) → k ≤ n → length v ≡ n → ((i : ℕ) → k ≤ i → i < n → get_or v i (pos 0) ≡ pos 0) → Made n [] (axes n k) v
 unfolding axes
 axes_span n zero v l lv z = subst (Made n [] []) (sym (all_zero n v lv (λ i h. z i (omega arith) h))) (nothing n [] [])

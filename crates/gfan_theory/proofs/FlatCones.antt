@@ -30,7 +30,7 @@ use Rattle.gf_rays.proofs.ReachedSizes.{unitary_up, units_unitary}
 use Rattle.gf_sections.specs.declared.error.SectionsError.{SectionsError}
 use Rattle.gf_sections.specs.declared.error.SectionsError.TheVariants as errors
 use Rattle.gf_sections.specs.ConeRows.{AreConeRows, both_sides, given_rows}
-use Rattle.gf_sections.specs.Certificates.{AreRowsTold, AreRowsWith, value_columns}
+use Rattle.gf_sections.specs.ConeCertificates.{AreRowsTold, AreRowsWith, value_columns}
 use Rattle.gf_sections.specs.ConeText.{IsCertificateStep, IsCertificateCause, IsSectionsCause, IsConeCause, IsConeWithinLimits}
 use Rattle.gf_front.specs.declared.options.GroebnerConeOptions.{GroebnerConeOptions}
 use Rattle.gfan_fans.specs.ToPolyhedralFan.{inequalities_of}

@@ -16,7 +16,7 @@ use Rattle.gf_ideal_theory.proofs.PieceLaws.{Contains-marked}
 use Rattle.gf_ideal_theory.proofs.StepLaws.{monic-monomials}
 use Rattle.gf_division.specs.Autoreduction.{AreNeededForms, IsAutoreductionRefusal}
 use Rattle.gf_buchberger.specs.declared.queue.Strategy.TheVariants as strategies
-use Rattle.gf_buchberger.specs.Jobs.{HaveRingVariables}
+use Rattle.gf_buchberger.specs.Tasks.{HaveRingVariables}
 use Rattle.gf_buchberger.specs.Pairs.{pairs_below}
 use Rattle.gf_buchberger.specs.Ruled.{AreRuledRunsWithinLimits}
 use Rattle.gf_gordan.specs.Sizes.{HaveEntriesUpTo}
@@ -49,9 +49,9 @@ module _ (s : MarkedPolynomials) (l : IsLinearSet s) (t : MarkedPolynomials) (a 
   needed_linear : (ks : List MarkedPolynomial) → AreNeededForms t.items ks → AreLinearMarked ks
   needed_linear ks m = record {
     heads = λ c i. let e = m.inside c i in
-        (forms_marked s l).within e.member (there e.member (e.place, e.needed.at.within, e.needed.at.is)) c.head e.form.form.there;
+        (forms_marked s l).within e.member (there e.member (e.index, e.needed.at.within, e.needed.at.is)) c.head e.form.form.there;
     within = λ c i x h. let e = m.inside c i in
-        (forms_marked s l).within e.member (there e.member (e.place, e.needed.at.within, e.needed.at.is)) x (monic-monomials e.member.poly c e.form.form x h);
+        (forms_marked s l).within e.member (there e.member (e.index, e.needed.at.within, e.needed.at.is)) x (monic-monomials e.member.poly c e.form.form x h);
   }
     where
       there : (b : MarkedPolynomial) → Contains t.items b → Contains (map monic_of s.items) b

@@ -21,7 +21,7 @@ use Rattle.gf_lists_theory.specs.BasesList.{IsGivenIn}
 use Rattle.gfan_lists.specs.Bases.{later_item_text, items_text, list_text, begun_text, AreItemTextsIn, IsTextBehind, IsBegunListBehind, IsBegunWhereBehind}
 use Rattle.gfan_lists.specs.After.{IsBasisTaken}
 use Rattle.gf_lists_theory.proofs.BasesListLaws.{among_left, among_right}
-use Rattle.gfan_lists.proofs.PartsLaws.{parts_are_joined}
+use Rattle.gfan_theory.proofs.PartsLaws.{parts_are_joined}
 use Rattle.gfan_theory.specs.ListSources.{HasPolynomials}
 use Rattle.gfan_theory.specs.Answers.{NamedFile, Request, IsBasesAnswer, AreBasesBefore, IsSaid}
 use Rattle.gfan_theory.specs.Joined.{IsCutAnswer, basis_file, continued, without_limit, between, IsJoined, RunsAreJoined}

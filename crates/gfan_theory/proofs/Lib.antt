@@ -7,6 +7,7 @@ pub mod OneTextLaws  -- two answers for one ideal are one text
 pub mod ServedLaws  -- the list of an answer serves each weight of its region
 pub mod CertifiedLaws  -- what is printed after each basis
 pub mod BasisFileLaws  -- a basis that is printed behind its ring is read again
+pub mod PartsLaws  -- parts of a list make it up
 pub mod JoinedLaws  -- a list that was cut and then continued
 pub mod BinaryRays  -- the rays of cones that compare entries have entries 0 and 1
 pub mod RowSteps  -- the vectors that are reached on the way to them

@@ -65,7 +65,7 @@ use Rattle.gf_initial_theory.proofs.MatchingLaws.{matched-from}
 use Rattle.gf_initial_theory.proofs.PartLaws.{part-there}
 use Rattle.gf_initial_theory.proofs.SideLaws.{IsSide, level_of_along}
 use Rattle.gf_initial_theory.proofs.FlipLaws.{side_of_inside, along_negated, part_facts}
-use Rattle.gf_lines.specs.Along.{AreAlong, IsBasisOfParts}
+use Rattle.gf_strands.specs.Along.{AreAlong, IsBasisOfParts}
 use Rattle.gf_flip.specs.Operations.{IsFlipExponents, IsFlipWithinLimits}
 use Rattle.gf_binomial_calls_theory.proofs.FlipLaws.{flip_fits}
 use Rattle.gfan_theory.specs.Linear.{IsLinear, AreLinearForms, AreLinearDifferences}
@@ -101,7 +101,7 @@ not_twice x y n s =
     let v : true ≡ false = sym u ∙ n [] in
     absurd (cc)
 
--- no two places of a list whose marks are apart have one mark
+-- no two indices of a list whose marks are apart have one mark
 apart_at : (bs : List MarkedPolynomial) → AreApart bs → (i j : ℕ) (b c : MarkedPolynomial) → i < j → IsAt bs i b → IsAt bs j c → same b.head c.head ≡ true → ⊥
 apart_at [] a i j b c l p q s = absurd (let k = p.within in omega (arith, k))
 apart_at (d ∷ bs) a i zero b c l p q s = absurd (omega (arith, l))
@@ -316,9 +316,9 @@ module _ (n : ℕ) (fs : List Terms) (k : Region) (bs : List MarkedPolynomial) (
   -- their monic forms
   forms_members : (hs ls ks : List MarkedPolynomial) → IsBasisOfParts n bs a hs → AreLifts bs hs ls → AreNeededForms ls ks → AreLinearMembers ks
   forms_members hs ls ks p l m = record {
-    heads = λ c i. let e = m.inside c i in lifts_linear hs ls p l e.member (e.place, e.needed.at.within, e.needed.at.is) c.head e.form.form.there;
+    heads = λ c i. let e = m.inside c i in lifts_linear hs ls p l e.member (e.index, e.needed.at.within, e.needed.at.is) c.head e.form.form.there;
     within = λ c i x t. let e = m.inside c i in
-        lifts_linear hs ls p l e.member (e.place, e.needed.at.within, e.needed.at.is) x (monic-monomials e.member.poly c e.form.form x t);
+        lifts_linear hs ls p l e.member (e.index, e.needed.at.within, e.needed.at.is) x (monic-monomials e.member.poly c e.form.form x t);
     apart = apart_at ks m.apart;
   }
 

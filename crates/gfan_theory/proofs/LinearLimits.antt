@@ -63,7 +63,7 @@ use Rattle.gf_flip.specs.Operations.{IsFlipWithinLimits}
 use Rattle.gf_tree.specs.Refusals.{IsConeStep, IsTreeWithinLimits}
 use Rattle.gf_tree.specs.Ideals.{ideal_by, ideal_within}
 use Rattle.gf_buchberger.specs.declared.queue.Strategy.TheVariants as strategies
-use Rattle.gf_buchberger.specs.Jobs.{HaveRingVariables}
+use Rattle.gf_buchberger.specs.Tasks.{HaveRingVariables}
 use Rattle.gf_buchberger.specs.Pairs.{pairs_below}
 use Rattle.gf_weights.specs.Refusals.{AreCertificatesFittingIn}
 use Rattle.gf_duality_theory.proofs.ListLaws.{none_in}
@@ -110,10 +110,10 @@ module _ (F : Fan) (d : AreLinearForms F.variables F.ideal) (b : ℕ) (some : 1 
   c = step.cone
 
   abbrev rows : List (List ℤ)
-  rows = other_rows c step.place
+  rows = other_rows c step.index
 
   abbrev a : List ℤ
-  a = normal_at c step.place
+  a = normal_at c step.index
 
   members : AreLinearMembers v.items
   members = region_members F.variables F.ideal F.region v.items d node.basis
@@ -141,20 +141,20 @@ module _ (F : Fan) (d : AreLinearForms F.variables F.ideal) (b : ℕ) (some : 1 
   region_wide = subst (λ (m : ℕ). AreRows m F.region.rows) (sym node.variables) node.fan.region.widths
 
   is_normal : IsNormal v.items a
-  is_normal = step.is_cone.normals.only a (Contains-get_or c.normals step.place [] step.inside)
+  is_normal = step.is_cone.normals.only a (Contains-get_or c.normals step.index [] step.inside)
 
-  other : (t : List ℤ) → Contains (others_of step.place c.normals) t → IsNormal v.items t
-  other t k = step.is_cone.normals.only t (others_only c.normals step.place t step.is_cone.normals.rises step.inside k).0
+  other : (t : List ℤ) → Contains (others_of step.index c.normals) t → IsNormal v.items t
+  other t k = step.is_cone.normals.only t (others_only c.normals step.index t step.is_cone.normals.rises step.inside k).0
 
   rows_wide : AreRows c.variables rows
-  rows_wide = all_by (λ t. length t ≡ c.variables) rows (λ t k. elim (Contains-append_cases (others_of step.place c.normals) c.beside t k) [
+  rows_wide = all_by (λ t. length t ≡ c.variables) rows (λ t k. elim (Contains-append_cases (others_of step.index c.normals) c.beside t k) [
     | inl o ↦ normal_long t (other t o)
     | inr i ↦ All-contains (λ t. length t ≡ n) (F.region.rows ++ units n n) t (region_rows_wide n F.region region_wide)
         (subst (λ (z : List (List ℤ)). Contains z t) step.is_cone.beside i) ∙ sym step.is_cone.variables
   ])
 
   rows_low : HaveEntriesUpTo b rows
-  rows_low = all_by (All (λ x. unsigned_abs x ≤ b)) rows (λ t k. elim (Contains-append_cases (others_of step.place c.normals) c.beside t k) [
+  rows_low = all_by (All (λ x. unsigned_abs x ≤ b)) rows (λ t k. elim (Contains-append_cases (others_of step.index c.normals) c.beside t k) [
     | inl o ↦ all_up b t (normal_up t (other t o))
     | inr i ↦ elim (Contains-append_cases F.region.rows (units n n) t (subst (λ (z : List (List ℤ)). Contains z t) step.is_cone.beside i)) [
       | inl r ↦ All-contains (All (λ x. unsigned_abs x ≤ b)) F.region.rows t low r

@@ -34,32 +34,32 @@ use Rattle.gfan_theory.specs.Differences.{IsDifferenceRow, AreDifferenceRows}
 use Rattle.gfan_theory.specs.Everyday.{IsVariable}
 use Rattle.gfan_theory.specs.Linear.{AreLinearDifferences}
 use Rattle.gfan_theory.proofs.VariableLaws.{is_monomial, gives, vectors_equal}
-use Rattle.gfan_theory.proofs.LinearRuns.{same_or_not, entry_low, alone, place_of, place_there, same_places, AreLinearMembers}
+use Rattle.gfan_theory.proofs.LinearRuns.{same_or_not, entry_low, alone, index_of, index_there, same_indices, AreLinearMembers}
 use Rattle.gfan_theory.proofs.LinearBases.{region_members}
 
 -- ---- variables
 
-pub variable_at : (x : Exponents) → degree x ≡ 1 → IsVariable (place_of x) x
+pub variable_at : (x : Exponents) → degree x ≡ 1 → IsVariable (index_of x) x
 variable_at x d = record {
-  one = (let p = place_there x d in let q = entry_low x (place_of x) in omega (arith, p, q, d));
-  others = λ k n. alone x (place_of x) k d (place_there x d) n;
+  one = (let p = index_there x d in let q = entry_low x (index_of x) in omega (arith, p, q, d));
+  others = λ k n. alone x (index_of x) k d (index_there x d) n;
 }
 
-place_inside : (n : ℕ) (x : Exponents) → degree x ≡ 1 → IsInRing n x → place_of x < n
-place_inside n x d r = elim (cases_lt (place_of x) n) [
+index_inside : (n : ℕ) (x : Exponents) → degree x ≡ 1 → IsInRing n x → index_of x < n
+index_inside n x d r = elim (cases_lt (index_of x) n) [
   | inl l ↦ l
-  | inr g ↦ absurd (let p = place_there x d in let q = r (place_of x) g in omega (arith, p, q))
+  | inr g ↦ absurd (let p = index_there x d in let q = r (index_of x) g in omega (arith, p, q))
 ]
 
--- monomials that are the same variable stand at one place
-place_same : (x y : Exponents) → degree x ≡ 1 → degree y ≡ 1 → same x y ≡ true → place_of x ≡ place_of y
-place_same x y d e s = elim (same_or_not (place_of x) (place_of y)) [
+-- monomials that are the same variable stand at one index
+index_same : (x y : Exponents) → degree x ≡ 1 → degree y ≡ 1 → same x y ≡ true → index_of x ≡ index_of y
+index_same x y d e s = elim (same_or_not (index_of x) (index_of y)) [
   | inl q ↦ q
-  | inr n ↦ absurd (let z = alone y (place_of y) (place_of x) e (place_there y e) n in let t = entries_same x y s (place_of x) in let p = place_there x d in
+  | inr n ↦ absurd (let z = alone y (index_of y) (index_of x) e (index_there y e) n in let t = entries_same x y s (index_of x) in let p = index_there x d in
       omega (arith, z, t, p))
 ]
 
--- places that are apart
+-- indices that are apart
 record AreApart (p q r s : ℕ) : Type 0 where
   pub first_second : p ≢ q
   pub first_third : p ≢ r
@@ -79,9 +79,9 @@ four_of_three c p q r s lc lp lq lr ls a np nq nr ns =
     let d6 = a.third_fourth in
     omega (arith, lc, lp, lq, lr, ls, d1, d2, d3, d4, d5, d6, np, nq, nr, ns)
 
--- four places that differ aren't below 3
-four_places : (n p q r s : ℕ) → n ≤ 3 → p < n → q < n → r < n → s < n → p ≢ q → p ≢ r → p ≢ s → q ≢ r → q ≢ s → r ≢ s → ⊥
-four_places n p q r s l a b c d e f g h i j = omega arith
+-- four indices that differ aren't below 3
+four_indices : (n p q r s : ℕ) → n ≤ 3 → p < n → q < n → r < n → s < n → p ≢ q → p ≢ r → p ≢ s → q ≢ r → q ≢ s → r ≢ s → ⊥
+four_indices n p q r s l a b c d e f g h i j = omega arith
 
 -- the members of a list of one are one
 alone_in : (bs : List MarkedPolynomial) (x y : MarkedPolynomial) → length bs ≤ 1 → Contains bs x → Contains bs y → x ≡ y
@@ -107,9 +107,9 @@ module _ (n : ℕ) (fs : List Terms) (k : Region) (bs : List MarkedPolynomial) (
     pub at : Exponents
     pub there : HasMonomial member.poly at
     pub unmarked : same member.head at ≡ false
-    pub high_inside : place_of member.head < n
-    pub low_inside : place_of at < n
-    pub value : (v : List ℤ) → dot a v ≡ get_or v (place_of member.head) (pos 0) -ℤ get_or v (place_of at) (pos 0)
+    pub high_inside : index_of member.head < n
+    pub low_inside : index_of at < n
+    pub value : (v : List ℤ) → dot a v ≡ get_or v (index_of member.head) (pos 0) -ℤ get_or v (index_of at) (pos 0)
 
   at_degree : (a : List ℤ) (r : IsLinearNormal a) → degree r.at ≡ 1
   at_degree a r = members.within r.member r.contained r.at r.there
@@ -123,7 +123,7 @@ module _ (n : ℕ) (fs : List Terms) (k : Region) (bs : List MarkedPolynomial) (
     unmarked = r.unmarked;
     high_inside = high;
     low_inside = low;
-    value = gives n (place_of r.member.head) (place_of r.at) r.member.head r.at a (b.arranged.canonical r.member r.contained).head r.width high low apart
+    value = gives n (index_of r.member.head) (index_of r.at) r.member.head r.at a (b.arranged.canonical r.member r.contained).head r.width high low apart
         (variable_at r.member.head dx) (variable_at r.at dy) (subst (λ (z : List ℤ). IsPrimitivePart z a) r.row r.part);
   }
     where
@@ -139,16 +139,16 @@ module _ (n : ℕ) (fs : List Terms) (k : Region) (bs : List MarkedPolynomial) (
       inside : (x : Exponents) → HasMonomial r.member.poly x → IsInRing n x
       inside x m = variables_of_member n fs r.member.poly d.forms.variables (b.reduced.basis.members r.member r.contained) x m
 
-      high : place_of r.member.head < n
-      high = place_inside n r.member.head dx (inside r.member.head (mark-there (lighter (gains b.weight)) r.member (b.marked r.member r.contained)))
+      high : index_of r.member.head < n
+      high = index_inside n r.member.head dx (inside r.member.head (mark-there (lighter (gains b.weight)) r.member (b.marked r.member r.contained)))
 
-      low : place_of r.at < n
-      low = place_inside n r.at dy (inside r.at r.there)
+      low : index_of r.at < n
+      low = index_inside n r.at dy (inside r.at r.there)
 
-      apart : place_of r.member.head ≡ place_of r.at → ⊥
+      apart : index_of r.member.head ≡ index_of r.at → ⊥
       apart e =
-          let s = same_places r.member.head r.at (place_of r.at) dx dy (subst (λ (z : ℕ). 1 ≤ entry r.member.head z) e (place_there r.member.head dx))
-          (place_there r.at dy) in
+          let s = same_indices r.member.head r.at (index_of r.at) dx dy (subst (λ (z : ℕ). 1 ≤ entry r.member.head z) e (index_there r.member.head dx))
+          (index_there r.at dy) in
           let t : true ≡ false = sym s ∙ r.unmarked in
           absurd (cc)
 
@@ -171,9 +171,9 @@ module _ (n : ℕ) (fs : List Terms) (k : Region) (bs : List MarkedPolynomial) (
       at s (inr t) (inl u) = absurd (no_mark y u.there q)
       at s (inr t) (inr u) = both s t.there u.there
 
-  -- so a normal is known by the place of the mark
+  -- so a normal is known by the index of the mark
   one_normal : (a c : List ℤ) → IsNormal bs a → IsNormal bs c → (r : IsLinearNormal a) (s : IsLinearNormal c) →
-      place_of r.member.head ≡ place_of s.member.head → a ≡ c
+      index_of r.member.head ≡ index_of s.member.head → a ≡ c
   one_normal a c h i r s e = vectors_equal a c (wide ∙ sym wide_too) (λ j l.
       let inside : j < n = omega (arith, l, wide) in
       sym (dot-unit n j a inside wide) ∙ dot_comm (unit n j) a ∙ r.value (unit n j)
@@ -193,30 +193,30 @@ module _ (n : ℕ) (fs : List Terms) (k : Region) (bs : List MarkedPolynomial) (
       ds = members.heads s.member s.contained
 
       marks : same s.member.head r.member.head ≡ true
-      marks = same_places s.member.head r.member.head (place_of s.member.head) ds dr (place_there s.member.head ds)
-          (subst (λ (z : ℕ). 1 ≤ entry r.member.head z) e (place_there r.member.head dr))
+      marks = same_indices s.member.head r.member.head (index_of s.member.head) ds dr (index_there s.member.head ds)
+          (subst (λ (z : ℕ). 1 ≤ entry r.member.head z) e (index_there r.member.head dr))
 
       same_member : r.member ≡ s.member
       same_member = apart_same bs r.member s.member b.reduced.heads r.contained s.contained [] marks
 
-      lows : place_of r.at ≡ place_of s.at
-      lows = place_same r.at s.at (at_degree a r) (at_degree c s)
+      lows : index_of r.at ≡ index_of s.at
+      lows = index_same r.at s.at (at_degree a r) (at_degree c s)
           (tail_once s.member s.contained r.at s.at (subst (λ (z : MarkedPolynomial). HasMonomial z.poly r.at) same_member r.there) s.there
           (subst (λ (z : MarkedPolynomial). same z.head r.at ≡ false) same_member r.unmarked) s.unmarked)
 
   -- and its unmarked monomial isn't a mark
-  no_mark : (a : List ℤ) (r : IsLinearNormal a) (m : MarkedPolynomial) → Contains bs m → place_of r.at ≡ place_of m.head → ⊥
+  no_mark : (a : List ℤ) (r : IsLinearNormal a) (m : MarkedPolynomial) → Contains bs m → index_of r.at ≡ index_of m.head → ⊥
   no_mark a r m c e =
       let dm = members.heads m c in
       let dr = at_degree a r in
-      let s = same_places r.at m.head (place_of m.head) dr dm (subst (λ (z : ℕ). 1 ≤ entry r.at z) e (place_there r.at dr)) (place_there m.head dm) in
+      let s = same_indices r.at m.head (index_of m.head) dr dm (subst (λ (z : ℕ). 1 ≤ entry r.at z) e (index_there r.at dr)) (index_there m.head dm) in
       let t = b.reduced.tails r.member r.contained r.at r.there (record { member = m; contained = c; rest = []; divides = s }) in
       let u : true ≡ false = sym (same_flip r.at r.member.head t) ∙ r.unmarked in
       absurd (cc)
 
-  -- normals at different places of a list have marks at different places
+  -- normals at different indices of a list have marks at different indices
   apart_marks : (a c : List ℤ) → IsBefore a c → IsNormal bs a → IsNormal bs c → (r : IsLinearNormal a) (s : IsLinearNormal c) →
-      place_of r.member.head ≢ place_of s.member.head
+      index_of r.member.head ≢ index_of s.member.head
   apart_marks a c l h i r s q = before_strict.irreflexive a (subst (IsBefore a) (sym (one_normal a c h i r s q)) l)
 
   few : (ns : List (List ℤ)) → AreNormals bs ns → n ≤ 4 → length ns ≤ 3
@@ -225,7 +225,7 @@ module _ (n : ℕ) (fs : List Terms) (k : Region) (bs : List MarkedPolynomial) (
   few (a ∷ (c ∷ [])) m l = omega arith
   few (a ∷ (c ∷ (e ∷ []))) m l = omega arith
   few (a ∷ (c ∷ (e ∷ (g ∷ ns)))) m l =
-      absurd (four_of_three (place_of r.at) (place_of r.member.head) (place_of s.member.head) (place_of t.member.head) (place_of u.member.head)
+      absurd (four_of_three (index_of r.at) (index_of r.member.head) (index_of s.member.head) (index_of t.member.head) (index_of u.member.head)
       (let p = r.low_inside in omega (arith, p, l)) (let p = r.high_inside in omega (arith, p, l)) (let p = s.high_inside in omega (arith, p, l))
       (let p = t.high_inside in omega (arith, p, l)) (let p = u.high_inside in omega (arith, p, l))
       (record {
@@ -270,7 +270,7 @@ module _ (n : ℕ) (fs : List Terms) (k : Region) (bs : List MarkedPolynomial) (
   few_in_three (a ∷ []) m l = omega arith
   few_in_three (a ∷ (c ∷ [])) m l = omega arith
   few_in_three (a ∷ (c ∷ (e ∷ ns))) m l =
-      absurd (four_places n (place_of r.member.head) (place_of s.member.head) (place_of t.member.head) (place_of r.at) l r.high_inside s.high_inside
+      absurd (four_indices n (index_of r.member.head) (index_of s.member.head) (index_of t.member.head) (index_of r.at) l r.high_inside s.high_inside
       t.high_inside r.low_inside (apart_marks a c (m.rises.0 c (Contains-here c (e ∷ ns))) first second r s)
       (apart_marks a e (m.rises.0 e (in_tail c (e ∷ ns) e (Contains-here e ns))) first third r t) (λ q. no_mark a r r.member r.contained (sym q))
       (apart_marks c e (m.rises.1.0 e (Contains-here e ns)) second third s t) (λ q. no_mark a r s.member s.contained (sym q))
@@ -299,7 +299,7 @@ module _ (n : ℕ) (fs : List Terms) (k : Region) (bs : List MarkedPolynomial) (
   one_at_most [] m l = omega arith
   one_at_most (a ∷ []) m l = omega arith
   one_at_most (a ∷ (c ∷ ns)) m l =
-      absurd (apart_marks a c (m.rises.0 c (Contains-here c ns)) first second r s (ap (λ (x : MarkedPolynomial). place_of x.head)
+      absurd (apart_marks a c (m.rises.0 c (Contains-here c ns)) first second r s (ap (λ (x : MarkedPolynomial). index_of x.head)
       (alone_in bs r.member s.member l r.contained s.contained)))
     where
       first : IsNormal bs a
@@ -319,8 +319,8 @@ module _ (n : ℕ) (fs : List Terms) (k : Region) (bs : List MarkedPolynomial) (
       let r = normal_at a h in
       record {
         width = normal-length n bs a b.arranged.canonical h;
-        high = place_of r.member.head;
-        low = place_of r.at;
+        high = index_of r.member.head;
+        low = index_of r.at;
         high_inside = r.high_inside;
         low_inside = r.low_inside;
         difference = λ v l. r.value v;

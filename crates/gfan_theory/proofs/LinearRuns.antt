@@ -1,6 +1,6 @@
 -- Runs of Buchberger's algorithm on variables and differences of variables: their members stay such, and no two have the same mark. For the S-polynomials of
 -- such a list need no new member, since its marks are coprime: the list is a Gröbner basis of the ideal that it generates.
--- To cite: same_or_not, entry_low, alone, place_of, place_there, same_places, coprime_of, none_degree, weight_ones, homogeneous, last_at, IsOfDegree,
+-- To cite: same_or_not, entry_low, alone, index_of, index_there, same_indices, coprime_of, none_degree, weight_ones, homogeneous, last_at, IsOfDegree,
 -- AreLinearMembers, AreLinearMarked, plain, join_low, closed-degree, shift_short, s_polynomial_degree, at_contained, step_short, tail_linear, linear_basis,
 -- more, few_members, few, run_short, pairs_mono, linear_runs, linear_ruled_runs.
 -- The rest are steps.
@@ -120,19 +120,19 @@ alone (a ∷ x) (suc i) (suc k) d l n =
     let p = entry_low x i in
     alone x i k (omega (arith, p, d, l)) l (λ e. n (ap suc e))
 
--- the place of a variable
-abbrev pub place_of : Exponents → ℕ
-place_of [] = 0
-place_of (zero ∷ x) = suc (place_of x)
-place_of (suc a ∷ x) = 0
+-- the index of a variable
+abbrev pub index_of : Exponents → ℕ
+index_of [] = 0
+index_of (zero ∷ x) = suc (index_of x)
+index_of (suc a ∷ x) = 0
 
-pub place_there : (x : Exponents) → degree x ≡ 1 → 1 ≤ entry x (place_of x)
-place_there [] d = absurd (omega (arith, d))
-place_there (zero ∷ x) d = place_there x (omega (arith, d))
-place_there (suc a ∷ x) d = omega arith
+pub index_there : (x : Exponents) → degree x ≡ 1 → 1 ≤ entry x (index_of x)
+index_there [] d = absurd (omega (arith, d))
+index_there (zero ∷ x) d = index_there x (omega (arith, d))
+index_there (suc a ∷ x) d = omega arith
 
-pub same_places : (x y : Exponents) (i : ℕ) → degree x ≡ 1 → degree y ≡ 1 → 1 ≤ entry x i → 1 ≤ entry y i → same x y ≡ true
-same_places x y i d e l m = same_by_entries x y (λ k. elim (same_or_not k i) [
+pub same_indices : (x y : Exponents) (i : ℕ) → degree x ≡ 1 → degree y ≡ 1 → 1 ≤ entry x i → 1 ≤ entry y i → same x y ≡ true
+same_indices x y i d e l m = same_by_entries x y (λ k. elim (same_or_not k i) [
   | inl q ↦ subst (λ (j : ℕ). entry x j ≡ entry y j) (sym q) (let u = entry_low x i in let v = entry_low y i in omega (arith, u, v, d, e, l, m))
   | inr n ↦ alone x i k d l n ∙ sym (alone y i k e m n)
 ])
@@ -143,7 +143,7 @@ coprime_of x y d e o i = at (same_or_not (entry x i) 0) (same_or_not (entry y i)
     at : (entry x i ≡ 0) ⊎ (entry x i ≡ 0 → ⊥) → (entry y i ≡ 0) ⊎ (entry y i ≡ 0 → ⊥) → (entry x i ≡ 0) ⊎ (entry y i ≡ 0)
     at (inl z) k = inl z
     at (inr p) (inl z) = inr z
-    at (inr p) (inr q) = absurd (o (same_places x y i d e (some (entry x i) p) (some (entry y i) q)))
+    at (inr p) (inr q) = absurd (o (same_indices x y i d e (some (entry x i) p) (some (entry y i) q)))
       where
         some : (a : ℕ) → (a ≡ 0 → ⊥) → 1 ≤ a
         some zero n = absurd (n refl)
@@ -227,11 +227,11 @@ shift_short u b left right l m o = at o.operands
 pub step_short : (bs : List MarkedPolynomial) (e : ℕ) (f : Terms) (at : Exponents) (left right : ℕ) → AreLinearMarked bs → e ≤ 2 → IsWithin (IsOfDegree e) f →
     IsStepExponents (Contains bs) f at left right → left + right < 2 ^ 31
 step_short bs e f at left right m l w o =
-    let p : degree at ≡ e = w at o.place.there in
-    let q = degree-same at (plus o.rest o.member.head) o.place.divides in
+    let p : degree at ≡ e = w at o.index.there in
+    let q = degree-same at (plus o.rest o.member.head) o.index.divides in
     let r = degree-plus o.rest o.member.head in
-    let s = m.heads o.member o.place.contained in
-    shift_short o.rest o.member left right (omega (arith, p, q, r, s, l)) (m.within o.member o.place.contained) o.sum
+    let s = m.heads o.member o.index.contained in
+    shift_short o.rest o.member left right (omega (arith, p, q, r, s, l)) (m.within o.member o.index.contained) o.sum
 
 pub tail_linear : (bs : List MarkedPolynomial) (b : MarkedPolynomial) → AreLinearMarked bs → IsTail bs b → IsLinear b.poly
 tail_linear bs b m (IsTail.member e c) = m.within b c
@@ -276,7 +276,7 @@ more bs g b m l q new = record {
   apart = λ i j c e less p o s. at i j c e less p o s (cases_lt j (length bs));
 }
   where
-    -- a place before the last one
+    -- an index before the last one
     before : (i : ℕ) (c : MarkedPolynomial) → i < length bs → IsAt (bs ++ b ∷ []) i c → IsAt bs i c
     before i c less p = record { within = less; is = sym (get_or_append_left bs (b ∷ []) c i less) ∙ p.is }
 
@@ -298,7 +298,7 @@ more bs g b m l q new = record {
 
 -- their marks are different variables
 pub few_members : (n : ℕ) (bs : List MarkedPolynomial) → AreLinearMembers bs → ((b : MarkedPolynomial) → Contains bs b → IsInRing n b.head) → length bs ≤ n
-few_members n bs m ring = pigeons n (length bs) (λ i. place_of (head_at i)) low apart
+few_members n bs m ring = pigeons n (length bs) (λ i. index_of (head_at i)) low apart
   where
     none : MarkedPolynomial
     none = record { poly = []; head = [] }
@@ -312,23 +312,23 @@ few_members n bs m ring = pigeons n (length bs) (λ i. place_of (head_at i)) low
     one : (i : ℕ) → i < length bs → degree (head_at i) ≡ 1
     one i l = m.heads (get_or bs i none) (at_contained bs i (get_or bs i none) (here i l))
 
-    low : (i : ℕ) → i < length bs → place_of (head_at i) < n
-    low i l = at (cases_lt (place_of (head_at i)) n)
+    low : (i : ℕ) → i < length bs → index_of (head_at i) < n
+    low i l = at (cases_lt (index_of (head_at i)) n)
       where
-        at : (place_of (head_at i) < n) ⊎ (n ≤ place_of (head_at i)) → place_of (head_at i) < n
+        at : (index_of (head_at i) < n) ⊎ (n ≤ index_of (head_at i)) → index_of (head_at i) < n
         at (inl k) = k
         at (inr k) =
-            let z : entry (head_at i) (place_of (head_at i)) ≡ 0 =
-            ring (get_or bs i none) (at_contained bs i (get_or bs i none) (here i l)) (place_of (head_at i)) k in
-            let s = place_there (head_at i) (one i l) in
+            let z : entry (head_at i) (index_of (head_at i)) ≡ 0 =
+            ring (get_or bs i none) (at_contained bs i (get_or bs i none) (here i l)) (index_of (head_at i)) k in
+            let s = index_there (head_at i) (one i l) in
             absurd (omega (arith, z, s))
 
-    apart : (i j : ℕ) → i < j → j < length bs → place_of (head_at i) ≡ place_of (head_at j) → ⊥
+    apart : (i j : ℕ) → i < j → j < length bs → index_of (head_at i) ≡ index_of (head_at j) → ⊥
     apart i j l k e =
         let il : i < length bs = omega (arith, l, k) in
         m.apart i j (get_or bs i none) (get_or bs j none) l (here i il) (here j k)
-        (same_places (head_at i) (head_at j) (place_of (head_at j)) (one i il) (one j k)
-        (subst (λ (z : ℕ). 1 ≤ entry (head_at i) z) e (place_there (head_at i) (one i il))) (place_there (head_at j) (one j k)))
+        (same_indices (head_at i) (head_at j) (index_of (head_at j)) (one i il) (one j k)
+        (subst (λ (z : ℕ). 1 ≤ entry (head_at i) z) e (index_there (head_at i) (one i il))) (index_there (head_at j) (one j k)))
 
 module _ (order : MonomialOrder) (n : ℕ) (fs : List Terms) (a : IsAdmissible order n (replicate n 1)) (d : AreLinearForms n fs) where
   -- such a list of a run is in the variables, and a Gröbner basis of the ideal that it generates

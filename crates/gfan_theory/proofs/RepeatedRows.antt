@@ -21,7 +21,7 @@ use Rattle.gf_duality_theory.specs.Faces.{Rows}
 use Rattle.gf_duality_theory.specs.Rays.{IsZeroOn}
 use Rattle.gf_duality_theory.specs.Elimination.{IsNullSpace}
 use Rattle.gf_duality_theory.specs.Straightening.{IsLeveled}
-use Rattle.gf_duality_theory.proofs.ListLaws.{none_in, in_cons, rest_cover, place, less, at, more}
+use Rattle.gf_duality_theory.proofs.ListLaws.{none_in, in_cons, rest_cover, index, less, at, more}
 use Rattle.gf_rays.specs.Cones.{AreRaysWithinLimits}
 use Rattle.gf_rays.specs.declared.ray.Ray.{Ray}
 use Rattle.gf_rays.specs.Leveling.{IsLine, IsLinedBy, IsRowStep, lineal, splitting, leveling}
@@ -146,7 +146,8 @@ no_line h lin i l zero_on k =
     let u = k.up in
     elim k.signed [
       | inl q ↦ let f : dot h l ≡ pos 0 = ap (dot h) q ∙ e in omega (arith, ints, f, u)
-      | inr q ↦ let f : dot h l ≡ negsuc 0 *ℤ dot h y = ap (dot h) q ∙ dot-times_right (negsuc 0) h y in let g : dot h l ≡ negsuc 0 *ℤ pos 0 = f ∙ ap (λ z. negsuc 0 *ℤ z) e in
+      | inr q ↦ let f : dot h l ≡ negsuc 0 *ℤ dot h y = ap (dot h) q ∙ dot-times_right (negsuc 0) h y in let g : dot h l ≡ negsuc 0 *ℤ pos 0 =
+          f ∙ ap (λ z. negsuc 0 *ℤ z) e in
           omega (arith, ints, g, u)
     ]
 
@@ -170,7 +171,7 @@ known_step : (n b m row : ℕ) (h : List ℤ) (lin : List (List ℤ)) (rays : Li
     AreUpTo m (vectors_of rays) → n * (b * m) < 2 ^ 127 → ((x : List ℤ) → Contains lin x → dot h x ≡ pos 0) → HasOneSign h rays →
     IsRowStep row h lin rays s → ⊥
 known_step n b m row h lin rays s e u ul ur room zero_on g (lineal t) =
-    no_dot n b m row h (get_or lin t.place []) s (omega (arith, e)) u (ul.each _ (t.place, t.inside, get_or_default lin t.place _ [] t.inside)) room t.step
+    no_dot n b m row h (get_or lin t.index []) s (omega (arith, e)) u (ul.each _ (t.index, t.inside, get_or_default lin t.index _ [] t.inside)) room t.step
 known_step n b m row h lin rays s e u ul ur room zero_on g (splitting f (testing r c k)) =
     no_dot n b m row h r.vector s (omega (arith, e)) u (ur.each r.vector (vector_in rays r c)) room k
 known_step n b m row h lin rays s e u ul ur room zero_on g (splitting f (pairing p q cp cq up down free k)) = no_pair h rays p q g cp cq up down
@@ -212,7 +213,7 @@ far_start_at n b k (suc p) c h l g =
     ]
   where
     nearer : (n c p : ℕ) → c ≤ n → n ≤ c + suc p → (c ≡ n - suc p) ⊎ (n ≤ c + p)
-    nearer n c p l g = elim (place n (suc (c + p))) [ less a ↦ absurd (omega (arith, a, g)) | at e ↦ inl (omega (arith, e)) | more a ↦ inr (omega (arith, a)) ]
+    nearer n c p l g = elim (index n (suc (c + p))) [ less a ↦ absurd (omega (arith, a, g)) | at e ↦ inl (omega (arith, e)) | more a ↦ inr (omega (arith, a)) ]
 
 far_started : (n b : ℕ) (ds es basis : List (List ℤ)) → 1 ≤ b → AreWide n b es → far_starts_fit n b (length ds) n ≡ true → IsNullSpace n es basis →
     HasFarRoom n b ds [] basis []

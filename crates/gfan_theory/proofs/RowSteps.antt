@@ -125,7 +125,7 @@ of_pruned rays out r (marked.taken rs mid left i p hi g e) c = of_pruned rs mid 
 abbrev pub GivesUpTo : ℕ → ℕ → List ℤ → Type 0
 GivesUpTo n s h = (m : ℕ) (x : List ℤ) → length x ≡ n → UpTo m x → unsigned_abs (dot h x) ≤ s * m
 
--- how much the row at a place gives: the first three rows compare two entries, and the others give one
+-- how much the row at an index gives: the first three rows compare two entries, and the others give one
 abbrev pub size_of : ℕ → ℕ
 size_of zero = 2
 size_of (suc zero) = 2
@@ -187,7 +187,7 @@ turned_room (suc (suc (suc (suc (suc n))))) l = absurd (omega (arith, l))
 
 -- ---- rows
 
--- rows of n entries up to 1, each of which gives no more than one at its place
+-- rows of n entries up to 1, each of which gives no more than one at its index
 pub record AreMeasured (n : ℕ) (hs : List (List ℤ)) : Type 0 where
   pub long : (h : List ℤ) → Contains hs h → length h ≡ n
   pub small : AreUpTo 1 hs
@@ -578,8 +578,8 @@ module _ (n s m row : ℕ) (h : List ℤ) (lin : List (List ℤ)) (rays : List R
 
   no_row_step : IsRowStep row h lin rays o → ⊥
   no_row_step (levels.lineal t) =
-      no_dot n 1 m row h (get_or lin t.place []) o (omega (arith, e)) u
-      (q.first.each (get_or lin t.place []) (t.place, t.inside, get_or_default lin t.place (get_or lin t.place []) [] t.inside)) small t.step
+      no_dot n 1 m row h (get_or lin t.index []) o (omega (arith, e)) u
+      (q.first.each (get_or lin t.index []) (t.index, t.inside, get_or_default lin t.index (get_or lin t.index []) [] t.inside)) small t.step
   no_row_step (levels.splitting f (splits.testing r c k)) =
       no_dot n 1 m row h r.vector o (omega (arith, e)) u (q.second.each r.vector (vector_in rays r c)) small k
   no_row_step (levels.splitting f (splits.pairing p r cp cr up down free k)) =

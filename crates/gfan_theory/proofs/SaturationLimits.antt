@@ -54,9 +54,9 @@ use Rattle.gf_ideal_theory.proofs.RingLaws.{in_ring_of}
 use Rattle.gf_ideal_theory.proofs.UniquenessLaws.{apart_same}
 use Rattle.gf_buchberger.specs.declared.queue.Strategy.TheVariants as strategies
 use Rattle.gf_buchberger.specs.Bases.{IsArrangedBasis}
-use Rattle.gf_buchberger.specs.Jobs.{HaveRingVariables}
+use Rattle.gf_buchberger.specs.Tasks.{HaveRingVariables}
 use Rattle.gf_buchberger.specs.Pairs.{pairs_below}
-use Rattle.gf_buchberger.proofs.JobLaws.{ring_variables}
+use Rattle.gf_buchberger.proofs.TaskLaws.{ring_variables}
 use Rattle.gf_facets_theory.specs.MarkedBases.{IsMarkedReducedBasis}
 use Rattle.gf_bases_theory.proofs.GradedBasisLaws.{IsOfOneClass, basis-graded}
 use Rattle.gf_bases_theory.proofs.LawsHold.{reduced_bases_exist}
@@ -75,12 +75,12 @@ use Rattle.gf_binomial_calls_theory.proofs.SaturationLaws.{step_inside, way_on}
 use Rattle.gfan_theory.specs.Everyday.{IsDifferenceOfVariables, AreDifferencesOfVariables, SaturationsOfVariablesStayWithinLimits}
 use Rattle.gfan_theory.specs.Linear.{IsLinear, AreLinearForms, AreLinearDifferences}
 use Rattle.gfan_theory.proofs.CoefficientSums.{sum_of, sum_of_member, sum_of_binomial, sum_of_monomial}
-use Rattle.gfan_theory.proofs.LinearRuns.{same_or_not, alone, place_of, place_there, same_places, none_degree, AreLinearMembers, pairs_mono, linear_ruled_runs}
+use Rattle.gfan_theory.proofs.LinearRuns.{same_or_not, alone, index_of, index_there, same_indices, none_degree, AreLinearMembers, pairs_mono, linear_ruled_runs}
 use Rattle.gfan_theory.proofs.LinearBases.{linear_members}
 use Rattle.gfan_theory.proofs.SaturationRuns.{shape_of_relation, widened_forms, run_stays_within}
 use Rattle.gfan_theory.proofs.VariableLaws.{either}
 
--- ---- the weight 1 of each of n variables but that at place k
+-- ---- the weight 1 of each of n variables but that at index k
 
 abbrev others : ℕ → ℕ → List ℕ
 others zero k = []
@@ -162,20 +162,20 @@ module _ (n k : ℕ) (gs : List Terms) (l : k < n) (g : IsGood n gs) where
       inside : IsInRing n y
       inside = variables_of_member n gs b.poly g.forms.variables (reduced.reduced.basis.members b c) y m
 
-      some : 1 ≤ entry y (place_of y)
-      some = place_there y (linear.within b c y m)
+      some : 1 ≤ entry y (index_of y)
+      some = index_there y (linear.within b c y m)
 
-      light : weight ws y ≡ 0 → (place_of y ≡ k) ⊎ (place_of y ≡ k → ⊥) → (place_of y < n) ⊎ (n ≤ place_of y) → same y b.head ≡ true
+      light : weight ws y ≡ 0 → (index_of y ≡ k) ⊎ (index_of y ≡ k → ⊥) → (index_of y < n) ⊎ (n ≤ index_of y) → same y b.head ≡ true
       light z (inl e) s =
-          same_places y b.head k (linear.within b c y m) (linear.heads b c) (subst (λ (i : ℕ). 1 ≤ entry y i) e some) one
+          same_indices y b.head k (linear.within b c y m) (linear.heads b c) (subst (λ (i : ℕ). 1 ≤ entry y i) e some) one
       light z (inr o) (inl i) =
-          absurd (let a = others_most n k (place_of y) y i o in let p = some in omega (arith, a, z, p))
-      light z (inr o) (inr i) = absurd (let a = inside (place_of y) i in let p = some in omega (arith, a, p))
+          absurd (let a = others_most n k (index_of y) y i o in let p = some in omega (arith, a, z, p))
+      light z (inr o) (inr i) = absurd (let a = inside (index_of y) i in let p = some in omega (arith, a, p))
 
       at : (same y b.head ≡ true) ⊎ IsWeightedBelow ws y b.head → same y b.head ≡ true
       at (inl s) = s
       at (inr (inl less)) = absurd (let h = head_light in omega (arith, less, h))
-      at (inr (inr e)) = light (e.0 ∙ head_light) (same_or_not (place_of y) k) (cases_lt (place_of y) n)
+      at (inr (inr e)) = light (e.0 ∙ head_light) (same_or_not (index_of y) k) (cases_lt (index_of y) n)
 
   no_head : (b : MarkedPolynomial) → Contains rs b → entry b.head k ≡ 0
   no_head b c = at (same_or_not (entry b.head k) 0)

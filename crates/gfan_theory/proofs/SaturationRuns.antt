@@ -72,7 +72,7 @@ use Rattle.gf_ideal_theory.proofs.WorkLaws.{work-marked}
 use Rattle.gf_buchberger.specs.declared.queue.Strategy.{Strategy}
 use Rattle.gf_buchberger.specs.declared.queue.Waiting.{Waiting}
 use Rattle.gf_buchberger.specs.Generators.{IsEntered}
-use Rattle.gf_buchberger.specs.Jobs.{HaveRingVariables}
+use Rattle.gf_buchberger.specs.Tasks.{HaveRingVariables}
 use Rattle.gf_buchberger.specs.Pairs.{PairMarks, IsPairTable, pairs_below, one_if, is_settled, with_settled, settled_count}
 use Rattle.gf_buchberger.specs.Ruled.{IsRuled, IsNextPair, IsRuledOrigin, IsRuledOperation, IsRuledExponents, IsRuledSpent, AreRuledRunsWithinLimits}
 use Rattle.gf_buchberger.specs.Runs.{State, with_pair, MembersHaveVariables, IsRun, IsAppended, IsPairWorkedOff, IsSettledBy}
@@ -275,9 +275,9 @@ coprime_with x h d none i = at (same_or_not (entry x i) 0) (same_or_not (entry h
             let c = below k (same_or_not k i) in
             omega (arith, a, b, c)
 
--- a place of a list with one more is a place of the list, or the last one
-place_in : (ls : List MarkedPolynomial) (b c : MarkedPolynomial) (j : ℕ) → IsAt (ls ++ b ∷ []) j c → IsAt ls j c ⊎ ((j ≡ length ls) × (c ≡ b))
-place_in ls b c j p = at (cases_lt j (length ls))
+-- an index of a list with one more is an index of the list, or the last one
+index_in : (ls : List MarkedPolynomial) (b c : MarkedPolynomial) (j : ℕ) → IsAt (ls ++ b ∷ []) j c → IsAt ls j c ⊎ ((j ≡ length ls) × (c ≡ b))
+index_in ls b c j p = at (cases_lt j (length ls))
   where
     at : (j < length ls) ⊎ (length ls ≤ j) → IsAt ls j c ⊎ ((j ≡ length ls) × (c ≡ b))
     at (inl l) = inl (record { within = l; is = sym (get_or_append_left ls (b ∷ []) c j l) ∙ p.is })
@@ -298,7 +298,7 @@ rest_coprime n ls b m t = record {
     | inr e ↦ subst (λ (z : MarkedPolynomial). (x : Exponents) → HasMonomial z.poly x → degree x ≤ degree z.head) (sym e)
         (λ x y. let p = t.head.0 in let q = (t.shape x y).0 in let r = t.top x y in omega (arith, p, q, r))
   ];
-  apart = λ i j c e l p q. at i j c e l (place_in ls b c i p) (place_in ls b e j q);
+  apart = λ i j c e l p q. at i j c e l (index_in ls b c i p) (index_in ls b e j q);
 }
   where
     linear : AreCoprimeMembers ls
@@ -375,10 +375,10 @@ shift_small u b left right l m o = at o.operands
 step_small : (bs : List MarkedPolynomial) (f : Terms) (at : Exponents) (left right : ℕ) → AreCoprimeMembers bs → IsWithin (IsUpTo 4) f →
     IsStepExponents (Contains bs) f at left right → left + right < 2 ^ 31
 step_small bs f at left right m w o =
-    let p : degree at ≤ 4 = w at o.place.there in
-    let q = degree-same at (plus o.rest o.member.head) o.place.divides in
+    let p : degree at ≤ 4 = w at o.index.there in
+    let q = degree-same at (plus o.rest o.member.head) o.index.divides in
     let r = degree-plus o.rest o.member.head in
-    shift_small o.rest o.member left right (omega (arith, p, q, r)) (small_member bs o.member m o.place.contained) o.sum
+    shift_small o.rest o.member left right (omega (arith, p, q, r)) (small_member bs o.member m o.index.contained) o.sum
 
 -- the marks of two members have a least common multiple of a degree up to 4
 join_small : (bs : List MarkedPolynomial) (b c : MarkedPolynomial) → AreCoprimeMembers bs → Contains bs b → Contains bs c → degree (join b.head c.head) ≤ 4

@@ -19,7 +19,7 @@ use Rattle.gf_ideal_theory.proofs.ListLaws.{contained_each}
 use Rattle.gf_ideal_theory.proofs.ListedTerms.{by_terms, variables_by_terms}
 use Rattle.gf_duality_theory.proofs.ListLaws.{none_in, zip_from}
 use Rattle.gf_buchberger.specs.declared.queue.Strategy.TheVariants as strategies
-use Rattle.gf_buchberger.specs.Jobs.{HaveRingVariables}
+use Rattle.gf_buchberger.specs.Tasks.{HaveRingVariables}
 use Rattle.gf_buchberger.specs.Pairs.{pairs_below}
 use Rattle.gf_facets_theory.specs.Regions.{all_positive}
 use Rattle.gf_facets_theory.proofs.SystemLaws.{all_positive-region}

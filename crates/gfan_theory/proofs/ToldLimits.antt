@@ -41,7 +41,7 @@ use Rattle.gf_fan.proofs.LimitLaws.{fans_with_room_stay_within_limits}
 use Rattle.gf_sections.specs.declared.error.SectionsError.{SectionsError}
 use Rattle.gf_sections.specs.declared.error.SectionsError.TheVariants as errors
 use Rattle.gf_sections.specs.ConeRows.{AreConeRows, given_rows}
-use Rattle.gf_sections.specs.Certificates.{AreRowsTold, value_columns}
+use Rattle.gf_sections.specs.ConeCertificates.{AreRowsTold, value_columns}
 use Rattle.gf_sections.specs.ConeByRows.{IsConeByRows}
 use Rattle.gf_sections.specs.ConeText.{IsCertificateStep, IsCertificateCause, IsSectionsCause, IsConeCause, IsConeWithinLimits}
 use Rattle.gf_front.specs.declared.options.GroebnerConeOptions.{GroebnerConeOptions}

@@ -81,13 +81,13 @@ is_monomial p x h = at (same x p) refl
     at false s = absurd (one_not_zero (sym h.one ∙ ap (λ b. if b then one_ℚ else zero_ℚ) s))
 
 small_entry : (i : ℕ) (x : Exponents) → IsVariable i x → (k : ℕ) → entry x k ≤ 1
-small_entry i x v k = at (same_place k i)
+small_entry i x v k = at (same_index k i)
   where
-    same_place : (a b : ℕ) → (a ≡ b) ⊎ (a ≡ b → ⊥)
-    same_place zero zero = inl refl
-    same_place zero (suc b) = inr (λ e. omega (arith, e))
-    same_place (suc a) zero = inr (λ e. omega (arith, e))
-    same_place (suc a) (suc b) = elim (same_place a b) [ inl e ↦ inl (ap suc e) | inr n ↦ inr (λ e. n (omega (arith, e))) ]
+    same_index : (a b : ℕ) → (a ≡ b) ⊎ (a ≡ b → ⊥)
+    same_index zero zero = inl refl
+    same_index zero (suc b) = inr (λ e. omega (arith, e))
+    same_index (suc a) zero = inr (λ e. omega (arith, e))
+    same_index (suc a) (suc b) = elim (same_index a b) [ inl e ↦ inl (ap suc e) | inr n ↦ inr (λ e. n (omega (arith, e))) ]
 
     at : (k ≡ i) ⊎ (k ≡ i → ⊥) → entry x k ≤ 1
     at (inl e) = let p : entry x k ≡ 1 = ap (λ (j : ℕ). entry x j) e ∙ v.one in omega (arith, p)
@@ -199,7 +199,7 @@ module _ (n i j : ℕ) (x y : Exponents) (a : List ℤ) (lx : length x ≡ n) (l
 
 -- ---- normals
 
--- a normal is the difference of the entries at these places, the first of them that of the mark
+-- a normal is the difference of the entries at these indices, the first of them that of the mark
 pub record IsNormalBetween (n : ℕ) (f : Terms) (d : IsDifferenceOfVariables n f) (h : Exponents) (a : List ℤ) : Type 0 where
   pub high : ℕ
   pub low : ℕ
@@ -248,9 +248,9 @@ not_both n f d h p q =
     let t = d.is_right.others d.first d.apart in
     omega (arith, l, r, s, t)
 
-places_once : (n : ℕ) (f : Terms) (d : IsDifferenceOfVariables n f) (h : Exponents) (a b : List ℤ) (p : IsNormalBetween n f d h a)
+indices_once : (n : ℕ) (f : Terms) (d : IsDifferenceOfVariables n f) (h : Exponents) (a b : List ℤ) (p : IsNormalBetween n f d h a)
     (q : IsNormalBetween n f d h b) → (p.high ≡ q.high) × (p.low ≡ q.low)
-places_once n f d h a b p q = at p.of_mark q.of_mark
+indices_once n f d h a b p q = at p.of_mark q.of_mark
   where
     at : ((same h d.left ≡ true) × (p.high ≡ d.first) × (p.low ≡ d.second)) ⊎ ((same h d.right ≡ true) × (p.high ≡ d.second) × (p.low ≡ d.first)) →
         ((same h d.left ≡ true) × (q.high ≡ d.first) × (q.low ≡ d.second)) ⊎ ((same h d.right ≡ true) × (q.high ≡ d.second) × (q.low ≡ d.first)) →
@@ -311,13 +311,13 @@ module _ (n : ℕ) (f : Terms) (d : IsDifferenceOfVariables n f) (bs : List Mark
       let s = normal_at b k in
       let members : s.member ≡ r.member = one_member s.member r.member s.contained r.contained in
       let other : IsNormalBetween n f d r.member.head b = subst (λ (z : MarkedPolynomial). IsNormalBetween n f d z.head b) members s.between in
-      let places = places_once n f d r.member.head a b r.between other in
+      let indices = indices_once n f d r.member.head a b r.between other in
       let wide : length a ≡ n = normal-length n bs a canonical h in
       let wide_too : length b ≡ n = normal-length n bs b canonical k in
       vectors_equal a b (wide ∙ sym wide_too) (λ i l.
       let inside : i < n = omega (arith, l, wide) in
       sym (dot-unit n i a inside wide) ∙ dot_comm (unit n i) a ∙ r.between.gives (unit n i)
-      ∙ ap₂ (λ (p q : ℕ). get_or (unit n i) p (pos 0) -ℤ get_or (unit n i) q (pos 0)) places.0 places.1
+      ∙ ap₂ (λ (p q : ℕ). get_or (unit n i) p (pos 0) -ℤ get_or (unit n i) q (pos 0)) indices.0 indices.1
       ∙ sym (other.gives (unit n i)) ∙ dot_comm b (unit n i) ∙ dot-unit n i b inside wide_too)
 
   few_normals : (normals : List (List ℤ)) → AreNormals bs normals → length normals ≤ 1

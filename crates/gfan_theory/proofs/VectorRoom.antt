@@ -17,7 +17,7 @@ use Rattle.gf_duality_theory.specs.Generators.{unit_vectors}
 use Rattle.gf_duality_theory.specs.Elimination.{IsEliminated, IsNormalised, IsNullSpace, IsNullStep, eliminating, reducing, with_values, columns}
 use Rattle.gf_duality_theory.specs.Straightening.{IsLeveled, IsStraightened, done as straight_done, next as straight_next, IsOrthogonalized, start, added}
 use Rattle.gf_duality_theory.specs.Straightening.{gone, IsStraightening, IsOrthogonalizing}
-use Rattle.gf_duality_theory.proofs.ListLaws.{none_in, first_in, zip_from, place, less, at, more}
+use Rattle.gf_duality_theory.proofs.ListLaws.{none_in, first_in, zip_from, index, less, at, more}
 use Rattle.gf_duality_theory.proofs.Orthogonal.{basis as orthogonal_basis, straightened, head_in}
 use Rattle.gf_fans_theory.proofs.PartNumbers.{of_map}
 use Rattle.gf_rays.specs.Limits.{turned_bound, along_bound, straight_bound, orthogonal_bound, fits}

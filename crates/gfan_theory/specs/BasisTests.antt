@@ -7,7 +7,7 @@ use Rattle.gf_buchberger.specs.Pairs.{pairs_below}
 use Rattle.gf_saturate.specs.Widening.{variable_at}
 use Rattle.gf_tropical_basis_test.specs.Limits.{IsTestWithinLimits}
 
--- the variable at place i, of n, and its negative
+-- the variable at index i, of n, and its negative
 abbrev pub plus_variable : ℕ → ℕ → Term
 plus_variable n i = record { coef = one_ℚ; mono = variable_at n i }
 

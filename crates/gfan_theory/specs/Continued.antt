@@ -2,7 +2,7 @@
 -- Laws: proofs/GivenLimits.antt, proofs/ContinuedLaws.antt.
 use Rattle.std.specs.Prelude.{◌≡◌, ℕ, ◌≤◌, Bool, true, false, List, [], length, None, ℤ}
 use Rattle.gf_poly.specs.Marking.{MarkedPolynomials}
-use Rattle.gf_buchberger.specs.Jobs.{HaveRingVariables}
+use Rattle.gf_buchberger.specs.Tasks.{HaveRingVariables}
 use Rattle.gf_buchberger.specs.Pairs.{pairs_below}
 use Rattle.gf_reduced.specs.Markings.{IsMarkedGroebnerBasis}
 use Rattle.gf_facets_theory.specs.Regions.{Region, IsInRegion, all_positive}

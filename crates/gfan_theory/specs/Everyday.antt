@@ -3,7 +3,7 @@
 use Rattle.std.specs.Prelude.{◌≡◌, ℕ, ◌+◌, ◌<◌, ◌≤◌, false, List, [], ◌∷◌, length, None, Some, Contains, ℤ}
 use Rattle.gf_exponents_theory.specs.Exponents.{Exponents, entry}
 use Rattle.gf_poly.specs.Polynomial.{Terms}
-use Rattle.gf_buchberger.specs.Jobs.{HaveRingVariables}
+use Rattle.gf_buchberger.specs.Tasks.{HaveRingVariables}
 use Rattle.gf_buchberger.specs.Pairs.{pairs_below}
 use Rattle.gf_saturate.specs.Saturating.{AreStepsWithinLimits}
 use Rattle.gf_facets_theory.specs.Regions.{IsInRegion}
@@ -21,10 +21,10 @@ RegionsOfBinomialsStayWithinLimits = (o : ListOptions) (n : ℕ) (rows : List (L
     1 ≤ n → n ≤ 3 → length rows ≤ 2 → AreDifferenceRows n rows → IsInRegion n (record { rows = rows; root = v }) v →
     HaveRingVariables n (f ∷ []) → IsPlainGenerator f → HasExponentsUpTo 500 f → AreRegionListsWithin o n rows (f ∷ [])
 
--- the monomial is the variable at this place
-pub record IsVariable (place : ℕ) (x : Exponents) : Type 0 where
-  pub one : entry x place ≡ 1
-  pub others : (k : ℕ) → (k ≡ place → ⊥) → entry x k ≡ 0
+-- the monomial is the variable at this index
+pub record IsVariable (index : ℕ) (x : Exponents) : Type 0 where
+  pub one : entry x index ≡ 1
+  pub others : (k : ℕ) → (k ≡ index → ⊥) → entry x k ≡ 0
 
 -- f is the difference of two of the first n variables
 pub record IsDifferenceOfVariables (n : ℕ) (f : Terms) : Type 0 where

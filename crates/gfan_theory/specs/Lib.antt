@@ -7,6 +7,7 @@ pub mod Answers  -- the jobs of `_bases`, what they read, and what an answer con
 pub mod OneText  -- what is written is determined by what is read, and depends on the ideal alone
 pub mod Served  -- what the list of an answer has for each weight of its region
 pub mod Certified  -- what the certificates of an answer show
+pub mod Parts  -- a list that is written in parts
 pub mod Joined  -- a list that was cut and then continued
 pub mod Differences  -- rows that compare two entries of a vector
 pub mod Everyday  -- everyday inputs that meet the premise of completeness

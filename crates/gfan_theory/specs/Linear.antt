@@ -9,7 +9,7 @@ use Rattle.gf_binomials_theory.specs.Binomials.{AreBinomials}
 use Rattle.gf_buchberger.specs.Pairs.{pairs_below}
 use Rattle.gf_buchberger.specs.declared.queue.Strategy.{Strategy}
 use Rattle.gf_buchberger.specs.Bases.{AreRunsWithinLimits}
-use Rattle.gf_buchberger.specs.Jobs.{HaveRingVariables}
+use Rattle.gf_buchberger.specs.Tasks.{HaveRingVariables}
 use Rattle.gf_buchberger.specs.Ruled.{AreRuledRunsWithinLimits}
 use Rattle.gf_poly.specs.Marking.{MarkedPolynomial, MarkedPolynomials}
 use Rattle.gf_reduced.specs.Markings.{IsMarkedGroebnerBasis}
@@ -26,7 +26,7 @@ use Rattle.gf_reverse_theory.specs.Upward.{Fan}
 use Rattle.gf_tree.specs.Refusals.{IsTreeWithinLimits}
 use Rattle.gfan_lists.specs.declared.bases.ListOptions.{ListOptions}
 use Rattle.gfan_theory.specs.Inputs.{AreListsWithin, AreRegionListsWithin}
-use Rattle.gfan_interactive.specs.Interactive.{IsWalkedWithin}
+use Rattle.gfan_interactive.specs.Interactive.{IsLedWithin}
 use Rattle.gfan_theory.specs.Differences.{AreDifferenceRows}
 
 -- each monomial of f is a variable
@@ -86,4 +86,4 @@ pub record LinearWeightsStayWithinLimits : Type 0 where
 -- variables.
 abbrev pub LinearSessionsStayWithinLimits : Type 0
 LinearSessionsStayWithinLimits = (pairs n : ℕ) (s : MarkedPolynomials) → IsLinearSet s → s.variables ≡ n → n ≤ 4 → IsMarkedGroebnerBasis s.variables s.items →
-    AreReduced s.items → pairs_below n ≤ pairs → IsWalkedWithin pairs n s
+    AreReduced s.items → pairs_below n ≤ pairs → IsLedWithin pairs n s

@@ -1,7 +1,7 @@
 //! Laws of the list of `_bases`, of the weights of `_weightvector` and of the lines of `_generated`. The functions compute nothing: the
 //! contract of each is a law.
 ghost use Rattle.gfan_theory.specs.OneSourceText.{TextsAreOne, RegionTextsAreOne};
-ghost use Rattle.gfan_lists.specs.Parts.{PartsAreJoined};
+ghost use Rattle.gfan_theory.specs.Parts.{PartsAreJoined};
 ghost use Rattle.gfan_theory.specs.ServedLists.{WrittenListsServe};
 ghost use Rattle.gfan_theory.specs.CertifiedBases.{CertificatesHold, RegionCertificatesHold};
 ghost use Rattle.gfan_theory.specs.GivingWeights.{WrittenWeightsGiveBases};

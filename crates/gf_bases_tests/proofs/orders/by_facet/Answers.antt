@@ -1,7 +1,7 @@
 use Rattle.std.proofs.Common.{sym, subst}
 use Rattle.gf_exponents_theory.specs.SixOrders.{MonomialOrder}
-use Rattle.gf_buchberger.specs.Jobs.{IsSuited}
-use Rattle.gf_buchberger.proofs.JobLaws.{orders_that_suit}
+use Rattle.gf_buchberger.specs.Tasks.{IsSuited}
+use Rattle.gf_buchberger.proofs.TaskLaws.{orders_that_suit}
 use Rattle.gf_bases_tests.proofs.orders.by_facet.Goals as goal
 
 pub returns-clause-suited : goal.returns-clause-suited

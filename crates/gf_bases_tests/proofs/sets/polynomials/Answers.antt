@@ -1,5 +1,5 @@
 use Rattle.std.proofs.Common.{refl}
-use Rattle.gf_buchberger.proofs.JobLaws.{ring_of_each}
+use Rattle.gf_buchberger.proofs.TaskLaws.{ring_of_each}
 use Rattle.gf_bases_tests.proofs.sets.polynomials.Goals as goal
 
 pub returns : goal.returns

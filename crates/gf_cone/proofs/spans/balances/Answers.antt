@@ -13,8 +13,8 @@ returns-in-Some-Some-Some-Some c = λ t.
     let px : m.x ≡ part_at d s.first c.args.i = subst (λ (o : Option ℤ). IfSome o (λ z. z ≡ part_at d s.first c.args.i)) m.is-0 c.part-first.ensures in
     let py : m.y ≡ part_at d s.second c.args.i = subst (λ (o : Option ℤ). IfSome o (λ z. z ≡ part_at d s.second c.args.i)) m.is-1 c.part-second.ensures in
     let pz : m.z ≡ part_at d s.third c.args.i = subst (λ (o : Option ℤ). IfSome o (λ z. z ≡ part_at d s.third c.args.i)) m.is-2 c.part-third.ensures in
-    let pa : m.all ≡ s.normal *ℤ slice_index_or (normal_at d c.args.place) c.args.i (pos 0) =
-    subst (λ (o : Option ℤ). IfSome o (λ z. z ≡ s.normal *ℤ slice_index_or (normal_at d c.args.place) c.args.i (pos 0))) m.is-3 c.of_normal-all.ensures in
+    let pa : m.all ≡ s.normal *ℤ slice_index_or (normal_at d c.args.index) c.args.i (pos 0) =
+    subst (λ (o : Option ℤ). IfSome o (λ z. z ≡ s.normal *ℤ slice_index_or (normal_at d c.args.index) c.args.i (pos 0))) m.is-3 c.of_normal-all.ensures in
     let fx : FitsSigned w128 m.x = search rules in
     let fy : FitsSigned w128 m.y = search rules in
     let fz : FitsSigned w128 m.z = search rules in

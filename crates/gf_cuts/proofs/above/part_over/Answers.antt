@@ -15,7 +15,7 @@ with_more-requires c = subst (AreRows c.args.cone.now.ambient) (sym c.deref.ensu
 pub returns-clause-part : goal.returns-clause-part
 returns-clause-part c =
     let e = c.in_ok-with_more.ensures.rows in
-    part_by c.args.cone.now.ambient c.args.points.now c.args.top c.args.places.now (rows_of c.args.cone.now) (rows_of c.in_ok-with_more.field-0)
+    part_by c.args.cone.now.ambient c.args.points.now c.args.top c.args.indices.now (rows_of c.args.cone.now) (rows_of c.in_ok-with_more.field-0)
     c.in_ok-rows.rows.items c.deref.result.now c.in_ok-rows.ensures.says c.deref.ensures.value e.1 e.2
 
 pub returns-clause-rows : goal.returns-clause-rows

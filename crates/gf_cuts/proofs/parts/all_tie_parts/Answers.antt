@@ -8,8 +8,8 @@ use Rattle.gf_cuts.proofs.TieLaws.{marked_of, even_rows, rows_long, others_insid
 use Rattle.gf_cuts.proofs.DrawnLaws.{drawn_alone}
 use Rattle.gf_cuts.proofs.parts.all_tie_parts.Goals as goal
 
-pub mark_rows-requires-clause-place : goal.mark_rows-requires-clause-place
-mark_rows-requires-clause-place c =
+pub mark_rows-requires-clause-index : goal.mark_rows-requires-clause-index
+mark_rows-requires-clause-index c =
     let e = rows_long c.args.cone c.args.points.now c.args.rows.now c.requires.rows in
     let l = c.requires.top in
     omega (arith, e, l)
@@ -54,8 +54,8 @@ returns-then-is_some_zero-clause-parts c =
     (c.is_some_zero.ensures c.if-is_some_zero.true)) in
     whole_part c.args.cone A c.args.rows.now marks c.args.top (length A) others kept z.0 c.in_ok-alone.field-0.items marked z.1.0 z.1.1 c.in_ok-alone.ensures
 
-pub tie_parts-requires-clause-places : goal.tie_parts-requires-clause-places
-tie_parts-requires-clause-places c =
+pub tie_parts-requires-clause-indices : goal.tie_parts-requires-clause-indices
+tie_parts-requires-clause-indices c =
     let A = c.args.points.now in
     let marks = c.in_ok-marks.marks.items in
     let others = c.in_ok-others.others.items in

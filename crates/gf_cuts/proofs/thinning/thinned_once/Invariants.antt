@@ -4,6 +4,6 @@ use Rattle.gf_cuts.proofs.thinning.thinned_once.Given as goal
 
 abbrev pub invariant-loop-x : goal.invariant-loop-x
 invariant-loop-x l = record {
-  thin : IsThinned l.rows (take l.x-index l.places) l.kept.items;
+  thin : IsThinned l.rows (take l.x-index l.indices) l.kept.items;
   inside : All (λ x. x < length l.rows) l.kept.items;
 }

@@ -20,18 +20,18 @@ bounds-rows-top c =
 pub bounds-rows-x : goal.bounds-rows-x
 bounds-rows-x c =
     let e = ap length c.requires.rows ∙ table_long c.args.cone.now c.args.points.now in
-    let l = c.requires.place in
+    let l = c.requires.index in
     omega (arith, e, l)
 
-pub tied_places-requires-clause-first : goal.tied_places-requires-clause-first
-tied_places-requires-clause-first c =
+pub tied_indices-requires-clause-first : goal.tied_indices-requires-clause-first
+tied_indices-requires-clause-first c =
     let f = rays_fit c.args.cone.now c.args.points.now c.args.rows.now c.args.top c.index-rows-top.result c.requires.top c.requires.rows c.index-rows-top.is in
     let e = ap length c.rays-rays.ensures.value in
     omega (arith, f, e)
 
-pub tied_places-requires-clause-second : goal.tied_places-requires-clause-second
-tied_places-requires-clause-second c =
-    let f = rays_fit c.args.cone.now c.args.points.now c.args.rows.now c.args.x c.index-rows-x.result c.requires.place c.requires.rows c.index-rows-x.is in
+pub tied_indices-requires-clause-second : goal.tied_indices-requires-clause-second
+tied_indices-requires-clause-second c =
+    let f = rays_fit c.args.cone.now c.args.points.now c.args.rows.now c.args.x c.index-rows-x.result c.requires.index c.requires.rows c.index-rows-x.is in
     let e = ap length c.rays-rays.ensures.value in
     omega (arith, f, e)
 
@@ -41,7 +41,7 @@ tie_row-requires-clause-wide c = (c.args.cone.now.ambient, c.requires.wide)
 pub part-requires-clause-width : goal.part-requires-clause-width
 part-requires-clause-width c =
     let A = c.args.points.now in
-    let d = point_difference c.args.cone.now.ambient A c.args.top c.args.x c.requires.wide c.requires.top c.requires.place in
+    let d = point_difference c.args.cone.now.ambient A c.args.top c.args.x c.requires.wide c.requires.top c.requires.index in
     subst (AreRows c.args.cone.now.ambient) (sym (c.deref.ensures.value ∙ c.in_ok-zero.ensures))
     (one_row c.args.cone.now.ambient (vector_difference (point_at A c.args.top) (point_at A c.args.x))
     (d.long ∙ c.requires.wide c.args.top [] c.requires.top))
@@ -60,15 +60,15 @@ part-requires-clause-part c =
     let h : List ℤ = vector_difference (point_at A c.args.top) (point_at A c.args.x) in
     let r : HasItsRays cone =
     subst (IsRays cone.ambient cone.inequalities cone.equations cone.lineality) c.rays-rays.ensures.value c.rays-rays.ensures.rays in
-    let d = point_difference cone.ambient A c.args.top c.args.x c.requires.wide c.requires.top c.requires.place in
+    let d = point_difference cone.ambient A c.args.top c.args.x c.requires.wide c.requires.top c.requires.index in
     let t = tied_as cone A c.args.rows.now c.args.top c.args.x c.index-rows-top.result c.index-rows-x.result (length c.rays-rays.result.now)
-    c.in_ok-numbers.numbers.items c.requires.top c.requires.place c.requires.rows c.index-rows-top.is c.index-rows-x.is
+    c.in_ok-numbers.numbers.items c.requires.top c.requires.index c.requires.rows c.index-rows-top.is c.index-rows-x.is
     (ap length c.rays-rays.ensures.value) c.in_ok-numbers.ensures in
     subst (λ z. IsRays cone.ambient cone.inequalities (cone.equations ++ z) cone.lineality (numbered cone.rays c.deref-2.result.now))
     (sym (c.deref.ensures.value ∙ c.in_ok-zero.ensures))
     (subst (λ (z : List ℕ). IsRays cone.ambient cone.inequalities (cone.equations ++ h ∷ []) cone.lineality (numbered cone.rays z))
     (sym c.deref-2.ensures.value)
-    (tied_rays cone A c.args.top c.args.x h c.in_ok-numbers.numbers.items r c.requires.top c.requires.place c.requires.highest d t))
+    (tied_rays cone A c.args.top c.args.x h c.in_ok-numbers.numbers.items r c.requires.top c.requires.index c.requires.highest d t))
 
 pub returns-clause-part : goal.returns-clause-part
 returns-clause-part c =
@@ -77,7 +77,7 @@ returns-clause-part c =
     let h : List ℤ = vector_difference (point_at A c.args.top) (point_at A c.args.x) in
     let e = c.in_ok-part.ensures.rows in
     tie_by cone.ambient A c.args.top c.args.x (rows_of cone) (rows_of c.in_ok-part.field-0) h c.deref.result.now
-    (point_difference cone.ambient A c.args.top c.args.x c.requires.wide c.requires.top c.requires.place) (c.deref.ensures.value ∙ c.in_ok-zero.ensures) e.1 e.2
+    (point_difference cone.ambient A c.args.top c.args.x c.requires.wide c.requires.top c.requires.index) (c.deref.ensures.value ∙ c.in_ok-zero.ensures) e.1 e.2
 
 pub returns-clause-rows : goal.returns-clause-rows
 returns-clause-rows c =
@@ -86,6 +86,6 @@ returns-clause-rows c =
     let h : List ℤ = vector_difference (point_at A c.args.top) (point_at A c.args.x) in
     let e = c.in_ok-part.ensures.rows in
     drawn_tie A (rows_of cone) (rows_of c.in_ok-part.field-0) h c.deref.result.now
-    (drawn_at A c.args.top c.args.x h c.requires.top c.requires.place
-    (point_difference cone.ambient A c.args.top c.args.x c.requires.wide c.requires.top c.requires.place))
+    (drawn_at A c.args.top c.args.x h c.requires.top c.requires.index
+    (point_difference cone.ambient A c.args.top c.args.x c.requires.wide c.requires.top c.requires.index))
     (c.deref.ensures.value ∙ c.in_ok-zero.ensures) e.1 e.2

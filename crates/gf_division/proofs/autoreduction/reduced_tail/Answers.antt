@@ -26,8 +26,8 @@ returns-in_err-work_off-clause-cause c =
     rw (p.1, p.2) (tail_refused c.args.by.now c.args.member.now (Some c.copy.result) (split_of c.new-rest.result)
     c.in_err-work_off.field-0.0 s c.in_err-work_off.ensures.cause)
 
-pub place_of-place-requires-clause-variables : goal.place_of-place-requires-clause-variables
-place_of-place-requires-clause-variables c =
+pub index_of-index-requires-clause-variables : goal.index_of-index-requires-clause-variables
+index_of-index-requires-clause-variables c =
     let t : TailFacts c.args.by.now c.args.member.now c.in_ok-tail.tail = tail_facts c.args.by.now c.args.member.now (Some c.copy.result)
     (split_of c.new-rest.result) (split_of c.work_off.new.rest) c.in_ok-tail.tail c.head.ensures.marked
     (tail_start c.args.by.now c.args.member.now (Some c.copy.result) c.in_ok-copy.field-0 (split_of c.new-rest.result)
@@ -35,8 +35,8 @@ place_of-place-requires-clause-variables c =
     c.requires.member c.head.ensures.marked c.new-rest.ensures.value) c.in_ok-tail.ensures c.in_ok-work_off.ensures.done c.in_ok-work_off.ensures.worked in
     rw (c.terms.ensures.value, c.head-2.ensures.value) t.variables
 
-pub place_of-place-requires-clause-there : goal.place_of-place-requires-clause-there
-place_of-place-requires-clause-there c =
+pub index_of-index-requires-clause-there : goal.index_of-index-requires-clause-there
+index_of-index-requires-clause-there c =
     let t : TailFacts c.args.by.now c.args.member.now c.in_ok-tail.tail = tail_facts c.args.by.now c.args.member.now (Some c.copy.result)
     (split_of c.new-rest.result) (split_of c.work_off.new.rest) c.in_ok-tail.tail c.head.ensures.marked
     (tail_start c.args.by.now c.args.member.now (Some c.copy.result) c.in_ok-copy.field-0 (split_of c.new-rest.result)
@@ -51,8 +51,8 @@ returns-clause-tail c =
     (tail_start c.args.by.now c.args.member.now (Some c.copy.result) c.in_ok-copy.field-0 (split_of c.new-rest.result)
     (ap Some (c.copy.ensures ∙ c.head.ensures.value)) (c.in_ok-copy.ensures ∙ c.poly.ensures) c.new-rest.ensures.descending c.requires.variables
     c.requires.member c.head.ensures.marked c.new-rest.ensures.value) c.in_ok-tail.ensures c.in_ok-work_off.ensures.done c.in_ok-work_off.ensures.worked in
-    reduced_tail_at c.args.by.now c.args.member.now c.in_ok-tail.tail _ c.mark.result c.mark.ensures (ap (λ (f : Terms). head_of f c.place_of-place.result)
-    (sym c.terms.ensures.value) ∙ c.place_of-place.ensures.head ∙ c.head-2.ensures.value) t
+    reduced_tail_at c.args.by.now c.args.member.now c.in_ok-tail.tail _ c.mark.result c.mark.ensures (ap (λ (f : Terms). head_of f c.index_of-index.result)
+    (sym c.terms.ensures.value) ∙ c.index_of-index.ensures.head ∙ c.head-2.ensures.value) t
 
 pub returns-clause-reached : goal.returns-clause-reached
 returns-clause-reached c =
@@ -61,8 +61,8 @@ returns-clause-reached c =
     (tail_start c.args.by.now c.args.member.now (Some c.copy.result) c.in_ok-copy.field-0 (split_of c.new-rest.result)
     (ap Some (c.copy.ensures ∙ c.head.ensures.value)) (c.in_ok-copy.ensures ∙ c.poly.ensures) c.new-rest.ensures.descending c.requires.variables
     c.requires.member c.head.ensures.marked c.new-rest.ensures.value) c.in_ok-tail.ensures c.in_ok-work_off.ensures.done c.in_ok-work_off.ensures.worked in
-    tail_reached_at c.args.by.now c.args.member.now c.in_ok-tail.tail _ c.mark.result c.mark.ensures (ap (λ (f : Terms). head_of f c.place_of-place.result)
-    (sym c.terms.ensures.value) ∙ c.place_of-place.ensures.head ∙ c.head-2.ensures.value) t
+    tail_reached_at c.args.by.now c.args.member.now c.in_ok-tail.tail _ c.mark.result c.mark.ensures (ap (λ (f : Terms). head_of f c.index_of-index.result)
+    (sym c.terms.ensures.value) ∙ c.index_of-index.ensures.head ∙ c.head-2.ensures.value) t
 
 pub returns-clause-form : goal.returns-clause-form
 returns-clause-form c =
@@ -71,5 +71,5 @@ returns-clause-form c =
     (tail_start c.args.by.now c.args.member.now (Some c.copy.result) c.in_ok-copy.field-0 (split_of c.new-rest.result)
     (ap Some (c.copy.ensures ∙ c.head.ensures.value)) (c.in_ok-copy.ensures ∙ c.poly.ensures) c.new-rest.ensures.descending c.requires.variables
     c.requires.member c.head.ensures.marked c.new-rest.ensures.value) c.in_ok-tail.ensures c.in_ok-work_off.ensures.done c.in_ok-work_off.ensures.worked in
-    kept_form_at c.args.by.now c.args.member.now c.in_ok-tail.tail _ c.mark.result c.mark.ensures (ap (λ (f : Terms). head_of f c.place_of-place.result)
-    (sym c.terms.ensures.value) ∙ c.place_of-place.ensures.head ∙ c.head-2.ensures.value) t
+    kept_form_at c.args.by.now c.args.member.now c.in_ok-tail.tail _ c.mark.result c.mark.ensures (ap (λ (f : Terms). head_of f c.index_of-index.result)
+    (sym c.terms.ensures.value) ∙ c.index_of-index.ensures.head ∙ c.head-2.ensures.value) t

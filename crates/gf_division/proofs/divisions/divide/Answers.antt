@@ -1,7 +1,7 @@
 use Rattle.std.proofs.lemmas.Result.{err_from_is_err_and}
 use Rattle.gf_division.specs.Divisions.{lists_of}
 use Rattle.gf_division.proofs.NormalFormLaws.{some_weight, same_variables}
-use Rattle.gf_division.proofs.DivisionLaws.{sum_at, places_at, forms_at, variables_at, sums_refused}
+use Rattle.gf_division.proofs.DivisionLaws.{sum_at, indices_at, forms_at, variables_at, sums_refused}
 use Rattle.gf_division.proofs.divisions.divide.Goals as goal
 
 pub divided-requires-clause-marked : goal.divided-requires-clause-marked
@@ -26,8 +26,8 @@ pub returns-clause-variables : goal.returns-clause-variables
 returns-clause-variables c = variables_at c.args.by.now.variables c.args.f.now c.in_ok-copy.field-0 c.in_ok-remainder.remainder c.in_ok-copy.ensures
     c.requires.variables c.in_ok-remainder.ensures.variables
 
-pub returns-clause-places : goal.returns-clause-places
-returns-clause-places c = places_at c.args.by.now.items c.items.result.now c.args.f.now c.in_ok-copy.field-0 c.in_ok-remainder.remainder
+pub returns-clause-indices : goal.returns-clause-indices
+returns-clause-indices c = indices_at c.args.by.now.items c.items.result.now c.args.f.now c.in_ok-copy.field-0 c.in_ok-remainder.remainder
     (lists_of c.in_ok-remainder.quotients.items) c.in_ok-sums.field-0.items c.new-cofactors.result c.items.ensures.value c.in_ok-copy.ensures
     c.new-cofactors.ensures c.in_ok-remainder.ensures.quotients c.in_ok-sums.ensures.value
 

@@ -1,6 +1,6 @@
 use Rattle.std.proofs.lemmas.Result.{err_from_is_err_and}
 use Rattle.gf_division.specs.Dividends.{split_of}
-use Rattle.gf_division.proofs.PlaceLaws.{placed, placed_shares, placed_divides, placed_step, placed_gone, placed_variables, placed_descends, placed_refused}
+use Rattle.gf_division.proofs.IndexLaws.{placed, placed_shares, placed_divides, placed_step, placed_gone, placed_variables, placed_descends, placed_refused}
 use Rattle.gf_division.proofs.steps.reduce_step.Goals as goal
 
 pub step-requires-clause-variables : goal.step-requires-clause-variables

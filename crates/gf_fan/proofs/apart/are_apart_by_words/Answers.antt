@@ -2,7 +2,7 @@ use Rattle.std.proofs.Common.{◌<◌, length, sym, subst, ◌∙◌, arith}
 use Rattle.std.proofs.lemmas.Result.{IfOk-weaker}
 use Rattle.gf_fan.specs.Words.{AreWordsOfCone}
 use Rattle.gf_fan.proofs.SettledLaws.{apart_of}
-use Rattle.gf_fan.proofs.WordLaws.{told_by_words, place_inside}
+use Rattle.gf_fan.proofs.WordLaws.{told_by_words, index_inside}
 use Rattle.gf_fan.proofs.apart.are_apart_by_words.Goals as goal
 
 pub are_told_by_words-requires : goal.are_told_by_words-requires
@@ -15,8 +15,8 @@ are_told_by_words-requires c =
     record {
       wide = λ p d h. two.wide p d h ∙ sym first.long;
       long = second.long ∙ sym first.long;
-      left = place_inside two.rays c.args.c.now.inequalities c.args.known.now c.index-cones-i.result.rows.items first.rows;
-      right = place_inside two.rays c.args.d.now.inequalities c.args.known.now c.index-cones-j.result.rows.items second.rows;
+      left = index_inside two.rays c.args.c.now.inequalities c.args.known.now c.index-cones-i.result.rows.items first.rows;
+      right = index_inside two.rays c.args.d.now.inequalities c.args.known.now c.index-cones-j.result.rows.items second.rows;
     }
 
 pub returns : goal.returns

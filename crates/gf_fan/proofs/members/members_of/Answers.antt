@@ -16,7 +16,7 @@ use Rattle.gf_fan.specs.WholeCones.{AreWholeCones, IsStepOfSome}
 use Rattle.gf_fan.proofs.SizeLaws.{dims_within}
 use Rattle.gf_fan.proofs.MakingLaws.{all_are_found}
 use Rattle.gf_fan.proofs.TopLaws.{tops_of}
-use Rattle.gf_fan.proofs.WholeLaws.{members_listed, maximal_places, step_of_cone}
+use Rattle.gf_fan.proofs.WholeLaws.{members_listed, maximal_indices, step_of_cone}
 use Rattle.gf_fan.proofs.members.members_of.Goals as goal
 
 pub all_found-requires : goal.all_found-requires
@@ -49,7 +49,7 @@ maximal-requires c =
     subst (λ (z : List FanCone). AreTopsOf (numbers_of z) c.in_ok-tops.tops.keys) (sym c.as_slice-2.ensures.value) t
 
 pub whole_cones-requires : goal.whole_cones-requires
-whole_cones-requires c = maximal_places c.as_slice-3.result.now c.as_slice-4.result.now
+whole_cones-requires c = maximal_indices c.as_slice-3.result.now c.as_slice-4.result.now
     (subst (AreMaximal (numbers_of c.as_slice-3.result.now)) (sym c.as_slice-4.ensures.value)
     (subst (λ (z : List FanCone). AreMaximal (numbers_of z) c.in_ok-maximal.maximal.items) (c.as_slice-2.ensures.value ∙ sym c.as_slice-3.ensures.value)
     c.in_ok-maximal.ensures))

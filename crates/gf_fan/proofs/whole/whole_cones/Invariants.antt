@@ -6,4 +6,4 @@ use Rattle.gf_fan.specs.Signs.{AreEach}
 use Rattle.gf_fan.proofs.whole.whole_cones.Given as goal
 
 abbrev pub invariant-loop-i : goal.invariant-loop-i
-invariant-loop-i l = AreEach (λ k (w : RowsAndRays). HasRowsAndRaysOf w (get_or l.cones (get_or l.places k 0) no_cone).cone) l.i-index l.out.items
+invariant-loop-i l = AreEach (λ k (w : RowsAndRays). HasRowsAndRaysOf w (get_or l.cones (get_or l.indices k 0) no_cone).cone) l.i-index l.out.items

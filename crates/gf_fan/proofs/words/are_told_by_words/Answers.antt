@@ -1,5 +1,5 @@
 use Rattle.std.proofs.Common.{◌<◌, [], length, All, sym, refl, subst}
-use Rattle.gf_fan.proofs.WordLaws.{low_inside, low_as, no_places, told_as}
+use Rattle.gf_fan.proofs.WordLaws.{low_inside, low_as, no_indices, told_as}
 use Rattle.gf_fan.proofs.words.are_told_by_words.Goals as goal
 
 pub are_told_at-requires-clause-left : goal.are_told_at-requires-clause-left
@@ -12,7 +12,7 @@ returns-then-are_told_at c = λ _. record {
   left = c.in_ok-left.left.items;
   right = [];
   of_left = low_as c.args.known.now c.in_ok-left.left.items c.as_slice.ensures.value c.as_slice-2.ensures.value c.in_ok-left.ensures;
-  of_right = no_places c.args.known.now c.args.t.now.rows.items c.args.s.now.own.items;
+  of_right = no_indices c.args.known.now c.args.t.now.rows.items c.args.s.now.own.items;
   told = told_as {right = []} c.args.known.now c.as_slice-3.ensures.value refl c.as_slice-4.ensures.value c.as_slice-5.ensures.value
       (c.are_told_at.ensures c.if-are_told_at.true);
 }

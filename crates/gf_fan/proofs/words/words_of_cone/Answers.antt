@@ -1,10 +1,10 @@
 use Rattle.std.proofs.Common.{◌∙◌, sym, subst, ℕ, List, ℤ, length}
-use Rattle.gf_fan.specs.Words.{AreWordsOfRows, AreOwnWords, ArePlacesOf}
+use Rattle.gf_fan.specs.Words.{AreWordsOfRows, AreOwnWords, AreIndicesOf}
 use Rattle.gf_fan.proofs.WordLaws.{own_words_of}
 use Rattle.gf_fan.proofs.words.words_of_cone.Goals as goal
 
-pub places_of-requires : goal.places_of-requires
-places_of-requires c = subst (λ (w : List (List ℤ)). AreWordsOfRows w c.args.items.now.keys c.args.known.now) (sym c.as_slice-rays.ensures) c.requires.known
+pub indices_of-requires : goal.indices_of-requires
+indices_of-requires c = subst (λ (w : List (List ℤ)). AreWordsOfRows w c.args.items.now.keys c.args.known.now) (sym c.as_slice-rays.ensures) c.requires.known
 
 pub returns : goal.returns
 returns c =
@@ -18,7 +18,7 @@ returns c =
       long = own.long;
       each = o.0;
       every = o.1;
-      rows = subst (λ (w : List (List ℤ)). ArePlacesOf rays c.args.known.now w c.in_ok-rows.rows.items) c.inequalities.ensures.value
-          (subst (λ (w : List (List ℤ)). ArePlacesOf w c.args.known.now c.inequalities.result.now c.in_ok-rows.rows.items) c.as_slice-rays.ensures
+      rows = subst (λ (w : List (List ℤ)). AreIndicesOf rays c.args.known.now w c.in_ok-rows.rows.items) c.inequalities.ensures.value
+          (subst (λ (w : List (List ℤ)). AreIndicesOf w c.args.known.now c.inequalities.result.now c.in_ok-rows.rows.items) c.as_slice-rays.ensures
           c.in_ok-rows.ensures);
     }

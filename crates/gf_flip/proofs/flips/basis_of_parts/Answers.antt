@@ -1,4 +1,4 @@
-use Rattle.gf_lines.specs.Along.{AreSmall}
+use Rattle.gf_strands.specs.Along.{AreSmall}
 use Rattle.std.proofs.Common.{sym, subst}
 use Rattle.std.proofs.lemmas.Result.{err_from_is_err_and}
 use Rattle.gf_flip.proofs.SmallNormals.{small_bounded}

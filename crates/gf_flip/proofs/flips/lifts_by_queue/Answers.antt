@@ -2,8 +2,8 @@ use Rattle.std.proofs.Common.{◌≡◌, List, IfSome, length, map, ◌==◌, re
 use Rattle.gf_poly.specs.Polynomial.{Terms}
 use Rattle.gf_poly.specs.Marking.{MarkedPolynomial}
 use Rattle.gf_initial_theory.specs.Lifts.{AreTopLifts}
-use Rattle.gf_lines.specs.Along.{HasNonzero, AreAlong, AreSmall}
-use Rattle.gf_lines.specs.Members.{AreMonic}
+use Rattle.gf_strands.specs.Along.{HasNonzero, AreAlong, AreSmall}
+use Rattle.gf_strands.specs.Members.{AreMonic}
 use Rattle.gf_flip.specs.Chosen.{AreAloneWhere}
 use Rattle.gf_flip.proofs.AloneLaws.{alone_where, alone_at}
 use Rattle.gf_lifts.proofs.CrossingMath.{crossing_width, crossing_nonzero, monic_parts, have_at}

@@ -1,5 +1,5 @@
 use Rattle.std.proofs.Common.{length, sym, ap, subst, ◌∙◌}
-use Rattle.gf_lines.specs.Along.{HasNonzero}
+use Rattle.gf_strands.specs.Along.{HasNonzero}
 use Rattle.gf_lifts.proofs.CrossingMath.{crossing_width, crossing_nonzero, have_at}
 use Rattle.gf_flip.proofs.RunSteps.{crossing_at, lifts_under}
 use Rattle.gf_flip.proofs.flips.lifts_in_turn.Goals as goal

@@ -1,5 +1,5 @@
 use Rattle.std.proofs.Common.{length, sym, ap, ◌∙◌, subst}
-use Rattle.gf_lines.specs.Along.{HasNonzero, AreAlong, AreSmall}
+use Rattle.gf_strands.specs.Along.{HasNonzero, AreAlong, AreSmall}
 use Rattle.gf_flip.specs.Operations.{IsFlipRefusal}
 use Rattle.gf_lifts.proofs.CrossingMath.{crossing_width, crossing_nonzero, have_at}
 use Rattle.gf_flip.proofs.FlipSteps.{along_at}

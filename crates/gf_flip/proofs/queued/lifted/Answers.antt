@@ -6,7 +6,7 @@ use Rattle.gf_flip.proofs.queued.lifted.Goals as goal
 
 pub returns-in-Ok-clause-value : goal.returns-in-Ok-clause-value
 returns-in-Ok-clause-value c =
-    let m = c.in-Some.ensures.place in
+    let m = c.in-Some.ensures.index in
     let h = member_at c.args.by.now c.in-Some.j c.index-by-j.result m.at.within c.index-by-j.is in
     untouched_at c.args.by.now c.args.normal.now c.args.member c.index-by-j.result c.in-Ok.copy c.requires.monic
     (monic_member c.args.by.now c.index-by-j.result c.in-Some.j c.requires.marked m.at.within c.index-by-j.is)
@@ -17,4 +17,4 @@ returns-in-Ok-clause-value c =
     c.in-Ok.ensures
 
 pub returns-in-Ok-clause-copied : goal.returns-in-Ok-clause-copied
-returns-in-Ok-clause-copied c = subst (Contains c.args.by.now) (sym c.in-Ok.ensures) (c.in-Some.j, c.in-Some.ensures.place.at.within, sym c.index-by-j.is)
+returns-in-Ok-clause-copied c = subst (Contains c.args.by.now) (sym c.in-Ok.ensures) (c.in-Some.j, c.in-Some.ensures.index.at.within, sym c.index-by-j.is)

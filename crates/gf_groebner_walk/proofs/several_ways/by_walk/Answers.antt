@@ -1,8 +1,8 @@
 use Rattle.std.proofs.Common.{sym, ◌∙◌, subst}
 use Rattle.gf_exponents_theory.specs.SixOrders.{MonomialOrder}
 use Rattle.gf_order.specs.Comparisons.{HasEntries}
-use Rattle.gf_buchberger.specs.Jobs.{IsSuited}
-use Rattle.gf_buchberger.proofs.JobLaws.{orders_that_suit}
+use Rattle.gf_buchberger.specs.Tasks.{IsSuited}
+use Rattle.gf_buchberger.proofs.TaskLaws.{orders_that_suit}
 use Rattle.gf_groebner_walk.proofs.WalkLaws.{by_degree, start_basis, some_arrived}
 use Rattle.gf_groebner_walk.proofs.several_ways.by_walk.Goals as goal
 

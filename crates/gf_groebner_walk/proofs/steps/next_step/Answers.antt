@@ -13,16 +13,16 @@ returns-in-Nowhere c = subst (IsFacetTold c.args.weight.now c.in_ok-cone.cone) c
     (all_positive c.args.here.now.variables) c.args.here.now.items c.in_ok-cone.ensures
 
 pub flip-requires : goal.flip-requires
-flip-requires c = crossing_towards c.args.here.now c.args.weight.now c.index-normals-place.result c.requires.basis
-    (facet_read c.args.weight.now c.in_ok-cone.cone c.in_ok-told.told c.in-Facet.place c.normals.result.now c.index-normals-place.result c.in_ok-told.ensures
-    c.in-Facet.is c.normals.ensures.value c.index-normals-place.is c.args.here.now.variables (all_positive c.args.here.now.variables)
+flip-requires c = crossing_towards c.args.here.now c.args.weight.now c.index-normals-index.result c.requires.basis
+    (facet_read c.args.weight.now c.in_ok-cone.cone c.in_ok-told.told c.in-Facet.index c.normals.result.now c.index-normals-index.result c.in_ok-told.ensures
+    c.in-Facet.is c.normals.ensures.value c.index-normals-index.is c.args.here.now.variables (all_positive c.args.here.now.variables)
     c.args.here.now.items c.in_ok-cone.ensures)
 
 pub returns-in-Ok : goal.returns-in-Ok
 returns-in-Ok c = record {
-  normal = c.index-normals-place.result;
-  leads = facet_read c.args.weight.now c.in_ok-cone.cone c.in_ok-told.told c.in-Facet.place c.normals.result.now c.index-normals-place.result
-      c.in_ok-told.ensures c.in-Facet.is c.normals.ensures.value c.index-normals-place.is c.args.here.now.variables (all_positive c.args.here.now.variables)
+  normal = c.index-normals-index.result;
+  leads = facet_read c.args.weight.now c.in_ok-cone.cone c.in_ok-told.told c.in-Facet.index c.normals.result.now c.index-normals-index.result
+      c.in_ok-told.ensures c.in-Facet.is c.normals.ensures.value c.index-normals-index.is c.args.here.now.variables (all_positive c.args.here.now.variables)
       c.args.here.now.items c.in_ok-cone.ensures;
   neighbour = c.in-Ok.ensures.value;
   variables = c.in-Ok.ensures.variables;

@@ -1,5 +1,5 @@
 use Rattle.std.proofs.Common.{take}
-use Rattle.gf_buchberger.specs.Jobs.{HaveRingVariables}
+use Rattle.gf_saturate.specs.Tasks.{HaveRingVariables}
 use Rattle.gf_initial_monomials.specs.Outcomes.{AreFormsAt}
 use Rattle.gf_initial_monomials.proofs.forms.forms_at.Given as goal
 

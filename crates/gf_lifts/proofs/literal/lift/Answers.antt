@@ -1,20 +1,20 @@
 use Rattle.std.proofs.lemmas.Result.{err_from_is_err_and}
 use Rattle.gf_lifts.proofs.LiftRefusalSteps.{remainder_refused, difference_refused}
-use Rattle.gf_lifts.proofs.LiftSteps.{place_variables, place_there, lift_at, lift_variables}
+use Rattle.gf_lifts.proofs.LiftSteps.{index_variables, index_there, lift_at, lift_variables}
 use Rattle.gf_lifts.proofs.literal.lift.Goals as goal
 
-pub place_of-place-requires-clause-variables : goal.place_of-place-requires-clause-variables
-place_of-place-requires-clause-variables c = place_variables c.args.by.now.variables c.args.member.now _ _ _ _ c.head-head.result.now c.poly-2.ensures
+pub index_of-index-requires-clause-variables : goal.index_of-index-requires-clause-variables
+index_of-index-requires-clause-variables c = index_variables c.args.by.now.variables c.args.member.now _ _ _ _ c.head-head.result.now c.poly-2.ensures
     c.in_ok-poly.ensures.variables c.requires.variables c.in_ok-rest.ensures.variables c.terms.ensures.value c.head-head.ensures.value
     c.head-head.ensures.marked
 
-pub place_of-place-requires-clause-there : goal.place_of-place-requires-clause-there
-place_of-place-requires-clause-there c = place_there c.args.by.now.items c.args.member.now _ _ _ _ _ c.head-head.result.now c.poly.ensures c.poly-2.ensures
+pub index_of-index-requires-clause-there : goal.index_of-index-requires-clause-there
+index_of-index-requires-clause-there c = index_there c.args.by.now.items c.args.member.now _ _ _ _ _ c.head-head.result.now c.poly.ensures c.poly-2.ensures
     c.requires.liftable c.in_ok-rest.ensures.value c.in_ok-poly.ensures.difference c.terms.ensures.value c.head-head.ensures.value
 
 pub returns-clause-value : goal.returns-clause-value
 returns-clause-value c = lift_at c.args.by.now.items c.args.member.now c.mark.result _ _ _ _ _ c.head-head.result.now _ c.poly.ensures c.poly-2.ensures
-    c.in_ok-rest.ensures.value c.in_ok-poly.ensures.difference c.terms.ensures.value c.head-head.ensures.value c.place_of-place.ensures.head c.mark.ensures
+    c.in_ok-rest.ensures.value c.in_ok-poly.ensures.difference c.terms.ensures.value c.head-head.ensures.value c.index_of-index.ensures.head c.mark.ensures
 
 pub returns-clause-variables : goal.returns-clause-variables
 returns-clause-variables c = lift_variables c.args.by.now.variables c.args.member.now c.mark.result _ _ _ _ c.poly-2.ensures c.in_ok-poly.ensures.variables

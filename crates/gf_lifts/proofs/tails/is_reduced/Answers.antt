@@ -1,6 +1,6 @@
 use Rattle.std.proofs.Common.{sym, subst, ◌∙◌, length, ℕ}
 use Rattle.gf_poly.specs.Marking.{HaveVariables}
-use Rattle.gf_lines.proofs.AlongLaws.{width_at}
+use Rattle.gf_strands.proofs.AlongLaws.{width_at}
 use Rattle.gf_lifts.proofs.TailSteps.{passed_over, passed_over_end}
 use Rattle.gf_lifts.proofs.tails.is_reduced.Goals as goal
 

@@ -1,7 +1,7 @@
 use Rattle.std.proofs.Common.{sym, ◌∙◌, subst, ℕ, get_or, false}
 use Rattle.gf_poly.specs.Marking.{HaveVariables}
 use Rattle.gf_division.proofs.ReducerLaws.{member_at, member_contained, member_variables}
-use Rattle.gf_lines.proofs.AlongLaws.{width_at}
+use Rattle.gf_strands.proofs.AlongLaws.{width_at}
 use Rattle.gf_lifts.proofs.LiftTailLaws.{passed_at, passed_more, stays_at}
 use Rattle.gf_lifts.proofs.tails.stays.Goals as goal
 

@@ -1,5 +1,5 @@
 use Rattle.std.proofs.Common.{ap, refl, ◌∙◌, length}
-use Rattle.gf_lines.proofs.AlongLaws.{width_at}
+use Rattle.gf_strands.proofs.AlongLaws.{width_at}
 use Rattle.gf_lifts.proofs.TopLaws.{off_more, off_end}
 use Rattle.gf_lifts.proofs.tops.is_off.Goals as goal
 

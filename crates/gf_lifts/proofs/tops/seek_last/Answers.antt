@@ -11,8 +11,8 @@ terms-init c = record {
   sound = sound_same (length c.args.normal.now) (split_of c.args.rest.now) (split_of c.rewind.new.self) c.in-Ok.ensures.same c.requires.sound;
 }
 
-pub reducer_on_line-requires-clause-same_length : goal.reducer_on_line-requires-clause-same_length
-reducer_on_line-requires-clause-same_length c = first_width (length c.args.normal.now) (split_of c.rewind.new.self) (split_of c.terms.rest)
+pub reducer_on_strand-requires-clause-same_length : goal.reducer_on_strand-requires-clause-same_length
+reducer_on_strand-requires-clause-same_length c = first_width (length c.args.normal.now) (split_of c.rewind.new.self) (split_of c.terms.rest)
     c.in-Some.t.now c.in-Some.ensures c.terms.invariant
 
 pub terms-smaller : goal.terms-smaller

@@ -17,6 +17,6 @@ loop-k-preserved c = rw c.later-last.ensures (last_more c.loop-k.k c.args.rays.n
     c.in_ok-part_at_flag.ensures)
 
 pub returns : goal.returns
-returns c = next_of c.args.m c.args.rays.now c.args.parts.now.keys c.args.i c.loop-k.last c.requires.parts c.requires.place
+returns c = next_of c.args.m c.args.rays.now c.args.parts.now.keys c.args.i c.loop-k.last c.requires.parts c.requires.index
     (subst (λ m. IsLastAtFlags m c.args.rays.now c.args.parts.now.keys c.args.i c.loop-k.last) (let e : c.loop-k.k ≡ c.args.m =
     omega (arith, c.loop-k-test.false, c.loop-k.auto.k-end) in e) c.loop-k.invariant)

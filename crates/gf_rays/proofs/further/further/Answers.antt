@@ -26,7 +26,7 @@ loop-k-preserved c = (
       (c.in_ok-cone.ensures.ok es (step_state _ n c.loop-k.k c.args.rows.now es c.loop-k.cone.lineality.items c.loop-k.cone.rays.items c.index-rows-k.result
       c.loop-k-test.true c.index-rows-k.is w refl (c.loop-k.invariant.0 n es w s)))),
   further_more c.args.from c.loop-k.k c.args.rows.now c.args.start.lineality.items c.loop-k.cone.lineality.items c.in_ok-cone.cone.lineality.items
-      c.args.start.rays.items c.loop-k.cone.rays.items c.in_ok-cone.cone.rays.items c.index-rows-k.result c.requires.place c.loop-k-test.true c.index-rows-k.is
+      c.args.start.rays.items c.loop-k.cone.rays.items c.in_ok-cone.cone.rays.items c.index-rows-k.result c.requires.index c.loop-k-test.true c.index-rows-k.is
       c.in_ok-cone.ensures.taken c.loop-k.invariant.1,
 )
 
@@ -36,12 +36,12 @@ returns-in_err-cone-clause-err c =
     rw (p.1, p.2) (Failed-weaker (IsRowStep c.loop-k.k c.index-rows-k.result c.loop-k.cone.lineality.items c.loop-k.cone.rays.items)
     (IsFurtherRowStep c.args.from c.args.start.lineality.items c.args.start.rays.items (drop c.args.from c.args.rows.now))
     (λ s d. further_row_step c.args.from c.loop-k.k c.args.rows.now c.args.start.lineality.items c.loop-k.cone.lineality.items c.args.start.rays.items
-    c.loop-k.cone.rays.items c.index-rows-k.result s c.requires.place c.loop-k-test.true c.index-rows-k.is c.loop-k.invariant.1 d)
+    c.loop-k.cone.rays.items c.index-rows-k.result s c.requires.index c.loop-k-test.true c.index-rows-k.is c.loop-k.invariant.1 d)
     _ c.in_err-cone.ensures.err)
 
 pub returns-clause-reached : goal.returns-clause-reached
 returns-clause-reached c = further_all c.args.from c.loop-k.k c.args.rows.now c.args.start.lineality.items c.loop-k.cone.lineality.items c.args.start.rays.items
-    c.loop-k.cone.rays.items c.requires.place c.loop-k-test.false c.loop-k.invariant.1
+    c.loop-k.cone.rays.items c.requires.index c.loop-k-test.false c.loop-k.invariant.1
 
 pub returns-clause-ok : goal.returns-clause-ok
 returns-clause-ok c = λ n es w s. subst (λ (z : List (List ℤ)). IsConeState n z es c.loop-k.cone.lineality.items c.loop-k.cone.rays.items)

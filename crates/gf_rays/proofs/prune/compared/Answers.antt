@@ -3,7 +3,7 @@ use Rattle.std.proofs.lemmas.List.Edits.{length-remove}
 use Rattle.gf_rays.specs.MarkedRays.{done, taken, IsInside, AreFlagged}
 use Rattle.gf_rays.specs.declared.ray.Ray.{Ray}
 use Rattle.gf_rays.proofs.PruneLaws.{next_outside}
-use Rattle.gf_duality_theory.proofs.PlacesLaws.{All-rest}
+use Rattle.gf_duality_theory.proofs.IndicesLaws.{All-rest}
 use Rattle.gf_rays.proofs.prune.compared.Goals as goal
 
 pub loop-i-init : goal.loop-i-init

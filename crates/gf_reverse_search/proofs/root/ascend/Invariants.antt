@@ -1,5 +1,5 @@
 use Rattle.std.proofs.Common.{List}
-use Rattle.gf_reverse_search.specs.Place.{StandsBelow}
+use Rattle.gf_reverse_search.specs.Standing.{StandsBelow}
 use Rattle.gf_reverse_search.proofs.root.ascend.Given as goal
 
 -- the node at hand is above the first, by as many steps as were counted

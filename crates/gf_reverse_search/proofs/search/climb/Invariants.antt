@@ -2,7 +2,7 @@ use Rattle.std.proofs.Common.{◌≡◌, ◌+◌, List, [], length}
 use Rattle.gf_reverse_search.specs.declared.mark.Mark.TheVariants.{After}
 use Rattle.gf_reverse_search.specs.Left.{IsBelowMark}
 use Rattle.gf_reverse_search.specs.Path.{Leads}
-use Rattle.gf_reverse_search.specs.Place.{StandsBelow}
+use Rattle.gf_reverse_search.specs.Standing.{StandsBelow}
 use Rattle.gf_reverse_search.proofs.ClimbLaws.{Stands}
 use Rattle.gf_reverse_search.proofs.search.climb.Given as goal
 

@@ -1,7 +1,7 @@
 use Rattle.std.proofs.Common.{[], subst, sym, refl, ◌∙◌}
 use Rattle.std.proofs.lemmas.Result.{err_from_is_err_and}
 use Rattle.gf_reverse_search.specs.Listing.{IsFirstOf, IsLeftAt}
-use Rattle.gf_reverse_search.specs.Place.{StandsBelow}
+use Rattle.gf_reverse_search.specs.Standing.{StandsBelow}
 use Rattle.gf_reverse_search.specs.Walk.{Advances, IsRefusedBelow}
 use Rattle.gf_reverse_search.specs.Whole.{IsWholeList}
 use Rattle.gf_reverse_search.proofs.FinitenessLaws.{whole_below, no_loop-rank}

@@ -1,7 +1,7 @@
 use Rattle.std.proofs.Common.{◌≡◌, ◌++◌, ◌-◌, List, length}
 use Rattle.gf_reverse_search.specs.declared.mark.Mark.TheVariants.{Before}
 use Rattle.gf_reverse_search.specs.Listing.{Leaves, IsLeftAt}
-use Rattle.gf_reverse_search.specs.Place.{StandsBelow}
+use Rattle.gf_reverse_search.specs.Standing.{StandsBelow}
 use Rattle.gf_reverse_search.proofs.whole.list_all.Given as goal
 
 abbrev pub invariant-loop-all : goal.invariant-loop-all

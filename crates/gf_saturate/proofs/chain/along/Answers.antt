@@ -1,18 +1,18 @@
 use Rattle.std.proofs.Common.{List, arith, sym, subst}
 use Rattle.gf_poly.specs.Polynomial.{Terms}
 use Rattle.gf_exponents_theory.specs.Exponents.{Exponents}
-use Rattle.gf_buchberger.specs.Jobs.{HaveRingVariables}
-use Rattle.gf_saturate.specs.Chains.{AreSaturated, IsChainPlace}
+use Rattle.gf_buchberger.specs.Tasks.{HaveRingVariables}
+use Rattle.gf_saturate.specs.Chains.{AreSaturated, IsChainIndex}
 use Rattle.gf_saturate.proofs.ChainLaws.{chain_taken, chain_ended}
 use Rattle.gf_saturate.proofs.chain.along.Goals as goal
 
 pub variables-init : goal.variables-init
 variables-init c =
-    subst (λ (gs : List Terms). IsChainPlace c.args.n c.args.set.now gs c.copy-rest.result) (sym c.in-Ok.ensures)
-    (subst (λ (v : Exponents). IsChainPlace c.args.n c.args.set.now c.args.set.now v) (sym c.copy-rest.ensures) c.requires.place)
+    subst (λ (gs : List Terms). IsChainIndex c.args.n c.args.set.now gs c.copy-rest.result) (sym c.in-Ok.ensures)
+    (subst (λ (v : Exponents). IsChainIndex c.args.n c.args.set.now c.args.set.now v) (sym c.copy-rest.ensures) c.requires.index)
 
-pub next_place-requires-clause-long : goal.next_place-requires-clause-long
-next_place-requires-clause-long c = c.variables.invariant.long
+pub next_index-requires-clause-long : goal.next_index-requires-clause-long
+next_index-requires-clause-long c = c.variables.invariant.long
 
 pub eliminated-requires-clause-variables : goal.eliminated-requires-clause-variables
 eliminated-requires-clause-variables c = subst (HaveRingVariables c.args.n) (sym c.deref.ensures.value) c.variables.invariant.ring

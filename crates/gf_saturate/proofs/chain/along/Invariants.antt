@@ -1,5 +1,5 @@
-use Rattle.gf_saturate.specs.Chains.{IsChainPlace}
+use Rattle.gf_saturate.specs.Chains.{IsChainIndex}
 use Rattle.gf_saturate.proofs.chain.along.Given as goal
 
 abbrev pub invariant-variables : goal.invariant-variables
-invariant-variables l = IsChainPlace l.n l.set l.polys.items l.rest
+invariant-variables l = IsChainIndex l.n l.set l.polys.items l.rest

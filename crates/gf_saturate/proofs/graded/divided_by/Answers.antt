@@ -1,7 +1,7 @@
 use Rattle.std.proofs.Common.{rules, ◌+◌, ◌<◌, ◌≤◌, ℕ, List, arith, sym, subst, ◌∙◌}
 use Rattle.gf_exponents_theory.specs.Exponents.{entry}
 use Rattle.gf_poly.specs.Polynomial.{Terms}
-use Rattle.gf_buchberger.specs.Jobs.{HaveRingVariables}
+use Rattle.gf_buchberger.specs.Tasks.{HaveRingVariables}
 use Rattle.std.proofs.lemmas.Option.{IfSome_then}
 use Rattle.gf_saturation_theory.specs.Saturations.{HasOneTermMember}
 use Rattle.gf_saturate.specs.Graded.{IsDividedStep}

@@ -1,7 +1,7 @@
 use Rattle.std.proofs.Common.{List, sym, subst}
 use Rattle.std.proofs.lemmas.Option.{IfSome_then}
 use Rattle.gf_poly.specs.Polynomial.{Terms}
-use Rattle.gf_buchberger.specs.Jobs.{HaveRingVariables}
+use Rattle.gf_buchberger.specs.Tasks.{HaveRingVariables}
 use Rattle.gf_saturate.specs.Graded.{GenerateSaturation}
 use Rattle.gf_saturate.proofs.GradedLaws.{order_entries}
 use Rattle.gf_saturate.proofs.ProposalLaws.{start_saturation}

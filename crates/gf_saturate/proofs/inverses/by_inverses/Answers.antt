@@ -1,7 +1,7 @@
 use Rattle.std.proofs.Common.{List, sym, subst}
 use Rattle.std.proofs.lemmas.Option.{IfSome_then}
 use Rattle.gf_poly.specs.Polynomial.{Terms}
-use Rattle.gf_buchberger.specs.Jobs.{HaveRingVariables}
+use Rattle.gf_buchberger.specs.Tasks.{HaveRingVariables}
 use Rattle.gf_saturate.specs.Saturating.{IsSaturation}
 use Rattle.gf_saturate.proofs.InverseLaws.{start_answer}
 use Rattle.gf_saturate.proofs.inverses.by_inverses.Goals as goal

@@ -1,7 +1,7 @@
 use Rattle.std.proofs.Common.{◌≡◌, ◌+◌, List, length, sym, subst, ap, ◌∙◌}
 use Rattle.gf_exponents_theory.specs.Exponents.{Exponents}
 use Rattle.gf_poly.specs.Polynomial.{Terms}
-use Rattle.gf_buchberger.specs.Jobs.{HaveRingVariables}
+use Rattle.gf_buchberger.specs.Tasks.{HaveRingVariables}
 use Rattle.gf_saturate.specs.Graded.{IsWeightedBasis}
 use Rattle.gf_saturate.specs.Saturating.{step_list}
 use Rattle.gf_saturate.specs.Widening.{extended_list, variable_at}

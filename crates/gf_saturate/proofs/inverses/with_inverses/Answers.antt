@@ -1,6 +1,6 @@
 use Rattle.std.proofs.Common.{List, sym, subst}
 use Rattle.gf_poly.specs.Polynomial.{Terms}
-use Rattle.gf_buchberger.specs.Jobs.{HaveRingVariables}
+use Rattle.gf_buchberger.specs.Tasks.{HaveRingVariables}
 use Rattle.gf_saturate.specs.Proposals.{IsStart}
 use Rattle.gf_saturate.proofs.ProposalLaws.{start_itself}
 use Rattle.gf_saturate.proofs.InverseLaws.{start_twice}

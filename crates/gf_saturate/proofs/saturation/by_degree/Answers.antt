@@ -2,11 +2,11 @@ use Rattle.std.proofs.Common.{sym, subst}
 use Rattle.std.proofs.lemmas.Result.{IfOk-weaker, IfErr-weaker}
 use Rattle.gf_exponents_theory.specs.SixOrders.{MonomialOrder}
 use Rattle.gf_order.specs.Comparisons.{HasEntries}
-use Rattle.gf_buchberger.specs.Jobs.{HaveRingVariables, IsSuited}
+use Rattle.gf_buchberger.specs.Tasks.{HaveRingVariables, IsSuited}
 use Rattle.gf_buchberger.specs.Bases.{IsArrangedBasis}
 use Rattle.gf_poly.specs.Marking.{MarkedPolynomials}
 use Rattle.std.specs.Prelude.{IfSome, Option}
-use Rattle.gf_buchberger.proofs.JobLaws.{orders_that_suit}
+use Rattle.gf_buchberger.proofs.TaskLaws.{orders_that_suit}
 use Rattle.gf_saturate.specs.Saturating.{IsSaturation, IsSaturateRefusal, IsToldRefusal}
 use Rattle.gf_saturate.proofs.StepLaws.{arranged-as, if_told}
 use Rattle.gf_saturate.proofs.StageLaws.{way_ring, saturation_of}

@@ -2,7 +2,7 @@ use Rattle.std.proofs.Common.{◌≡◌, List, slice_index_or, refl, sym, subst,
 use Rattle.gf_exponents_theory.specs.Exponents.{Exponents, entry}
 use Rattle.gf_exponents_theory.proofs.ExponentsLaws.{entry-get_or}
 use Rattle.gf_poly.specs.Polynomial.{Terms}
-use Rattle.gf_buchberger.specs.Jobs.{HaveRingVariables}
+use Rattle.gf_buchberger.specs.Tasks.{HaveRingVariables}
 use Rattle.gf_saturate.specs.Saturating.{IsVariableStep, IsVariableStepRefusal, IsSaturateRefusal}
 use Rattle.gf_saturate.proofs.StageLaws.{way_next}
 use Rattle.gf_saturate.proofs.saturation.last_stage.Goals as goal

@@ -1,9 +1,9 @@
 use Rattle.std.proofs.Common.{sym, subst}
 use Rattle.gf_exponents_theory.specs.SixOrders.{MonomialOrder}
 use Rattle.gf_order.specs.Comparisons.{HasEntries}
-use Rattle.gf_buchberger.specs.Jobs.{IsSuited}
+use Rattle.gf_buchberger.specs.Tasks.{IsSuited}
 use Rattle.gf_buchberger.specs.Bases.{IsArrangedBasis}
-use Rattle.gf_buchberger.proofs.JobLaws.{orders_that_suit}
+use Rattle.gf_buchberger.proofs.TaskLaws.{orders_that_suit}
 use Rattle.gf_saturate.proofs.stages.first_stage.Goals as goal
 
 pub basis-requires-clause-entries : goal.basis-requires-clause-entries

@@ -3,8 +3,8 @@ use Rattle.std.proofs.lemmas.Result.{IfOk-weaker}
 use Rattle.gf_exponents_theory.specs.Exponents.{Exponents}
 use Rattle.gf_exponents_theory.specs.SixOrders.{MonomialOrder}
 use Rattle.gf_order.specs.Comparisons.{HasEntries}
-use Rattle.gf_buchberger.specs.Jobs.{HaveRingVariables, IsSuited}
-use Rattle.gf_buchberger.proofs.JobLaws.{orders_that_suit}
+use Rattle.gf_buchberger.specs.Tasks.{HaveRingVariables, IsSuited}
+use Rattle.gf_buchberger.proofs.TaskLaws.{orders_that_suit}
 use Rattle.gf_buchberger.specs.Bases.{IsArrangedBasis}
 use Rattle.gf_saturation_theory.specs.Saturations.{last_weight}
 use Rattle.gf_saturate.specs.Widening.{extended_list, variable_at}

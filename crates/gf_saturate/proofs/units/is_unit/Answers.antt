@@ -1,8 +1,8 @@
 use Rattle.std.proofs.Common.{◌∙◌, sym, subst}
 use Rattle.gf_exponents_theory.specs.SixOrders.{MonomialOrder}
 use Rattle.gf_order.specs.Comparisons.{HasEntries}
-use Rattle.gf_buchberger.specs.Jobs.{HaveRingVariables, IsSuited}
-use Rattle.gf_buchberger.proofs.JobLaws.{orders_that_suit}
+use Rattle.gf_buchberger.specs.Tasks.{HaveRingVariables, IsSuited}
+use Rattle.gf_buchberger.proofs.TaskLaws.{orders_that_suit}
 use Rattle.gf_saturate.proofs.UnitLaws.{unit_ring, unit_told}
 use Rattle.gf_saturate.proofs.units.is_unit.Goals as goal
 

@@ -8,7 +8,7 @@ use Rattle.gf_session.proofs.session.converse.Goals as goal
 pub loop-heard-init : goal.loop-heard-init
 loop-heard-init g c = record {
   talking = rw c.new-crossed.ensures.items (talk-nothing _ _ _ _ _ _);
-  place = c.requires;
+  state = c.requires;
   short = omega arith;
   source_calm = refl;
   output_calm = refl;
@@ -58,7 +58,7 @@ loop-heard-preserved g c =
     record {
       talking = talk-more _ _ _ _ _ _ _ _ _ _ _ _ _ _ _ _ c.loop-heard.taken c.in-Ok.heard so.talking c.in-Ok.ensures.heard c.if-heard.false
           (c.in_ok-turn.ensures.taken _ _ on);
-      place = c.in_ok-turn.ensures.place;
+      state = c.in_ok-turn.ensures.state;
       short = c.in-Ok.ensures.short;
       source_calm = c.in-Ok.ensures.calm (λ e. cc e) ∙ so.source_calm;
       output_calm = c.in_ok-turn.ensures.calm ∙ so.output_calm;

@@ -8,7 +8,7 @@ invariant-loop-heard g l = record {
   talking : IsTalking (g.M.Moves.rules l.moves) (g.M.Moves.joins l.moves) (record { here = l.fn.start; before = [] }) l.here l.crossed.items
       (g.S.Source.left l.initial.source) (g.S.Source.left l.source)
       (g.S.Source.given l.initial.source) (g.S.Source.given l.source) (g.K.Sink.held l.initial.output) (g.K.Sink.held l.output) l.taken;
-  place : g.M.Moves.is_place l.moves l.here;
+  state : g.M.Moves.is_state l.moves l.here;
   short : l.taken ≤ 67108864;
   source_calm : g.S.Source.faults l.source ≡ g.S.Source.faults l.initial.source;
   output_calm : g.K.Sink.faults l.output ≡ g.K.Sink.faults l.initial.output;

@@ -15,7 +15,7 @@ invariant_of-first c =
     let trees = subst (HaveTree p.tree) c.in-Ok-Parts.field-0-is c.in-Ok-Parts.ensures.trees in
     left_read f _ c.none.result c.in-Ok-Parts.first-is
     (left_first p f r c.walker.inside.given c.none.result c.none-in-Ok-Parts.result
-    (subst (IsCutAt IsBefore up_in p) c.in-Ok-Parts.field-0-is c.in-Ok-Parts.ensures.places) trees.0 trees.1
+    (subst (IsCutAt IsBefore up_in p) c.in-Ok-Parts.field-0-is c.in-Ok-Parts.ensures.standings) trees.0 trees.1
     (λ nodes l. subst (Splits IsBefore up_in nodes) c.in-Ok-Parts.field-0-is (c.in-Ok-Parts.ensures.parts nodes l)) c.none.ensures c.none-in-Ok-Parts.ensures
     c.walker.invariant)
 
@@ -27,7 +27,7 @@ invariant_of-rest c =
     let trees = subst (HaveTree p.tree) c.in-Ok-Parts.field-0-is c.in-Ok-Parts.ensures.trees in
     left_read r _ c.none-in-Ok-Parts.result c.in-Ok-Parts.rest-is
     (left_rest p f r c.walker.inside.given c.none.result c.none-in-Ok-Parts.result
-    (subst (IsCutAt IsBefore up_in p) c.in-Ok-Parts.field-0-is c.in-Ok-Parts.ensures.places) trees.0 trees.1
+    (subst (IsCutAt IsBefore up_in p) c.in-Ok-Parts.field-0-is c.in-Ok-Parts.ensures.standings) trees.0 trees.1
     (λ nodes l. subst (Splits IsBefore up_in nodes) c.in-Ok-Parts.field-0-is (c.in-Ok-Parts.ensures.parts nodes l)) c.none.ensures c.none-in-Ok-Parts.ensures
     c.walker.invariant)
 
@@ -39,7 +39,7 @@ returns-in-Ok-Parts-clause-ok c =
     let trees = subst (HaveTree p.tree) c.in-Ok-Parts.field-0-is c.in-Ok-Parts.ensures.trees in
     parts_read _ c.args.walker f _ r _ c.none.result c.none-in-Ok-Parts.result c.walker.view_is c.in-Ok-Parts.first-is c.in-Ok-Parts.rest-is
     (parts_of p f r c.walker.inside.given c.none.result c.none-in-Ok-Parts.result
-    (subst (IsCutAt IsBefore up_in p) c.in-Ok-Parts.field-0-is c.in-Ok-Parts.ensures.places) trees.0 trees.1
+    (subst (IsCutAt IsBefore up_in p) c.in-Ok-Parts.field-0-is c.in-Ok-Parts.ensures.standings) trees.0 trees.1
     (λ nodes l. subst (Splits IsBefore up_in nodes) c.in-Ok-Parts.field-0-is (c.in-Ok-Parts.ensures.parts nodes l)) c.none.ensures c.none-in-Ok-Parts.ensures
     c.walker.invariant)
 

@@ -32,5 +32,5 @@ returns-clause-ok c =
     let k = c.args.tree.now.region in
     let v = c.args.set.now in
     let cone = c.args.cone.now in
-    way_read v.variables k v.items cone c.requires.cone c.normals.result.now cone c.in-Some.way.place c.index-normals-way.result c.in_ok-normal.normal
+    way_read v.variables k v.items cone c.requires.cone c.normals.result.now cone c.in-Some.way.index c.index-normals-way.result c.in_ok-normal.normal
     c.normals.ensures.value refl c.index-normals-way.is c.in_ok-normal.ensures (subst (IsWayShown k.root cone) c.in-Some.is c.in_ok-way.ensures.ok).0

@@ -6,6 +6,6 @@ use Rattle.gf_initial_monomials.proofs.OutcomeLaws.{AllPass}
 use Rattle.gf_tropical_basis_test.specs.Verdicts.{maximal_rows}
 use Rattle.gf_tropical_basis_test.proofs.basis.at_cones.Given as goal
 
-abbrev pub invariant-places : goal.invariant-places
-invariant-places l = AllPass (λ (c : Rows). HasOutcome l.basis.variables l.basis.items l.cone.normals c None) (maximal_rows l.fan) l.i ×
+abbrev pub invariant-indices : goal.invariant-indices
+invariant-indices l = AllPass (λ (c : Rows). HasOutcome l.basis.variables l.basis.items l.cone.normals c None) (maximal_rows l.fan) l.i ×
     (l.seen ≡ l.basis.variables) × ArePassedIn l.basis.variables l.basis.items (cone_of l.cone.normals) l.initial.passed l.passed

@@ -1,6 +1,6 @@
 use Rattle.std.proofs.Common.{◌∙◌}
 use Rattle.gf_fan.proofs.WholeLaws.{maximal_ambient}
-use Rattle.gf_tropical_basis_test.proofs.PlaceLaws.{rows_at}
+use Rattle.gf_tropical_basis_test.proofs.IndexLaws.{rows_at}
 use Rattle.gf_tropical_basis_test.proofs.basis.maximal_cone.Goals as goal
 
 pub returns-clause-value : goal.returns-clause-value

@@ -4,11 +4,11 @@ use Rattle.std.proofs.lemmas.Result.{err_from_is_err_and, IfOk-weaker, IfErr-wea
 use Rattle.gf_exponents_theory.specs.SixOrders.{MonomialOrder}
 use Rattle.gf_order.specs.Comparisons.{HasEntries}
 use Rattle.gf_poly.specs.declared.TheConstants.{ROOM}
-use Rattle.gf_buchberger.specs.Jobs.{IsSuited}
+use Rattle.gf_buchberger.specs.Tasks.{IsSuited}
 use Rattle.gf_buchberger.specs.declared.queue.Strategy.TheVariants.{Degree}
 use Rattle.gf_buchberger.specs.Ruled.{AreRuledRunsWithinLimits}
 use Rattle.gf_buchberger.specs.Bases.{IsArrangedBasis, IsBasisRefusal, IsWantOfMemory}
-use Rattle.gf_buchberger.proofs.JobLaws.{orders_that_suit}
+use Rattle.gf_buchberger.proofs.TaskLaws.{orders_that_suit}
 use Rattle.gf_tropical.specs.declared.error.TropicalError.TheVariants.{ZeroPolynomial}
 use Rattle.gf_reverse_theory.specs.Upward.{IsNodeIn, IsNode}
 use Rattle.gf_facets_theory.specs.Regions.{Region, all_positive}

@@ -10,7 +10,7 @@ loop-pieces-preserved g c =
     let l = c.loop-pieces in
     let p = c.in-Some.piece in
     let rest = c.pop_front.new.self.items in
-    let more = c.take-walkers.new.job.items in
+    let more = c.take-walkers.new.batch.items in
     let t = c.take-walkers.ensures in
     let whole : l.row.items ≡ p ∷ rest = search rules in
     let some : 0 < l.pieces = search rules in
@@ -25,8 +25,8 @@ loop-pieces-preserved g c =
       kept = search rules;
     }
 
-pub returns-in_default-clause-job : goal.returns-in_default-clause-job
-returns-in_default-clause-job g c =
+pub returns-in_default-clause-batch : goal.returns-in_default-clause-batch
+returns-in_default-clause-batch g c =
     let l = c.loop-pieces in
     (cut_over l.pieces l.walkers l.row.items c.pop_front.new.self.items l.slot.items c.args.row.now.items (search rules) (search rules)
     l.invariant.first l.invariant.behind).0
@@ -37,8 +37,8 @@ returns-in_default-clause-rest g c =
     (cut_over l.pieces l.walkers l.row.items c.pop_front.new.self.items l.slot.items c.args.row.now.items (search rules) (search rules)
     l.invariant.first l.invariant.behind).1
 
-pub returns-else-walkers-gt0-clause-job : goal.returns-else-walkers-gt0-clause-job
-returns-else-walkers-gt0-clause-job g c =
+pub returns-else-walkers-gt0-clause-batch : goal.returns-else-walkers-gt0-clause-batch
+returns-else-walkers-gt0-clause-batch g c =
     let l = c.loop-pieces in
     let none : l.walkers ≡ 0 = search rules in
     (cut_done l.pieces l.walkers l.row.items l.slot.items c.args.row.now.items (λ h k. omega (arith, k, none)) l.invariant.first l.invariant.behind).0
@@ -49,8 +49,8 @@ returns-else-walkers-gt0-clause-rest g c =
     let none : l.walkers ≡ 0 = search rules in
     (cut_done l.pieces l.walkers l.row.items l.slot.items c.args.row.now.items (λ h k. omega (arith, k, none)) l.invariant.first l.invariant.behind).1
 
-pub returns-after-loop-pieces-clause-job : goal.returns-after-loop-pieces-clause-job
-returns-after-loop-pieces-clause-job g c =
+pub returns-after-loop-pieces-clause-batch : goal.returns-after-loop-pieces-clause-batch
+returns-after-loop-pieces-clause-batch g c =
     let l = c.loop-pieces in
     let none : l.pieces ≡ 0 = search rules in
     (cut_done l.pieces l.walkers l.row.items l.slot.items c.args.row.now.items (λ h k. omega (arith, h, none)) l.invariant.first l.invariant.behind).0

@@ -9,9 +9,9 @@ pub loop-slot-init : goal.loop-slot-init
 loop-slot-init g c =
     let count = length c.args.slots.items in
     record {
-      dealt = ([], sym (append-nil c.args.slots.items), free_dealt count c.args.jobs.now.items c.requires.free);
+      dealt = ([], sym (append-nil c.args.slots.items), free_dealt count c.args.batches.now.items c.requires.free);
       fit = c.requires.fit;
-      open_hands = free_hands count c.args.jobs.now.items c.requires.free;
+      open_hands = free_hands count c.args.batches.now.items c.requires.free;
       count = refl;
       room = search rules;
     }
@@ -21,30 +21,30 @@ unreachable-requires-then-is_err g c =
     let l = c.loop-slot in
     let fewer = c.pop.new.self.items in
     let init = c.pop-in-Some.new.self.items in
-    let job = c.in-Some-pop.job in
-    let jobs : l.jobs.items ≡ init ++ job ∷ [] = search rules in
+    let batch = c.in-Some-pop.batch in
+    let batches : l.batches.items ≡ init ++ batch ∷ [] = search rules in
     let last : l.slots.items ≡ fewer ++ c.in-Some.slot ∷ [] = search rules in
-    let hand = (hands_last (length l.slots.items) init job (subst (AreOpenHands (length l.slots.items)) jobs l.invariant.open_hands)).1 in
+    let hand = (hands_last (length l.slots.items) init batch (subst (AreOpenHands (length l.slots.items)) batches l.invariant.open_hands)).1 in
     let long = ap length last in
     let push = length_push fewer c.in-Some.slot in
     let fits = hand.2 in
-    let room : length job.slots.items < vec_capacity job.slots = omega (arith, fits, long, push) in
+    let room : length batch.slots.items < vec_capacity batch.slots = omega (arith, fits, long, push) in
     search rules
 
--- the last place that is there is put before those of the last job, which comes first
+-- the last cell that is there is put before those of the last batch, which comes first
 pub loop-slot-preserved : goal.loop-slot-preserved
 loop-slot-preserved g c =
     let l = c.loop-slot in
     let fewer = c.pop.new.self.items in
     let slot = c.in-Some.slot in
     let init = c.pop-in-Some.new.self.items in
-    let job = c.in-Some-pop.job in
+    let batch = c.in-Some-pop.batch in
     let news = c.insert-in-Some.new.self.items in
-    let jobs : l.jobs.items ≡ init ++ job ∷ [] = search rules in
+    let batches : l.batches.items ≡ init ++ batch ∷ [] = search rules in
     let last : l.slots.items ≡ fewer ++ slot ∷ [] = search rules in
-    let is : news ≡ record { slots = c.insert.new.self; worked = job.worked; number = job.number; spare = job.spare } ∷ init = search rules in
-    let more : c.insert.new.self.items ≡ slot ∷ job.slots.items = search rules in
-    let both = hands_last (length l.slots.items) init job (subst (AreOpenHands (length l.slots.items)) jobs l.invariant.open_hands) in
+    let is : news ≡ record { slots = c.insert.new.self; worked = batch.worked; number = batch.number; spare = batch.spare } ∷ init = search rules in
+    let more : c.insert.new.self.items ≡ slot ∷ batch.slots.items = search rules in
+    let both = hands_last (length l.slots.items) init batch (subst (AreOpenHands (length l.slots.items)) batches l.invariant.open_hands) in
     let hand = both.1 in
     let long = ap length last in
     let push = length_push fewer slot in
@@ -59,17 +59,22 @@ loop-slot-preserved g c =
       dealt = (
         slot ∷ dealt.0,
         last_over c.args.slots.items l.slots.items fewer dealt.0 slot dealt.1 last,
-        dealt_first slot dealt.0 l.jobs.items init news job (record { slots = c.insert.new.self; worked = job.worked; number = job.number; spare = job.spare })
-            jobs is more dealt.2,
+        dealt_first slot dealt.0 l.batches.items init news batch (record {
+          slots = c.insert.new.self;
+          worked = batch.worked;
+          number = batch.number;
+          spare = batch.spare;
+        })
+            batches is more dealt.2,
       );
       fit = fit.0;
       open_hands = subst (AreOpenHands (length fewer)) (sym is) (
         (subst AreFit (sym more) (fit.1, hand.0), hand.1, omega (arith, fits, less, grown, kept), omega (arith, worked, less, grown), hand.4),
         hands_fewer (length fewer) init (subst (λ m. AreOpenHands m init) less both.0),
       );
-      count = (let a = ap length is in let b = ap length jobs in let d = length_push init job in let e = l.invariant.count in omega (arith, a, b, d, e));
+      count = (let a = ap length is in let b = ap length batches in let d = length_push init batch in let e = l.invariant.count in omega (arith, a, b, d, e));
       room = search rules;
     }
 
 pub returns-clause-fit : goal.returns-clause-fit
-returns-clause-fit g c = hands_fit (length c.loop-slot.slots.items) c.loop-slot.jobs.items c.loop-slot.invariant.open_hands
+returns-clause-fit g c = hands_fit (length c.loop-slot.slots.items) c.loop-slot.batches.items c.loop-slot.invariant.open_hands

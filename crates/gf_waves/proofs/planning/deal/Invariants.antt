@@ -4,14 +4,14 @@ use Rattle.gf_waves.specs.Plans.{AreFit, IsDealt, hands_of}
 use Rattle.gf_waves.proofs.PlanLaws.{AreOpenHands}
 use Rattle.gf_waves.proofs.planning.deal.Given as goal
 
--- the places that aren't there any more are dealt out, and each job has room for the others
+-- the cells that aren't there any more are dealt out, and each batch has room for the others
 abbrev pub invariant-loop-slot : goal.invariant-loop-slot
 invariant-loop-slot g l = record {
-  dealt : (dealt : List _) × (l.fn.slots.items ≡ l.slots.items ++ dealt) × IsDealt dealt (hands_of l.jobs.items);
+  dealt : (dealt : List _) × (l.fn.slots.items ≡ l.slots.items ++ dealt) × IsDealt dealt (hands_of l.batches.items);
   fit : AreFit l.slots.items;
-  open_hands : AreOpenHands (length l.slots.items) l.jobs.items;
-  count : length l.jobs.items ≡ length l.fn.jobs.items;
-  room : length l.jobs.items ≤ vec_capacity l.jobs;
+  open_hands : AreOpenHands (length l.slots.items) l.batches.items;
+  count : length l.batches.items ≡ length l.fn.batches.items;
+  room : length l.batches.items ≤ vec_capacity l.batches;
 }
 
 abbrev pub decreases-loop-slot : goal.decreases-loop-slot

@@ -2,7 +2,7 @@ use Rattle.std.proofs.Common.{◌≡◌, ◌≤◌, ◌++◌, ◌∷◌, suc, []
 use Rattle.std.proofs.lemmas.List.{length_push}
 use Rattle.std.specs.VecDeque.{deque_capacity}
 use Rattle.gf_waves.specs.Plans.{AreSpare}
-use Rattle.gf_waves.proofs.PlanLaws.{spare_last, goes_place, goes_none}
+use Rattle.gf_waves.proofs.PlanLaws.{spare_last, goes_cell, goes_none}
 use Rattle.gf_waves.proofs.planning.plan.Goals as goal
 
 pub cut-requires-clause-empty : goal.cut-requires-clause-empty
@@ -15,7 +15,7 @@ cut-requires-clause-room g c =
     let last : c.loop-spare.spares.items ≡ c.pop.new.self.items ++ c.in-Some.spare ∷ [] = search rules in
     (spare_last c.pop.new.self.items c.in-Some.spare (subst AreSpare last c.loop-spare.invariant.spare)).1.1
 
--- the pieces in front become a place
+-- the pieces in front become a cell
 pub loop-spare-preserved : goal.loop-spare-preserved
 loop-spare-preserved g c =
     let l = c.loop-spare in
@@ -32,9 +32,9 @@ loop-spare-preserved g c =
     let enough : 64 ≤ deque_capacity c.cut.new.slot = omega (arith, kept, cap) in
     record {
       spare = both.0;
-      planned = goes_place (length c.args.spares.items) c.args.row.now.items (length l.spares.items) (length fewer) l.row.items c.cut.new.row.items
+      planned = goes_cell (length c.args.spares.items) c.args.row.now.items (length l.spares.items) (length fewer) l.row.items c.cut.new.row.items
           l.slots.items more (record { row = c.cut.new.slot }) less c.cut.ensures.rest
-          (c.cut.ensures.few, enough) c.cut.ensures.job c.add.ensures.items l.invariant.planned;
+          (c.cut.ensures.few, enough) c.cut.ensures.batch c.add.ensures.items l.invariant.planned;
       room = (let a = l.invariant.room in let b = c.add.ensures.room in let d = ap length c.add.ensures.items in let e =
           length_push l.slots.items (record { row = c.cut.new.slot }) in omega (arith, a, b, d, e, less));
     }

@@ -4,7 +4,7 @@ use Rattle.gf_waves.specs.Plans.{AreSpare}
 use Rattle.gf_waves.proofs.PlanLaws.{Goes}
 use Rattle.gf_waves.proofs.planning.plan.Given as goal
 
--- a plan of what is left of the row goes on from the places that are there, and there is room for the others
+-- a plan of what is left of the row goes on from the cells that are there, and there is room for the others
 abbrev pub invariant-loop-spare : goal.invariant-loop-spare
 invariant-loop-spare g l = record {
   spare : AreSpare l.spares.items;

@@ -8,9 +8,9 @@ returns-clause-list g c =
     let lt = g.T.Tree.before in
     let up = g.T.Tree.up in
     let refuses = RefusesAt up g.T.Tree.refuses in
-    λ workers jobs next olds nodes h l. given_leaves lt up g.met.T.Tree.strict g.met.T.Tree.tree refuses c.args.row.now.items c.give_first.result
+    λ workers batches next olds nodes h l. given_leaves lt up g.met.T.Tree.strict g.met.T.Tree.tree refuses c.args.row.now.items c.give_first.result
     c.give_first.new.row.items c.give_first.ensures.given nodes
-    (readied_leaves lt up g.met.T.Tree.strict g.met.T.Tree.tree refuses workers jobs next olds c.args.row.now.items h nodes l)
+    (readied_leaves lt up g.met.T.Tree.strict g.met.T.Tree.tree refuses workers batches next olds c.args.row.now.items h nodes l)
 
 pub returns-clause-refusals : goal.returns-clause-refusals
 returns-clause-refusals g c = given_refusals g.T.Tree.before g.T.Tree.up (RefusesAt g.T.Tree.up g.T.Tree.refuses) c.args.row.now.items c.give_first.result

@@ -3,7 +3,7 @@ use Rattle.gf_whole_division.proofs.members.whole_multiple.Goals as goal
 
 pub terms-preserved : goal.terms-preserved
 terms-preserved c =
-    multiple_more c.in_ok-by.by c.args.terms.now c.terms.out.items c.insert.new.self.items c.terms.i c.place_of-place.result c.index-terms-i.result
+    multiple_more c.in_ok-by.by c.args.terms.now c.terms.out.items c.insert.new.self.items c.terms.i c.index_of-index.result c.index-terms-i.result
     c.in_ok-multiple.multiple
     c.terms-test.true c.index-terms-i.is c.in_ok-multiple.ensures c.in_ok-insert.ensures.items c.terms.invariant
 

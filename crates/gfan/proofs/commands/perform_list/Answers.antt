@@ -2,7 +2,7 @@ use Rattle.gf_frame.specs.Seen.{output_seen}
 use Rattle.gf_frame.specs.Origins.{texts_of}
 use Rattle.gf_frame.specs.Runs.{IsDoneOn, IsStoppedOn}
 use Rattle.gfan_common.proofs.PerformedLaws.{on_ok, on_err}
-use Rattle.gfan_lists.specs.Asked.{ways_asked, texts_asked}
+use Rattle.gfan_plain_theory.specs.Asked.{ways_asked, texts_asked}
 use Rattle.gfan.proofs.SourceLaws.{list_as}
 use Rattle.gfan.proofs.commands.perform_list.Goals as goal
 

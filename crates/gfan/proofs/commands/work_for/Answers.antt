@@ -1,11 +1,11 @@
 use Rattle.std.proofs.Common.{refl}
 use Rattle.std.proofs.lemmas.Result.{IfOk-weaker}
 use Rattle.gfan_common.proofs.PerformedLaws.{on_err}
-use Rattle.gfan_sets.proofs.ExactLaws.{leading_source, leading_once}
-use Rattle.gfan_sets.proofs.WeightVectorLaws.{weight_source, weight_once}
-use Rattle.gfan_fans.proofs.GroebnerConeLaws.{cone_source, cone_once}
-use Rattle.gfan_fans.proofs.BasisTestLaws.{intersection_source, intersection_once}
-use Rattle.gfan_fans.proofs.CommonRefinementLaws.{refinement_answered, refinement_refused}
+use Rattle.gfan_plain_theory.proofs.ExactLaws.{leading_source, leading_once}
+use Rattle.gfan_plain_theory.proofs.WeightVectorLaws.{weight_source, weight_once}
+use Rattle.gfan_plain_theory.proofs.GroebnerConeLaws.{cone_source, cone_once}
+use Rattle.gfan_plain_theory.proofs.BasisTestLaws.{intersection_source, intersection_once}
+use Rattle.gfan_plain_theory.proofs.CommonRefinementLaws.{refinement_answered, refinement_refused}
 use Rattle.gfan.proofs.CommandLaws.{plain_source, plain_once}
 use Rattle.gfan.proofs.SourceLaws.{work_on_input, work_on_two, work_on_none}
 use Rattle.gfan.proofs.commands.work_for.Goals as goal

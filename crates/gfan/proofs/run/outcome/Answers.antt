@@ -17,7 +17,7 @@ use Rattle.gfan.proofs.CommandLaws.{lawful}
 use Rattle.gfan_common.proofs.RefusedLaws.{named_words}
 use Rattle.gfan.proofs.RunLaws.{of_no_source, unloaded_named, unnamed_loaded, told_loaded, turns_done, turns_refused, turns_told, takes_turns}
 use Rattle.gfan_common.proofs.PerformedLaws.{on_ok, on_err}
-use Rattle.gfan_lists.proofs.TextsLaws.{one_alone}
+use Rattle.gfan_plain_theory.proofs.TextsLaws.{one_alone}
 use Rattle.gfan.proofs.SourceLaws.{texts_length}
 use Rattle.gfan.proofs.run.outcome.Goals as goal
 

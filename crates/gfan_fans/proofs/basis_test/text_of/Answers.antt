@@ -1,7 +1,7 @@
 use Rattle.std.proofs.Common.{◌≢◌, ◌∙◌, [], All, None, sym, subst}
 use Rattle.std.proofs.lemmas.Result.{err_from_is_err_and}
 use Rattle.gf_poly.specs.Polynomial.{Terms, HasVariables}
-use Rattle.gf_buchberger.specs.Jobs.{HaveOneDegree}
+use Rattle.gf_buchberger.specs.Tasks.{HaveOneDegree}
 use Rattle.gf_frame.specs.Commands.{IsUnanswered}
 use Rattle.gfan_fans.specs.BasisTest.{basis_test_command}
 use Rattle.gfan_fans.proofs.BasisTestLaws.{ring_of_all, verdict_answered, test_unanswered, degree_unanswered}

@@ -1,7 +1,7 @@
 use Rattle.std.proofs.Common.{◌++◌, List, ℕ, refl, ap, ◌∙◌}
 use Rattle.gf_poly.specs.Marking.{MarkedPolynomials}
 use Rattle.gf_text.specs.RingText.{ring_text}
-use Rattle.gf_basis_places.specs.Prompts.{prompt_text}
+use Rattle.gf_basis_states.specs.Prompts.{prompt_text}
 use Rattle.gfan_interactive.proofs.interactive.opening.Goals as goal
 
 pub returns : goal.returns

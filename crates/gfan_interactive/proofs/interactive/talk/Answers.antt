@@ -1,8 +1,8 @@
 use Rattle.std.proofs.Common.{refl, subst}
 use Rattle.gf_session.specs.Endings.{IsCause}
 use Rattle.gf_session.specs.Moves.{IsWriteCalm}
-use Rattle.gf_basis_places.specs.BasisRules.{IsPlaceRefusal, basis_rules}
-use Rattle.gfan_interactive.specs.Interactive.{IsSessionCutOff, walk_from}
+use Rattle.gf_basis_states.specs.BasisRules.{IsStateRefusal, basis_rules}
+use Rattle.gfan_interactive.specs.Interactive.{IsSessionCutOff, trail_from}
 use Rattle.gfan_interactive.proofs.interactive.talk.Goals as goal
 
 pub returns-in-Err-clause-cut : goal.returns-in-Err-clause-cut
@@ -28,7 +28,7 @@ returns-in-Err-converse-clause-cut g c =
     let k = c.converse.new.output in
     let same = c.in-Ok.ensures.calm in
     IsSessionCutOff.in_session c.args.text.now (g.K.Sink.held c.write_all.new.sink) e c.requires.opening c.in-Ok.ensures.all
-    (subst (λ n. IsCause (basis_rules c.args.ring.now) (IsPlaceRefusal c.args.pairs) (walk_from c.args.start) (g.S.Source.left i) (g.S.Source.left j)
+    (subst (λ n. IsCause (basis_rules c.args.ring.now) (IsStateRefusal c.args.pairs) (trail_from c.args.start) (g.S.Source.left i) (g.S.Source.left j)
     (g.S.Source.given i) (g.S.Source.given j)
     (g.K.Sink.held c.write_all.new.sink) (g.K.Sink.held k) (g.S.Source.faults i) (g.S.Source.faults j) n (g.K.Sink.faults k) e)
     same c.in-Err-converse.ensures.cause)

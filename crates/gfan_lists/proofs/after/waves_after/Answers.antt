@@ -1,6 +1,6 @@
 use Rattle.std.proofs.Common.{refl, ap}
 use Rattle.std.proofs.lemmas.Result.{err_from_is_err_and}
-use Rattle.gf_flip.specs.declared.error.TreeError.TheVariants as tree_errors
+use Rattle.gf_tree.specs.TreeError.TheVariants as tree_errors
 use Rattle.gf_tree.specs.Refusals.{IsTreeRefusal}
 use Rattle.gfan_lists.proofs.BasesLaws.{after_goes_on}
 use Rattle.gfan_lists.proofs.after.waves_after.Goals as goal

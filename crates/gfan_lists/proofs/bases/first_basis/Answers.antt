@@ -1,8 +1,8 @@
 use Rattle.std.proofs.Common.{length, sym, ap, subst, ◌∙◌}
 use Rattle.std.proofs.lemmas.Result.{err_from_is_err_and}
 use Rattle.gf_exponents_theory.specs.SixOrders.{MonomialOrder}
-use Rattle.gf_buchberger.specs.Jobs.{HaveRingVariables, IsSuited}
-use Rattle.gf_buchberger.proofs.JobLaws.{orders_that_suit}
+use Rattle.gf_buchberger.specs.Tasks.{HaveRingVariables, IsSuited}
+use Rattle.gf_buchberger.proofs.TaskLaws.{orders_that_suit}
 use Rattle.gfan_common.specs.Forms.{generators_of}
 use Rattle.gfan_common.proofs.WrittenSetLaws.{in_ring}
 use Rattle.gfan_lists.proofs.FirstLaws.{first_told, first_memory}

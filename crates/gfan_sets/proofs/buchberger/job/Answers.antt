@@ -1,5 +1,5 @@
 use Rattle.std.proofs.Common.{ℕ, length, sym, subst, ◌∙◌}
-use Rattle.gf_buchberger.specs.Jobs.{HaveRingVariables}
+use Rattle.gf_buchberger.specs.Tasks.{HaveRingVariables}
 use Rattle.gf_front.specs.declared.refusal.Refusal.{Refusal}
 use Rattle.gf_frame.specs.Commands.{IsUnanswered}
 use Rattle.gfan_sets.specs.Buchberger.{buchberger_command}

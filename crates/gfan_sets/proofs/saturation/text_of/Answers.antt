@@ -1,5 +1,5 @@
 use Rattle.std.proofs.Common.{ℕ, None, length, sym, subst, ◌∙◌}
-use Rattle.gf_buchberger.specs.Jobs.{HaveRingVariables}
+use Rattle.gf_buchberger.specs.Tasks.{HaveRingVariables}
 use Rattle.gf_frame.specs.Commands.{IsUnanswered}
 use Rattle.gfan_common.specs.Refused.{IsNamedBy}
 use Rattle.gfan_sets.specs.Saturation.{saturation_command}

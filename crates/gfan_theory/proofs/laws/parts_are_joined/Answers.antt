@@ -1,4 +1,4 @@
-use Rattle.gfan_lists.proofs.PartsLaws.{parts_are_joined}
+use Rattle.gfan_theory.proofs.PartsLaws.{parts_are_joined}
 use Rattle.gfan_theory.proofs.laws.parts_are_joined.Goals as goal
 
 pub returns : goal.returns

@@ -12,8 +12,8 @@ use Rattle.gf_cone.proofs.cone.Cone.crossing.Goals as goal
 pub solution_at-requires-clause-widths : goal.solution_at-requires-clause-widths
 solution_at-requires-clause-widths c =
     subst (λ (m : ℕ). AreRows m c.as_slice.result.now) (sym (ap (λ (z : ConeRows). z.variables) c.self.view_is))
-    (given_rows_all (λ t. length t ≡ c.args.self.now.variables) c.args.self.now c.args.place c.as_slice.result.now c.requires
-    (given_rows_are c.args.self.now c.args.place c.self.inside.variables c.kept-kept.result.now c.as_slice.result.now c.in_ok-rows.rows.items
+    (given_rows_all (λ t. length t ≡ c.args.self.now.variables) c.args.self.now c.args.index c.as_slice.result.now c.requires
+    (given_rows_are c.args.self.now c.args.index c.self.inside.variables c.kept-kept.result.now c.as_slice.result.now c.in_ok-rows.rows.items
     c.in_ok-list.list.items c.as_slice.ensures.value c.in_ok-rows.ensures c.in_ok-list.ensures c.kept-kept.ensures.value
     (ap (λ (z : ConeRows). z.variables) c.self.view_is) c.requires
     (omega (arith, c.requires, c.kept-kept.ensures.front)))
@@ -22,46 +22,46 @@ solution_at-requires-clause-widths c =
 pub returns-clause-three_columns : goal.returns-clause-three_columns
 returns-clause-three_columns c = λ v h. c.solution_at.ensures.three_columns
     (subst (λ (m : ℕ). m ≤ 3) (sym (ap (λ (z : ConeRows). z.variables) c.self.view_is)) v)
-    (given_rows_all (All (λ x. unsigned_abs x ≤ 500)) c.args.self.now c.args.place c.as_slice.result.now c.requires
-    (given_rows_are c.args.self.now c.args.place c.self.inside.variables c.kept-kept.result.now c.as_slice.result.now c.in_ok-rows.rows.items
+    (given_rows_all (All (λ x. unsigned_abs x ≤ 500)) c.args.self.now c.args.index c.as_slice.result.now c.requires
+    (given_rows_are c.args.self.now c.args.index c.self.inside.variables c.kept-kept.result.now c.as_slice.result.now c.in_ok-rows.rows.items
     c.in_ok-list.list.items c.as_slice.ensures.value c.in_ok-rows.ensures c.in_ok-list.ensures c.kept-kept.ensures.value
     (ap (λ (z : ConeRows). z.variables) c.self.view_is) c.requires
     (omega (arith, c.requires, c.kept-kept.ensures.front)))
     h)
-    (small_at 500 (all_rows c.args.self.now) (all_rows c.args.self.now) c.args.place c.index-kept-place.result refl
-    (in_all c.args.self.now c.args.place c.requires)
-    (kept_in_all c.args.self.now c.kept-kept.result.now (units c.args.self.now.variables c.args.self.now.variables) c.args.place c.index-kept-place.result
-    c.kept-kept.ensures.value (omega (arith, c.requires, c.kept-kept.ensures.front)) c.index-kept-place.is) h)
+    (small_at 500 (all_rows c.args.self.now) (all_rows c.args.self.now) c.args.index c.index-kept-index.result refl
+    (in_all c.args.self.now c.args.index c.requires)
+    (kept_in_all c.args.self.now c.kept-kept.result.now (units c.args.self.now.variables c.args.self.now.variables) c.args.index c.index-kept-index.result
+    c.kept-kept.ensures.value (omega (arith, c.requires, c.kept-kept.ensures.front)) c.index-kept-index.is) h)
 
 pub returns-clause-yes : goal.returns-clause-yes
 returns-clause-yes c = system_for (λ n rows a. IfOk c.solution_at.result (λ o. IfSome o (IsSolution n rows (a ∷ [])))) _ _ _ _ _ _
     (ap (λ (z : ConeRows). z.variables) c.self.view_is)
-    (given_rows_are c.args.self.now c.args.place c.self.inside.variables c.kept-kept.result.now c.as_slice.result.now c.in_ok-rows.rows.items
+    (given_rows_are c.args.self.now c.args.index c.self.inside.variables c.kept-kept.result.now c.as_slice.result.now c.in_ok-rows.rows.items
     c.in_ok-list.list.items c.as_slice.ensures.value c.in_ok-rows.ensures c.in_ok-list.ensures c.kept-kept.ensures.value
     (ap (λ (z : ConeRows). z.variables) c.self.view_is) c.requires
     (omega (arith, c.requires, c.kept-kept.ensures.front)))
-    (row_read c.args.self.now c.kept-kept.result.now (units c.args.self.now.variables c.args.self.now.variables) c.args.place c.index-kept-place.result
-    c.requires c.kept-kept.ensures.value (omega (arith, c.requires, c.kept-kept.ensures.front)) c.index-kept-place.is)
+    (row_read c.args.self.now c.kept-kept.result.now (units c.args.self.now.variables c.args.self.now.variables) c.args.index c.index-kept-index.result
+    c.requires c.kept-kept.ensures.value (omega (arith, c.requires, c.kept-kept.ensures.front)) c.index-kept-index.is)
     c.solution_at.ensures.yes
 
 pub returns-clause-no : goal.returns-clause-no
 returns-clause-no c = system_for (λ n rows a. IfOk c.solution_at.result (λ o. IsNone o → IsSolvable n rows (a ∷ []) → ⊥)) _ _ _ _ _ _
     (ap (λ (z : ConeRows). z.variables) c.self.view_is)
-    (given_rows_are c.args.self.now c.args.place c.self.inside.variables c.kept-kept.result.now c.as_slice.result.now c.in_ok-rows.rows.items
+    (given_rows_are c.args.self.now c.args.index c.self.inside.variables c.kept-kept.result.now c.as_slice.result.now c.in_ok-rows.rows.items
     c.in_ok-list.list.items c.as_slice.ensures.value c.in_ok-rows.ensures c.in_ok-list.ensures c.kept-kept.ensures.value
     (ap (λ (z : ConeRows). z.variables) c.self.view_is) c.requires
     (omega (arith, c.requires, c.kept-kept.ensures.front)))
-    (row_read c.args.self.now c.kept-kept.result.now (units c.args.self.now.variables c.args.self.now.variables) c.args.place c.index-kept-place.result
-    c.requires c.kept-kept.ensures.value (omega (arith, c.requires, c.kept-kept.ensures.front)) c.index-kept-place.is)
+    (row_read c.args.self.now c.kept-kept.result.now (units c.args.self.now.variables c.args.self.now.variables) c.args.index c.index-kept-index.result
+    c.requires c.kept-kept.ensures.value (omega (arith, c.requires, c.kept-kept.ensures.front)) c.index-kept-index.is)
     c.solution_at.ensures.no
 
 pub returns-clause-err : goal.returns-clause-err
 returns-clause-err c = system_for (λ n rows a. IfErr c.solution_at.result (Failed (IsNormalStep n rows a))) _ _ _ _ _ _
     (ap (λ (z : ConeRows). z.variables) c.self.view_is)
-    (given_rows_are c.args.self.now c.args.place c.self.inside.variables c.kept-kept.result.now c.as_slice.result.now c.in_ok-rows.rows.items
+    (given_rows_are c.args.self.now c.args.index c.self.inside.variables c.kept-kept.result.now c.as_slice.result.now c.in_ok-rows.rows.items
     c.in_ok-list.list.items c.as_slice.ensures.value c.in_ok-rows.ensures c.in_ok-list.ensures c.kept-kept.ensures.value
     (ap (λ (z : ConeRows). z.variables) c.self.view_is) c.requires
     (omega (arith, c.requires, c.kept-kept.ensures.front)))
-    (row_read c.args.self.now c.kept-kept.result.now (units c.args.self.now.variables c.args.self.now.variables) c.args.place c.index-kept-place.result
-    c.requires c.kept-kept.ensures.value (omega (arith, c.requires, c.kept-kept.ensures.front)) c.index-kept-place.is)
+    (row_read c.args.self.now c.kept-kept.result.now (units c.args.self.now.variables c.args.self.now.variables) c.args.index c.index-kept-index.result
+    c.requires c.kept-kept.ensures.value (omega (arith, c.requires, c.kept-kept.ensures.front)) c.index-kept-index.is)
     c.solution_at.ensures.err

@@ -10,43 +10,43 @@ use Rattle.gf_cone.proofs.AnswerLaws.{facet_told, kept_wide, positive_for, answe
 use Rattle.gf_cone.proofs.cone.Cone.facet.Goals as goal
 
 pub solved-requires-clause-positive : goal.solved-requires-clause-positive
-solved-requires-clause-positive c = positive_for (others_of c.args.place c.args.self.now.normals) c.as_slice.result.now (normal_at c.args.self.now c.args.place)
-    c.index-normals-place.result
-    (c.as_slice.ensures.value ∙ c.in_ok-rows.ensures ∙ ap (others_of c.args.place) c.normals-normals.ensures.value)
-    (normal_read c.args.self.now.normals c.normals-normals.result.now c.args.place c.index-normals-place.result c.requires.place c.normals-normals.ensures.value
-    c.index-normals-place.is)
-    (interior_of_normals c.args.self.now c.args.place c.requires.place c.requires.interior)
+solved-requires-clause-positive c = positive_for (others_of c.args.index c.args.self.now.normals) c.as_slice.result.now (normal_at c.args.self.now c.args.index)
+    c.index-normals-index.result
+    (c.as_slice.ensures.value ∙ c.in_ok-rows.ensures ∙ ap (others_of c.args.index) c.normals-normals.ensures.value)
+    (normal_read c.args.self.now.normals c.normals-normals.result.now c.args.index c.index-normals-index.result c.requires.index c.normals-normals.ensures.value
+    c.index-normals-index.is)
+    (interior_of_normals c.args.self.now c.args.index c.requires.index c.requires.interior)
 
 pub returns-in-Yes-clause-told : goal.returns-in-Yes-clause-told
-returns-in-Yes-clause-told c = facet_told c.args.self.now c.args.place c.requires.place
+returns-in-Yes-clause-told c = facet_told c.args.self.now c.args.index c.requires.index
     (kept_wide c.args.self.now c.self.inside.variables c.self.inside.count c.self.inside.vectors.items (sym c.self.view_is) c.self.invariant)
     c.requires.interior (Facet c.in-Yes.witness)
-    (answer_for c.args.self.now.variables c.self.inside.variables (others_of c.args.place c.args.self.now.normals) c.as_slice.result.now
-    (normal_at c.args.self.now c.args.place) c.index-normals-place.result (Yes c.in-Yes.witness)
+    (answer_for c.args.self.now.variables c.self.inside.variables (others_of c.args.index c.args.self.now.normals) c.as_slice.result.now
+    (normal_at c.args.self.now c.args.index) c.index-normals-index.result (Yes c.in-Yes.witness)
     (ap (λ (z : ConeRows). z.variables) c.self.view_is)
-    (c.as_slice.ensures.value ∙ c.in_ok-rows.ensures ∙ ap (others_of c.args.place) c.normals-normals.ensures.value)
-    (normal_read c.args.self.now.normals c.normals-normals.result.now c.args.place c.index-normals-place.result c.requires.place c.normals-normals.ensures.value
-    c.index-normals-place.is)
-    (subst (AnswersSystem c.self.inside.variables c.as_slice.result.now c.index-normals-place.result) c.in-Yes.is c.in_ok-witness.ensures.ok))
+    (c.as_slice.ensures.value ∙ c.in_ok-rows.ensures ∙ ap (others_of c.args.index) c.normals-normals.ensures.value)
+    (normal_read c.args.self.now.normals c.normals-normals.result.now c.args.index c.index-normals-index.result c.requires.index c.normals-normals.ensures.value
+    c.index-normals-index.is)
+    (subst (AnswersSystem c.self.inside.variables c.as_slice.result.now c.index-normals-index.result) c.in-Yes.is c.in_ok-witness.ensures.ok))
 
 pub returns-clause-told : goal.returns-clause-told
-returns-clause-told c = facet_told c.args.self.now c.args.place c.requires.place
+returns-clause-told c = facet_told c.args.self.now c.args.index c.requires.index
     (kept_wide c.args.self.now c.self.inside.variables c.self.inside.count c.self.inside.vectors.items (sym c.self.view_is) c.self.invariant)
     c.requires.interior (Redundant c.in-No.times c.in-No.multipliers)
-    (answer_for c.args.self.now.variables c.self.inside.variables (others_of c.args.place c.args.self.now.normals) c.as_slice.result.now
-    (normal_at c.args.self.now c.args.place) c.index-normals-place.result (No c.in-No.times c.in-No.multipliers)
+    (answer_for c.args.self.now.variables c.self.inside.variables (others_of c.args.index c.args.self.now.normals) c.as_slice.result.now
+    (normal_at c.args.self.now c.args.index) c.index-normals-index.result (No c.in-No.times c.in-No.multipliers)
     (ap (λ (z : ConeRows). z.variables) c.self.view_is)
-    (c.as_slice.ensures.value ∙ c.in_ok-rows.ensures ∙ ap (others_of c.args.place) c.normals-normals.ensures.value)
-    (normal_read c.args.self.now.normals c.normals-normals.result.now c.args.place c.index-normals-place.result c.requires.place c.normals-normals.ensures.value
-    c.index-normals-place.is)
-    (subst (AnswersSystem c.self.inside.variables c.as_slice.result.now c.index-normals-place.result) c.in-No.is c.in_ok-witness.ensures.ok))
+    (c.as_slice.ensures.value ∙ c.in_ok-rows.ensures ∙ ap (others_of c.args.index) c.normals-normals.ensures.value)
+    (normal_read c.args.self.now.normals c.normals-normals.result.now c.args.index c.index-normals-index.result c.requires.index c.normals-normals.ensures.value
+    c.index-normals-index.is)
+    (subst (AnswersSystem c.self.inside.variables c.as_slice.result.now c.index-normals-index.result) c.in-No.is c.in_ok-witness.ensures.ok))
 
 pub returns-in_err-witness-clause-three_columns : goal.returns-in_err-witness-clause-three_columns
 returns-in_err-witness-clause-three_columns c = λ v h.
     let p = err_from_is_err_and c.from_residual-in_err-witness.result c.from_residual-in_err-witness.ensures.1 in
     rw (p.1, p.2) (c.in_err-witness.ensures.three_columns
     (subst (λ (m : ℕ). m ≤ 3) (sym (ap (λ (z : ConeRows). z.variables) c.self.view_is)) v)
-    (subst (HaveEntriesUpTo 500) (sym (c.as_slice.ensures.value ∙ c.in_ok-rows.ensures ∙ ap (others_of c.args.place) c.normals-normals.ensures.value))
-    (small_others 500 c.args.place c.args.self.now.normals h))
-    (small_at 500 c.args.self.now.normals c.normals-normals.result.now c.args.place c.index-normals-place.result c.normals-normals.ensures.value
-    c.requires.place c.index-normals-place.is h))
+    (subst (HaveEntriesUpTo 500) (sym (c.as_slice.ensures.value ∙ c.in_ok-rows.ensures ∙ ap (others_of c.args.index) c.normals-normals.ensures.value))
+    (small_others 500 c.args.index c.args.self.now.normals h))
+    (small_at 500 c.args.self.now.normals c.normals-normals.result.now c.args.index c.index-normals-index.result c.normals-normals.ensures.value
+    c.requires.index c.index-normals-index.is h))

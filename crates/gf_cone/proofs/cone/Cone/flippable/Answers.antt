@@ -13,42 +13,42 @@ solved-requires-clause-widths c =
     let k = c.args.region.now in
     let d = c.args.self.now in
     let vars = ap (λ (z : ConeRows). z.variables) c.self.view_is in
-    let e = system_rows k d c.args.place c.self.inside.variables c.as_slice.result.now c.in_ok-rows.rows.items c.in_ok-more.more.items c.in_ok-list.list.items
+    let e = system_rows k d c.args.index c.self.inside.variables c.as_slice.result.now c.in_ok-rows.rows.items c.in_ok-more.more.items c.in_ok-list.list.items
     c.normals-normals.result.now c.rows.result.now
     c.as_slice.ensures.value c.in_ok-rows.ensures c.in_ok-more.ensures c.in_ok-list.ensures c.normals-normals.ensures.value vars c.rows.ensures.value in
     let w = region_wide k d (subst (AreRows d.variables) c.normals-normals.ensures.value c.normals-normals.ensures.widths)
     (subst (λ (m : ℕ). AreRows m k.rows) c.requires.width (subst (AreRows (length k.root)) c.rows.ensures.value c.rows.ensures.widths)) in
-    subst (λ (m : ℕ). AreRows m c.as_slice.result.now) (sym vars) (subst (AreRows d.variables) (sym e) (others_of_region k d c.args.place c.requires.place w))
+    subst (λ (m : ℕ). AreRows m c.as_slice.result.now) (sym vars) (subst (AreRows d.variables) (sym e) (others_of_region k d c.args.index c.requires.index w))
 
 pub solved-requires-clause-positive : goal.solved-requires-clause-positive
 solved-requires-clause-positive c =
     let k = c.args.region.now in
     let d = c.args.self.now in
     let vars = ap (λ (z : ConeRows). z.variables) c.self.view_is in
-    let e = system_rows k d c.args.place c.self.inside.variables c.as_slice.result.now c.in_ok-rows.rows.items c.in_ok-more.more.items c.in_ok-list.list.items
+    let e = system_rows k d c.args.index c.self.inside.variables c.as_slice.result.now c.in_ok-rows.rows.items c.in_ok-more.more.items c.in_ok-list.list.items
     c.normals-normals.result.now c.rows.result.now
     c.as_slice.ensures.value c.in_ok-rows.ensures c.in_ok-more.ensures c.in_ok-list.ensures c.normals-normals.ensures.value vars c.rows.ensures.value in
-    positive_for (other_rows (in_region k d) c.args.place) c.as_slice.result.now (normal_at d c.args.place) c.index-normals-place.result e
-    (normal_read d.normals c.normals-normals.result.now c.args.place c.index-normals-place.result c.requires.place c.normals-normals.ensures.value
-    c.index-normals-place.is)
-    (interior_of_others (in_region k d) c.args.place c.requires.place c.requires.interior)
+    positive_for (other_rows (in_region k d) c.args.index) c.as_slice.result.now (normal_at d c.args.index) c.index-normals-index.result e
+    (normal_read d.normals c.normals-normals.result.now c.args.index c.index-normals-index.result c.requires.index c.normals-normals.ensures.value
+    c.index-normals-index.is)
+    (interior_of_others (in_region k d) c.args.index c.requires.index c.requires.interior)
 
 pub returns-clause-told : goal.returns-clause-told
 returns-clause-told c =
     let k = c.args.region.now in
     let d = c.args.self.now in
     let vars = ap (λ (z : ConeRows). z.variables) c.self.view_is in
-    let e = system_rows k d c.args.place c.self.inside.variables c.as_slice.result.now c.in_ok-rows.rows.items c.in_ok-more.more.items c.in_ok-list.list.items
+    let e = system_rows k d c.args.index c.self.inside.variables c.as_slice.result.now c.in_ok-rows.rows.items c.in_ok-more.more.items c.in_ok-list.list.items
     c.normals-normals.result.now c.rows.result.now
     c.as_slice.ensures.value c.in_ok-rows.ensures c.in_ok-more.ensures c.in_ok-list.ensures c.normals-normals.ensures.value vars c.rows.ensures.value in
     let w = region_wide k d (subst (AreRows d.variables) c.normals-normals.ensures.value c.normals-normals.ensures.widths)
     (subst (λ (m : ℕ). AreRows m k.rows) c.requires.width (subst (AreRows (length k.root)) c.rows.ensures.value c.rows.ensures.widths)) in
-    let n = normal_read d.normals c.normals-normals.result.now c.args.place c.index-normals-place.result c.requires.place c.normals-normals.ensures.value
-    c.index-normals-place.is in
-    IfOk-weaker (AnswersSystem c.self.inside.variables c.as_slice.result.now c.index-normals-place.result) (IsFlipToldIn k d c.args.place) c.solved.result
-    (λ answer h. flip_told_in k d c.args.place c.requires.place w c.requires.interior answer
-    (answer_for d.variables c.self.inside.variables (other_rows (in_region k d) c.args.place) c.as_slice.result.now (normal_at d c.args.place)
-    c.index-normals-place.result answer vars e n h))
+    let n = normal_read d.normals c.normals-normals.result.now c.args.index c.index-normals-index.result c.requires.index c.normals-normals.ensures.value
+    c.index-normals-index.is in
+    IfOk-weaker (AnswersSystem c.self.inside.variables c.as_slice.result.now c.index-normals-index.result) (IsFlipToldIn k d c.args.index) c.solved.result
+    (λ answer h. flip_told_in k d c.args.index c.requires.index w c.requires.interior answer
+    (answer_for d.variables c.self.inside.variables (other_rows (in_region k d) c.args.index) c.as_slice.result.now (normal_at d c.args.index)
+    c.index-normals-index.result answer vars e n h))
     c.solved.ensures.ok
 
 pub returns-clause-three_columns : goal.returns-clause-three_columns
@@ -56,23 +56,23 @@ returns-clause-three_columns c = λ v h.
     let k = c.args.region.now in
     let d = c.args.self.now in
     let vars = ap (λ (z : ConeRows). z.variables) c.self.view_is in
-    let e = system_rows k d c.args.place c.self.inside.variables c.as_slice.result.now c.in_ok-rows.rows.items c.in_ok-more.more.items c.in_ok-list.list.items
+    let e = system_rows k d c.args.index c.self.inside.variables c.as_slice.result.now c.in_ok-rows.rows.items c.in_ok-more.more.items c.in_ok-list.list.items
     c.normals-normals.result.now c.rows.result.now
     c.as_slice.ensures.value c.in_ok-rows.ensures c.in_ok-more.ensures c.in_ok-list.ensures c.normals-normals.ensures.value vars c.rows.ensures.value in
-    let n = normal_read d.normals c.normals-normals.result.now c.args.place c.index-normals-place.result c.requires.place c.normals-normals.ensures.value
-    c.index-normals-place.is in
+    let n = normal_read d.normals c.normals-normals.result.now c.args.index c.index-normals-index.result c.requires.index c.normals-normals.ensures.value
+    c.index-normals-index.is in
     c.solved.ensures.three_columns (subst (λ (m : ℕ). m ≤ 3) (sym vars) v)
-    (subst (HaveEntriesUpTo 500) (sym e) (small_system 500 k d c.args.place c.requires.place h))
-    (small_normal 500 k d c.args.place c.index-normals-place.result c.requires.place n h)
+    (subst (HaveEntriesUpTo 500) (sym e) (small_system 500 k d c.args.index c.requires.index h))
+    (small_normal 500 k d c.args.index c.index-normals-index.result c.requires.index n h)
 
 pub returns-clause-err : goal.returns-clause-err
 returns-clause-err c =
     let k = c.args.region.now in
     let d = c.args.self.now in
     let vars = ap (λ (z : ConeRows). z.variables) c.self.view_is in
-    let e = system_rows k d c.args.place c.self.inside.variables c.as_slice.result.now c.in_ok-rows.rows.items c.in_ok-more.more.items c.in_ok-list.list.items
+    let e = system_rows k d c.args.index c.self.inside.variables c.as_slice.result.now c.in_ok-rows.rows.items c.in_ok-more.more.items c.in_ok-list.list.items
     c.normals-normals.result.now c.rows.result.now
     c.as_slice.ensures.value c.in_ok-rows.ensures c.in_ok-more.ensures c.in_ok-list.ensures c.normals-normals.ensures.value vars c.rows.ensures.value in
-    let n = normal_read d.normals c.normals-normals.result.now c.args.place c.index-normals-place.result c.requires.place c.normals-normals.ensures.value
-    c.index-normals-place.is in
+    let n = normal_read d.normals c.normals-normals.result.now c.args.index c.index-normals-index.result c.requires.index c.normals-normals.ensures.value
+    c.index-normals-index.is in
     system_for (λ n rows a. IfErr c.solved.result (Failed (IsNormalStep n rows a))) _ _ _ _ _ _ vars e n c.solved.ensures.err

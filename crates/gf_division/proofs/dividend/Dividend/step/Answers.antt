@@ -71,7 +71,7 @@ returns-clause-step c =
     let q = c.quotient-quotient.ensures in
     let e = c.terms-terms.ensures.value ∙ c.poly.ensures in
     step_taken c.args.by.now (split_of c.args.self.now) (split_of c.ascend.new.self) (split_of c.subtract.new.self) (split_of c.rise.new.self)
-    c.quotient-quotient.result c.terms-terms.result.now c.len-place.result e c.requires.divides (shared_sound c.args.by.now (split_of c.args.self.now)
+    c.quotient-quotient.result c.terms-terms.result.now c.len-index.result e c.requires.divides (shared_sound c.args.by.now (split_of c.args.self.now)
     c.requires.variables c.head.ensures.marked) (q.variables ∙ ap length c.head.ensures.value) q.coefficient q.nonzero
     (ap (plus c.quotient-quotient.result.mono) (sym c.head.ensures.value) ∙ q.product) c.in_ok-ascend.ensures.moves (omega arith)
-    c.in_ok-subtract.ensures.ok c.in_ok-rise.ensures.moves c.in_ok-rise.ensures.place
+    c.in_ok-subtract.ensures.ok c.in_ok-rise.ensures.moves c.in_ok-rise.ensures.index

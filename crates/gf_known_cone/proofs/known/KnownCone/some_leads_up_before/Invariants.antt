@@ -2,9 +2,9 @@ use Rattle.std.proofs.Common.{◌≡◌, ◌≤◌, ◌<◌, ℕ, length}
 use Rattle.gf_known_cone.specs.Ways.{LeadsUpAt}
 use Rattle.gf_known_cone.proofs.known.KnownCone.some_leads_up_before.Given as goal
 
-abbrev pub invariant-loop-place : goal.invariant-loop-place
-invariant-loop-place l = record {
+abbrev pub invariant-loop-index : goal.invariant-loop-index
+invariant-loop-index l = record {
   same : l.self ≡ l.initial.self;
   inside : l.end ≤ length l.self.normals;
-  none : (j : ℕ) → j < l.place → LeadsUpAt l.region.root l.self j → ⊥;
+  none : (j : ℕ) → j < l.index → LeadsUpAt l.region.root l.self j → ⊥;
 }

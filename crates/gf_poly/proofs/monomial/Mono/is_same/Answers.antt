@@ -5,7 +5,7 @@ use Rattle.gf_poly.proofs.monomial.Mono.is_same.Goals as goal
 
 pub returns : goal.returns
 returns c =
-    let p = placed-same c.args.self.now c.args.other.now c.places.result.now c.places-2.result.now c.requires c.places.ensures c.places-2.ensures in
+    let p = placed-same c.args.self.now c.args.other.now c.indices.result.now c.indices-2.result.now c.requires c.indices.ensures c.indices-2.ensures in
     (λ t. p.0 (c.are_same.ensures.0 t), λ q. c.are_same.ensures.1 (p.1 q))
 
 pub returns-then-word : goal.returns-then-word

@@ -6,34 +6,34 @@ use Rattle.gf_poly.proofs.PlacedLaws.{placed-front, placed_by_front, placed-limi
 use Rattle.gf_poly.proofs.WordLaws.{word-join}
 use Rattle.gf_poly.proofs.monomial.Mono.lcm.Goals as goal
 
--- the first places of the greater ones
-front : (x y places others : Exponents) (n : ℕ) → length x ≡ length y → n ≡ length x → IsPlaced x places → IsPlaced y others →
-    take n (join places others) ≡ join x y
-front x y places others n e m h k = placed-front (join x y) (join places others) n (m ∙ sym (length-join x y e)) (placed-join x y places others e h k)
+-- the first indices of the greater ones
+front : (x y indices others : Exponents) (n : ℕ) → length x ≡ length y → n ≡ length x → IsPlaced x indices → IsPlaced y others →
+    take n (join indices others) ≡ join x y
+front x y indices others n e m h k = placed-front (join x y) (join indices others) n (m ∙ sym (length-join x y e)) (placed-join x y indices others e h k)
 
 pub total_of-total-requires-clause-limit : goal.total_of-total-requires-clause-limit
 total_of-total-requires-clause-limit c = rw (
   c.maxima-all.ensures,
-  front c.args.self.now c.args.other.now c.places.result.now c.places-2.result.now _ c.requires
-      c.variables-n.ensures c.places.ensures c.places-2.ensures,
+  front c.args.self.now c.args.other.now c.indices.result.now c.indices-2.result.now _ c.requires
+      c.variables-n.ensures c.indices.ensures c.indices-2.ensures,
 ) (placed-limit (join c.args.self.now c.args.other.now)
-    (join c.places.result.now c.places-2.result.now) (placed-join c.args.self.now c.args.other.now c.places.result.now c.places-2.result.now c.requires
-    c.places.ensures c.places-2.ensures))
+    (join c.indices.result.now c.indices-2.result.now) (placed-join c.args.self.now c.args.other.now c.indices.result.now c.indices-2.result.now c.requires
+    c.indices.ensures c.indices-2.ensures))
 
 pub known-requires-clause-placed : goal.known-requires-clause-placed
 known-requires-clause-placed c = rw c.maxima-all.ensures (placed_by_front (join c.args.self.now c.args.other.now)
-    (join c.places.result.now c.places-2.result.now) _ (c.variables-n.ensures ∙ sym (length-join c.args.self.now c.args.other.now c.requires))
-    (placed-join c.args.self.now c.args.other.now c.places.result.now c.places-2.result.now c.requires c.places.ensures c.places-2.ensures))
+    (join c.indices.result.now c.indices-2.result.now) _ (c.variables-n.ensures ∙ sym (length-join c.args.self.now c.args.other.now c.requires))
+    (placed-join c.args.self.now c.args.other.now c.indices.result.now c.indices-2.result.now c.requires c.indices.ensures c.indices-2.ensures))
 
 pub known-requires-clause-word : goal.known-requires-clause-word
 known-requires-clause-word c = rw (
   c.maxima-all.ensures,
-  front c.args.self.now c.args.other.now c.places.result.now c.places-2.result.now _ c.requires
-      c.variables-n.ensures c.places.ensures c.places-2.ensures,
+  front c.args.self.now c.args.other.now c.indices.result.now c.indices-2.result.now _ c.requires
+      c.variables-n.ensures c.indices.ensures c.indices-2.ensures,
 ) (word-join c.args.self.now c.args.other.now c.self.inside.word c.other.inside.word
     (subst (λ x. IsWordOf x c.self.inside.word) c.self.view_is c.self.invariant.occurring)
     (subst (λ x. IsWordOf x c.other.inside.word) c.other.view_is c.other.invariant.occurring))
 
 pub returns : goal.returns
-returns c = c.known.ensures ∙ rw c.maxima-all.ensures (front c.args.self.now c.args.other.now c.places.result.now c.places-2.result.now _ c.requires
-    c.variables-n.ensures c.places.ensures c.places-2.ensures)
+returns c = c.known.ensures ∙ rw c.maxima-all.ensures (front c.args.self.now c.args.other.now c.indices.result.now c.indices-2.result.now _ c.requires
+    c.variables-n.ensures c.indices.ensures c.indices-2.ensures)

@@ -9,8 +9,8 @@ use Rattle.gf_rays.specs.Further.{IsFurtherStep}
 use Rattle.gf_rays.proofs.FurtherLaws.{start_of, wide_with, moved, taking_step, ending_step}
 use Rattle.gf_rays.proofs.rays.Rays.taken_further.Goals as goal
 
-pub further-requires-clause-place : goal.further-requires-clause-place
-further-requires-clause-place c =
+pub further-requires-clause-index : goal.further-requires-clause-index
+further-requires-clause-index c =
     let s : RowsAndRays = c.args.self.now in
     let er : c.in_ok-all.all.items ≡ s.inequalities ++ c.args.more.now =
     c.in_ok-all.ensures ∙ ap (λ (z : List (List ℤ)). z ++ c.args.more.now) (c.in_ok-copied.ensures ∙ c.as_slice.ensures ∙

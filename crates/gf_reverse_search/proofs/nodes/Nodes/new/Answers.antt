@@ -1,5 +1,5 @@
 use Rattle.std.proofs.Common.{inr, refl, subst}
-use Rattle.gf_reverse_search.specs.Place.{IsBelowSomeTop}
+use Rattle.gf_reverse_search.specs.Standing.{IsBelowSomeTop}
 use Rattle.gf_reverse_search.proofs.NodesLaws.{bounded}
 use Rattle.gf_reverse_search.proofs.nodes.Nodes.new.Goals as goal
 

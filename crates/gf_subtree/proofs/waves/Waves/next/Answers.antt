@@ -4,7 +4,7 @@ use Rattle.gf_reverse_search.specs.Listing.{IsLeftAt, IsFirstOf}
 use Rattle.gf_reverse_search.specs.Pieces.{PiecesLeave}
 use Rattle.gf_waves.specs.Wave.{IsCall}
 use Rattle.gf_facets_theory.specs.LexPositive.{IsBefore}
-use Rattle.gf_flip.specs.declared.error.TreeError.TheVariants.{Memory}
+use Rattle.gf_tree.specs.TreeError.TheVariants.{Memory}
 use Rattle.gf_reverse_theory.specs.Upward.{fan_of}
 use Rattle.gf_tree.specs.Refusals.{IsTreeRefusal}
 use Rattle.gf_subtree.specs.Rows.{Row, up_in, RefusesWalker, ideal_in, AreLeftIn}

@@ -14,7 +14,7 @@ pub returns-clause-call : goal.returns-clause-call
 returns-clause-call g c = rw (← c.self.view_is) (inl (c.work_off.new.row.items, c.in_default.ensures.worked, c.give.ensures.given))
 
 pub returns-clause-list : goal.returns-clause-list
-returns-clause-list g c = rw (← c.self.view_is) (λ nodes l. c.give.ensures.list c.self.inside.workers c.self.inside.jobs c.work_off.new.jobs
+returns-clause-list g c = rw (← c.self.view_is) (λ nodes l. c.give.ensures.list c.self.inside.workers c.self.inside.batches c.work_off.new.batches
     c.self.inside.row.items nodes c.in_default.ensures.worked l)
 
 -- want of memory may refuse any walker

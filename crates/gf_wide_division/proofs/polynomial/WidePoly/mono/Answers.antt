@@ -5,10 +5,10 @@ use Rattle.gf_wide_division.specs.declared.terms.WideTerm.{WideTerm}
 use Rattle.gf_wide_division.proofs.ValueLaws.{inside_there, head_value}
 use Rattle.gf_wide_division.proofs.polynomial.WidePoly.mono.Goals as goal
 
-pub bounds-terms-place : goal.bounds-terms-place
-bounds-terms-place c = inside_there c.terms-terms.result.now c.args.self.now c.args.place c.terms-terms.ensures.value c.requires
+pub bounds-terms-index : goal.bounds-terms-index
+bounds-terms-index c = inside_there c.terms-terms.result.now c.args.self.now c.args.index c.terms-terms.ensures.value c.requires
 
 pub returns : goal.returns
-returns c = ap (λ (t : WideTerm). t.mono) (sym c.index-terms-place.is) ∙ head_value c.terms-terms.result.now c.args.place c.index-terms-place.result
-    (inside_there c.terms-terms.result.now c.args.self.now c.args.place c.terms-terms.ensures.value c.requires) c.index-terms-place.is ∙
-    ap (λ (f : Terms). head_of f c.args.place) c.terms-terms.ensures.value
+returns c = ap (λ (t : WideTerm). t.mono) (sym c.index-terms-index.is) ∙ head_value c.terms-terms.result.now c.args.index c.index-terms-index.result
+    (inside_there c.terms-terms.result.now c.args.self.now c.args.index c.terms-terms.ensures.value c.requires) c.index-terms-index.is ∙
+    ap (λ (f : Terms). head_of f c.args.index) c.terms-terms.ensures.value

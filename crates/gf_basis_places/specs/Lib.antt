@@ -1,5 +1,0 @@
--- What the contracts of this crate cite.
-pub mod Crossable  -- the normals that a flip may cross, as a list
-pub mod Prompts  -- what is printed for a basis
-pub mod BasisRules  -- bases as places
-pub mod Walks  -- the bases to which lines lead, and what is printed on the way

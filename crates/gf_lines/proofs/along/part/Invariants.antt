@@ -1,7 +1,0 @@
-use Rattle.std.proofs.Common.{take}
-use Rattle.gf_lines.specs.Along.{IsSelected}
-use Rattle.gf_lines.proofs.AlongLaws.{IsTermAlong}
-use Rattle.gf_lines.proofs.along.part.Given as goal
-
-abbrev pub invariant-terms : goal.invariant-terms
-invariant-terms l = IsSelected (IsTermAlong l.normal l.head) (take l.i l.terms) l.kept.items

@@ -1,6 +1,0 @@
-use Rattle.std.proofs.Common.{◌≡◌, ℕ, ◌+◌, ◌<◌, ◌≤◌, length, get_or, ◌<ℤ◌}
-use Rattle.gf_lines.specs.declared.lines.Point.{Point}
-use Rattle.gf_lines.proofs.lines.place_for.Given as goal
-
-abbrev pub invariant-points : goal.invariant-points
-invariant-points l = (i : ℕ) (p : Point) → length l.work ≤ i + l.j → i < length l.work → p ≡ get_or l.work i p → p.k <ℤ l.k

@@ -1,6 +1,0 @@
-use Rattle.gf_small.proofs.MarksByWeightLaws.{Greatest}
-use Rattle.gf_small.proofs.marks.greatest_place.Given as goal
-
--- the greatest of the terms so far
-abbrev pub invariant-terms : goal.invariant-terms
-invariant-terms l = Greatest l.weight l.terms l.place l.greatest l.i

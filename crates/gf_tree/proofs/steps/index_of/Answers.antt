@@ -1,0 +1,36 @@
+use Rattle.std.proofs.Common.{arith}
+use Rattle.gf_tree.proofs.LabelLaws.{index_here, lower_through, higher_from, no_index}
+use Rattle.gf_tree.proofs.steps.index_of.Goals as goal
+
+pub indices-init : goal.indices-init
+indices-init c = record {
+  ordered = omega arith;
+  inside = omega arith;
+  lower = λ j s m. absurd (omega (arith, s));
+  higher = λ j s m. absurd (omega (arith, s, m));
+}
+
+pub returns-in-Equal : goal.returns-in-Equal
+returns-in-Equal c = index_here c.args.v.now c.index-list-middle.result c.args.list.now _ c.lex_cmp.result
+    (omega (arith, c.indices.invariant.inside, c.indices-test.true)) c.index-list-middle.is c.lex_cmp.ensures c.in-Equal.is
+
+pub indices-preserved-in-Less : goal.indices-preserved-in-Less
+indices-preserved-in-Less c = record {
+  ordered = omega (arith, c.indices.invariant.ordered, c.indices-test.true);
+  inside = c.indices.invariant.inside;
+  lower = lower_through c.args.v.now c.index-list-middle.result c.args.list.now _ c.lex_cmp.result c.requires
+      (omega (arith, c.indices.invariant.inside, c.indices-test.true)) c.index-list-middle.is c.lex_cmp.ensures c.in-Less.is;
+  higher = c.indices.invariant.higher;
+}
+
+pub indices-preserved : goal.indices-preserved
+indices-preserved c = record {
+  ordered = omega (arith, c.indices.invariant.ordered);
+  inside = omega (arith, c.indices.invariant.inside, c.indices.invariant.ordered);
+  lower = c.indices.invariant.lower;
+  higher = higher_from c.args.v.now c.index-list-middle.result c.args.list.now _ c.lex_cmp.result c.requires
+      (omega (arith, c.indices.invariant.inside, c.indices-test.true)) c.index-list-middle.is c.lex_cmp.ensures c.in-Greater.is;
+}
+
+pub returns : goal.returns
+returns c = no_index c.args.v.now c.args.list.now c.indices.low c.indices.high c.indices-test.false c.indices.invariant.lower c.indices.invariant.higher
