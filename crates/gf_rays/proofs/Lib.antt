@@ -11,6 +11,7 @@ mod StateLaws  -- what a state says of widths and flags
 mod StraightLaws  -- a vector straightened along one vector more
 mod StepLaws  -- the operations of one inequality
 mod FinishLaws  -- from the last state to the rays
+mod ProjectionLaws  -- a ray told by what the rows give on it is a straightened one
 pub mod ReachedLaws  -- what holds of the states that are reached
 pub mod ReachedSizes  -- how large the entries of reached states are
 pub mod RoomLaws  -- bounds with room for any equations and lineality space

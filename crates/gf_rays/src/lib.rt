@@ -21,6 +21,7 @@ mod numbers;
 mod part;
 mod parts;
 mod pick;
+mod project;
 mod prune;
 mod ray;
 mod rays;
